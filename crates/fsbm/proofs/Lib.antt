@@ -1,0 +1,3 @@
+pub mod AnswerCases
+pub mod ConfigCases
+pub mod MachineCases

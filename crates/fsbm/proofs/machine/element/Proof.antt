@@ -1,0 +1,26 @@
+use lib.ListN.{List·getD-eq-default}
+use mathlib.Core.Path.{sym}
+use borrow.Author.Needs.{needs}
+use Rattle.fsbm.proofs.machine.element.Statement.{statement}
+use Rattle.fsbm.proofs.machine.element.Tie as tie
+use Rattle.fsbm.proofs.machine.element.Reads as reads
+use Rattle.fsbm.proofs.machine.element.Lts as lts
+
+-- src/machine.rt:76:16
+mul-result : tie.Need-mul-result
+mul-result c = search needs
+
+-- src/machine.rt:76:16
+shared-slice-read-result : tie.Need-shared-slice-read-result
+shared-slice-read-result c = search needs
+
+-- src/machine.rt:76:9
+returns : tie.Need-returns
+returns c = search needs
+
+-- src/machine.rt:72:1
+returns-2 : tie.Need-returns-2
+returns-2 c = sym (List·getD-eq-default ((c .before .args .list) .now) 0 (c .if1 .left))
+
+pub element-spec : {M : Type 1} → statement M
+element-spec = tie.close (tie.spec mul-result shared-slice-read-result returns returns-2)

@@ -1,0 +1,17 @@
+use borrow.Author.Needs.{needs}
+use Rattle.fsbm.proofs.machine.is_buffering.Statement.{statement}
+use Rattle.fsbm.proofs.machine.is_buffering.Tie as tie
+use Rattle.fsbm.proofs.machine.is_buffering.Reads as reads
+use Rattle.fsbm.proofs.machine.is_buffering.Lts as lts
+use Rattle.fsbm.proofs.machine.mark.Reads as mark-reads
+
+-- src/machine.rt:52:5
+mark-requires : tie.Need-mark-requires
+mark-requires c κs = search needs
+
+-- src/machine.rt:49:1
+returns : tie.Need-returns
+returns c = simp (c .mark .ensures)
+
+pub is-buffering-spec : {M : Type 1} → statement M
+is-buffering-spec = tie.close (tie.spec mark-requires returns)

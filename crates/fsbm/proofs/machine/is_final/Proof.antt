@@ -1,0 +1,17 @@
+use borrow.Author.Needs.{needs}
+use Rattle.fsbm.proofs.machine.is_final.Statement.{statement}
+use Rattle.fsbm.proofs.machine.is_final.Tie as tie
+use Rattle.fsbm.proofs.machine.is_final.Reads as reads
+use Rattle.fsbm.proofs.machine.is_final.Lts as lts
+use Rattle.fsbm.proofs.machine.mark.Reads as mark-reads
+
+-- src/machine.rt:46:5
+mark-requires : tie.Need-mark-requires
+mark-requires c κs = search needs
+
+-- src/machine.rt:43:1
+returns : tie.Need-returns
+returns c = simp (c .mark .ensures)
+
+pub is-final-spec : {M : Type 1} → statement M
+is-final-spec = tie.close (tie.spec mark-requires returns)

@@ -1,0 +1,17 @@
+use borrow.Author.Needs.{needs}
+use Rattle.fsbm.proofs.machine.is_matching.Statement.{statement}
+use Rattle.fsbm.proofs.machine.is_matching.Tie as tie
+use Rattle.fsbm.proofs.machine.is_matching.Reads as reads
+use Rattle.fsbm.proofs.machine.is_matching.Lts as lts
+use Rattle.fsbm.proofs.machine.mark.Reads as mark-reads
+
+-- src/machine.rt:58:5
+mark-requires : tie.Need-mark-requires
+mark-requires c κs = search needs
+
+-- src/machine.rt:55:1
+returns : tie.Need-returns
+returns c = simp (c .mark .ensures)
+
+pub is-matching-spec : {M : Type 1} → statement M
+is-matching-spec = tie.close (tie.spec mark-requires returns)

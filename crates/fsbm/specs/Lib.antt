@@ -1,0 +1,5 @@
+pub mod Accepted
+pub mod Answers
+pub mod Machine
+pub mod Moves
+pub mod Published

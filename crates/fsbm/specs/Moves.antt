@@ -1,0 +1,119 @@
+-- How a run moves (document 01): one entry takes a configuration to the next, or is not allowed.
+--
+-- wellPlaced states n c   == c is a configuration that a move is allowed from, on a word of n letters
+-- readsLetter w p e x    == x is epsilon, or the letter of w at p, with p before e
+-- advanced p x           == the position after p once x is read
+-- move m list w c e      == the configuration after entry e, or c and "not allowed"
+-- acceptingFrom m list w c es == the entries es lead from c to an accepting configuration
+-- accepting m list w run == the written run accepts the word w
+use Prim.Native.Nat.{ℕ, _+_}
+use mathlib.Core.List.{List, [], _∷_}
+use mathlib.Core.Bool.{Bool, true, false, cond, not, _&&_, _||_}
+use lib.ListN.{length, getD}
+use lib.Dec.{leb, ltb, eqb}
+use Rattle.fsbm.specs.Machine.{initial, final, buffering, matching, bothMatching, transitionAt}
+use Rattle.fsbm.specs.declared.machine.Machine.{Machine}
+use Rattle.fsbm.specs.declared.machine.Transition.{Transition}
+use Rattle.fsbm.specs.declared.config.Config.{Config}
+use Rattle.fsbm.specs.declared.config.Move.{Move}
+use Rattle.fsbm.specs.declared.config.Mode.{Mode}
+use Rattle.fsbm.specs.declared.config.Mode.the-variants.{Normal, Buffering, Emptying}
+
+-- the entries that change the mode: begin storing, begin matching, back to normal
+abbrev pub beginBuffering : ℕ
+beginBuffering = 65533
+
+abbrev pub beginEmptying : ℕ
+beginEmptying = 65534
+
+abbrev pub backToNormal : ℕ
+backToNormal = 65535
+
+-- the buffer in each mode: empty in normal, ending at the position while storing
+abbrev pub bufferFits : Config → Mode → Bool
+bufferFits c Normal = eqb (c .start) (c .end)
+bufferFits c Buffering = eqb (c .end) (c .position)
+bufferFits c Emptying = true
+
+-- a position in the word, a state that is there, and a buffer that is a stretch of the word ending at or before the position
+unfoldable pub wellPlaced : ℕ → ℕ → Config → Bool
+wellPlaced states n c =
+    leb (c .position) n
+    && (ltb (c .state) states && (leb (c .start) (c .end) && (leb (c .end) (c .position) && bufferFits c (c .mode))))
+
+-- the next letter between p and e is x, or x is epsilon
+unfoldable pub readsLetter : List ℕ → ℕ → ℕ → ℕ → Bool
+readsLetter w p e x = eqb x 0 || (ltb p e && eqb (getD w p 0) x)
+
+abbrev pub advanced : ℕ → ℕ → ℕ
+advanced p x = cond (eqb x 0) p (p + 1)
+
+-- the next configuration where the test holds, else the old one and "not allowed"
+abbrev pub goes : Bool → Config → Config → Move
+goes ok next old = record { allowed = ok; config = cond ok next old }
+
+-- the three ways to take a transition from the configuration's state, by the mode
+unfoldable pub takes : List ℕ → List ℕ → Config → Transition → Mode → Move
+takes marks w c t Normal =
+    goes
+    (not (bothMatching marks t) && (not (buffering marks (t .from)) && readsLetter w (c .position) (length w) (t .letter)))
+    (record { position = advanced (c .position) (t .letter); state = t .to; mode = Normal; start = c .start; end = c .end })
+    c
+takes marks w c t Buffering =
+    goes
+    (not (bothMatching marks t) && (not (buffering marks (t .to)) && readsLetter w (c .position) (length w) (t .letter)))
+    (record { position = advanced (c .position) (t .letter); state = t .to; mode = Buffering; start = c .start; end = advanced (c .end) (t .letter) })
+    c
+takes marks w c t Emptying =
+    goes
+    (bothMatching marks t && (readsLetter w (c .position) (length w) (t .letter) && readsLetter w (c .start) (c .end) (t .letter)))
+    (record { position = advanced (c .position) (t .letter); state = t .to; mode = Emptying; start = advanced (c .start) (t .letter); end = c .end })
+    c
+
+-- the changes of mode, each at a state of its kind: normal begins storing with an empty buffer at the position, storing begins
+-- matching, matching with an empty buffer goes back to normal
+unfoldable pub changes : List ℕ → Config → ℕ → Mode → Move
+changes marks c e Normal =
+    goes (eqb e beginBuffering && (buffering marks (c .state) && eqb (c .start) (c .end)))
+    (record { position = c .position; state = c .state; mode = Buffering; start = c .position; end = c .position })
+    c
+changes marks c e Buffering =
+    goes (eqb e beginEmptying && matching marks (c .state))
+    (record { position = c .position; state = c .state; mode = Emptying; start = c .start; end = c .end })
+    c
+changes marks c e Emptying =
+    goes (eqb e backToNormal && (matching marks (c .state) && eqb (c .start) (c .end)))
+    (record { position = c .position; state = c .state; mode = Normal; start = c .start; end = c .end })
+    c
+
+-- one entry: a transition number whose transition leaves the configuration's state, or a change of mode
+unfoldable pub move : Machine → List ℕ → List ℕ → Config → ℕ → Move
+move m list w c e =
+    cond (wellPlaced (m .states) (length w) c)
+    (cond (ltb e (m .transitions))
+    (cond (eqb (transitionAt list e .from) (c .state)) (takes (m .marks) w c (transitionAt list e) (c .mode)) (goes false c c))
+    (changes (m .marks) c e (c .mode)))
+    (goes false c c)
+
+-- where a run starts and where it accepts
+abbrev pub startAt : ℕ → Config
+startAt q = record { position = 0; state = q; mode = Normal; start = 0; end = 0 }
+
+abbrev pub isNormal : Mode → Bool
+isNormal Normal = true
+isNormal Buffering = false
+isNormal Emptying = false
+
+-- a final state, normal, the buffer empty, the word of n letters read to its end
+unfoldable pub accepts : List ℕ → ℕ → Config → Bool
+accepts marks n c =
+    final marks (c .state) && (isNormal (c .mode) && (eqb (c .start) (c .end) && eqb (c .position) n))
+
+unfoldable pub acceptingFrom : Machine → List ℕ → List ℕ → Config → List ℕ → Bool
+acceptingFrom m list w c [] = accepts (m .marks) (length w) c
+acceptingFrom m list w c (e ∷ es) = move m list w c e .allowed && acceptingFrom m list w (move m list w c e .config) es
+
+-- a written run is the start state and then one entry a move
+unfoldable pub accepting : Machine → List ℕ → List ℕ → List ℕ → Bool
+accepting m list w [] = false
+accepting m list w (q ∷ es) = ltb q (m .states) && (initial (m .marks) q && acceptingFrom m list w (startAt q) es)

@@ -1,0 +1,357 @@
+// Configurations, and the move that one entry of a run makes.
+ghost use Prim.Native.Nat.{ℕ, _+_, _<_, _^_};
+ghost use mathlib.Core.Path.{_≡_};
+ghost use mathlib.Core.Bool.{true, false};
+ghost use lib.ListN.{length};
+ghost use Rattle.fsbm.specs.declared.machine.Machine.{Machine};
+ghost use Rattle.fsbm.specs.declared.config.Mode.the-variants.{Normal, Buffering, Emptying};
+ghost use Rattle.fsbm.specs.Answers.{stepAnswer};
+ghost use Rattle.fsbm.specs.Moves.{wellPlaced, bufferFits, readsLetter, advanced, goes, takes, changes, move, startAt, accepts};
+use crate::answer;
+use crate::answer::Refusal;
+use crate::answer::Stepped;
+use crate::machine;
+use crate::machine::Machine;
+use crate::machine::Transition;
+
+// The mode of a run: normal; buffering, which stores what it reads (document 01: storing); emptying, which matches what was
+// stored (document 01: matching).
+pub enum Mode {
+    Normal,
+    Buffering,
+    Emptying,
+}
+
+// A configuration of a run on a word. The buffer is the stretch of the word from start up to end.
+pub struct Config {
+    // How many letters are read (document 01: the place).
+    pub position: usize,
+    pub state: usize,
+    pub mode: Mode,
+    pub start: usize,
+    pub end: usize,
+}
+
+// What one entry of a run does to a configuration: the next one, or the same one where the move is not allowed.
+pub struct Move {
+    pub allowed: bool,
+    pub config: Config,
+}
+
+// Whether x is epsilon, or the letter of the word at p, with p before e.
+fn reads_letter(word: &[u8], p: usize, e: usize, x: u16) -> bool
+    ensures { λ r. ⌜ r ≡ readsLetter (now (word .entry)) p e x ⌝ }
+{
+    if x == 0 {
+        return true;
+    }
+    if e <= p {
+        return false;
+    }
+    if word.len() <= p {
+        return false;
+    }
+    word[p] as u16 == x
+}
+
+// The position after p once x is read.
+fn advance(p: usize, x: u16) -> usize
+    requires { ⌜ ((x ≡ 0 → ⊥) → p + 1 < 2 ^ 64) ⌝ }
+    ensures { λ r. ⌜ r ≡ advanced p x ⌝ }
+{
+    if x == 0 {
+        return p;
+    }
+    p + 1
+}
+
+impl Config {
+    // A run's first configuration, in state q.
+    pub fn start_at(q: usize) -> Config
+        ensures { λ r. ⌜ r ≡ startAt q ⌝ }
+    {
+        Config {
+            position: 0,
+            state: q,
+            mode: Mode::Normal,
+            start: 0,
+            end: 0,
+        }
+    }
+
+    // Whether a run on a word of n letters accepts here: final, normal, the buffer empty, the word read to its end.
+    pub fn is_accepting(self, marks: &[u8; 64], n: usize) -> bool
+        ensures { λ r. ⌜ r ≡ accepts (now (marks .entry)) n self ⌝ }
+    {
+        if !machine::is_final(marks, self.state) {
+            return false;
+        }
+        let mode = self.mode;
+        match mode {
+            Mode::Normal => {}
+            Mode::Buffering => return false,
+            Mode::Emptying => return false,
+        }
+        if self.start != self.end {
+            return false;
+        }
+        self.position == n
+    }
+
+    // Whether the buffer is what the mode asks: empty in normal mode, ending at the position in buffering mode.
+    fn buffer_fits(self) -> bool
+        ensures { λ r. ⌜ r ≡ bufferFits self (self .mode) ⌝ }
+    {
+        let mode = self.mode;
+        match mode {
+            Mode::Normal => self.start == self.end,
+            Mode::Buffering => self.end == self.position,
+            Mode::Emptying => true,
+        }
+    }
+
+    // Whether any move is allowed from here, on a word of n letters.
+    fn is_well_placed(self, states: usize, n: usize) -> bool
+        ensures { λ r. ⌜ r ≡ wellPlaced states n self ⌝ }
+    {
+        if n < self.position {
+            return false;
+        }
+        if states <= self.state {
+            return false;
+        }
+        if self.end < self.start {
+            return false;
+        }
+        if self.position < self.end {
+            return false;
+        }
+        self.buffer_fits()
+    }
+
+    // The move is not allowed: the configuration as it was.
+    fn stay(self) -> Move
+        ensures { λ r. ⌜ r ≡ goes false self self ⌝ }
+    {
+        Move {
+            allowed: false,
+            config: self,
+        }
+    }
+
+    // A transition from this state taken in normal mode.
+    fn take_normal(self, marks: &[u8; 64], word: &[u8], t: Transition) -> Move
+        ensures { λ r. ⌜ r ≡ takes (now (marks .entry)) (now (word .entry)) self t Normal ⌝ }
+    {
+        if machine::both_matching(marks, t) {
+            return self.stay();
+        }
+        if machine::is_buffering(marks, t.from as usize) {
+            return self.stay();
+        }
+        if !reads_letter(word, self.position, word.len(), t.letter) {
+            return self.stay();
+        }
+        Move {
+            allowed: true,
+            config: Config {
+                position: advance(self.position, t.letter),
+                state: t.to as usize,
+                mode: Mode::Normal,
+                start: self.start,
+                end: self.end,
+            },
+        }
+    }
+
+    // A transition from this state taken in buffering mode; the buffer ends at the position.
+    fn take_buffering(self, marks: &[u8; 64], word: &[u8], t: Transition) -> Move
+        requires { ⌜ self .end ≡ self .position ⌝ }
+        ensures { λ r. ⌜ r ≡ takes (now (marks .entry)) (now (word .entry)) self t Buffering ⌝ }
+    {
+        if machine::both_matching(marks, t) {
+            return self.stay();
+        }
+        if machine::is_buffering(marks, t.to as usize) {
+            return self.stay();
+        }
+        if !reads_letter(word, self.position, word.len(), t.letter) {
+            return self.stay();
+        }
+        let next = advance(self.position, t.letter);
+        Move {
+            allowed: true,
+            config: Config {
+                position: next,
+                state: t.to as usize,
+                mode: Mode::Buffering,
+                start: self.start,
+                end: next,
+            },
+        }
+    }
+
+    // A transition from this state taken in emptying mode.
+    fn take_emptying(self, marks: &[u8; 64], word: &[u8], t: Transition) -> Move
+        ensures { λ r. ⌜ r ≡ takes (now (marks .entry)) (now (word .entry)) self t Emptying ⌝ }
+    {
+        if !machine::both_matching(marks, t) {
+            return self.stay();
+        }
+        if !reads_letter(word, self.position, word.len(), t.letter) {
+            return self.stay();
+        }
+        if !reads_letter(word, self.start, self.end, t.letter) {
+            return self.stay();
+        }
+        Move {
+            allowed: true,
+            config: Config {
+                position: advance(self.position, t.letter),
+                state: t.to as usize,
+                mode: Mode::Emptying,
+                start: advance(self.start, t.letter),
+                end: self.end,
+            },
+        }
+    }
+
+    // A transition from this state, by the mode.
+    fn take(self, marks: &[u8; 64], word: &[u8], t: Transition) -> Move
+        requires { ⌜ bufferFits self (self .mode) ≡ true ⌝ }
+        ensures { λ r. ⌜ r ≡ takes (now (marks .entry)) (now (word .entry)) self t (self .mode) ⌝ }
+    {
+        let mode = self.mode;
+        match mode {
+            Mode::Normal => self.take_normal(marks, word, t),
+            Mode::Buffering => self.take_buffering(marks, word, t),
+            Mode::Emptying => self.take_emptying(marks, word, t),
+        }
+    }
+
+    // An entry that changes the mode.
+    fn change_mode(self, marks: &[u8; 64], entry: u16) -> Move
+        ensures { λ r. ⌜ r ≡ changes (now (marks .entry)) self entry (self .mode) ⌝ }
+    {
+        let mode = self.mode;
+        match mode {
+            Mode::Normal => self.begin_buffering(marks, entry),
+            Mode::Buffering => self.begin_emptying(marks, entry),
+            Mode::Emptying => self.back_to_normal(marks, entry),
+        }
+    }
+
+    fn begin_buffering(self, marks: &[u8; 64], entry: u16) -> Move
+        ensures { λ r. ⌜ r ≡ changes (now (marks .entry)) self entry Normal ⌝ }
+    {
+        if entry != 65533 {
+            return self.stay();
+        }
+        if !machine::is_buffering(marks, self.state) {
+            return self.stay();
+        }
+        if self.start != self.end {
+            return self.stay();
+        }
+        Move {
+            allowed: true,
+            config: Config {
+                position: self.position,
+                state: self.state,
+                mode: Mode::Buffering,
+                start: self.position,
+                end: self.position,
+            },
+        }
+    }
+
+    fn begin_emptying(self, marks: &[u8; 64], entry: u16) -> Move
+        ensures { λ r. ⌜ r ≡ changes (now (marks .entry)) self entry Buffering ⌝ }
+    {
+        if entry != 65534 {
+            return self.stay();
+        }
+        if !machine::is_matching(marks, self.state) {
+            return self.stay();
+        }
+        Move {
+            allowed: true,
+            config: Config {
+                position: self.position,
+                state: self.state,
+                mode: Mode::Emptying,
+                start: self.start,
+                end: self.end,
+            },
+        }
+    }
+
+    fn back_to_normal(self, marks: &[u8; 64], entry: u16) -> Move
+        ensures { λ r. ⌜ r ≡ changes (now (marks .entry)) self entry Emptying ⌝ }
+    {
+        if entry != 65535 {
+            return self.stay();
+        }
+        if !machine::is_matching(marks, self.state) {
+            return self.stay();
+        }
+        if self.start != self.end {
+            return self.stay();
+        }
+        Move {
+            allowed: true,
+            config: Config {
+                position: self.position,
+                state: self.state,
+                mode: Mode::Normal,
+                start: self.start,
+                end: self.end,
+            },
+        }
+    }
+
+    // One entry of a run, for every machine with these states, transitions and marks.
+    pub fn moved(
+        self,
+        states: usize,
+        transitions: usize,
+        marks: &[u8; 64],
+        list: &[u16],
+        word: &[u8],
+        entry: u16,
+    ) -> Move
+        ensures { λ r. ⌜ ((m : Machine) → m .states ≡ states → m .transitions ≡ transitions → m .marks ≡ now (marks .entry)
+            → r ≡ move m (now (list .entry)) (now (word .entry)) self entry) ⌝ }
+    {
+        if !self.is_well_placed(states, word.len()) {
+            return self.stay();
+        }
+        let k = entry as usize;
+        if transitions <= k {
+            return self.change_mode(marks, entry);
+        }
+        let t = machine::transition_at(list, k);
+        if t.from as usize != self.state {
+            return self.stay();
+        }
+        self.take(marks, word, t)
+    }
+
+    // The public call for one entry: the next configuration, or that the move is not allowed. It refuses 16 (the record and its
+    // list break the rules of a table), 9 (a word of more than 1,048,576 letters), 8 (a letter that is not there), in this order.
+    // Time: the table and the word, each once. Memory: none beside its arguments.
+    pub fn step(self, m: Machine, list: &[u16], word: &[u8], entry: u16) -> Stepped
+        ensures { λ r. ⌜ r ≡ stepAnswer m (now (list .entry)) (now (word .entry)) self entry ⌝ }
+    {
+        let number = answer::table_and_word(1048576, m, list, word);
+        if number != 0 {
+            return Stepped::Refused(Refusal { number, needed: 0 });
+        }
+        let v = self.moved(m.states, m.transitions, &m.marks, list, word, entry);
+        if v.allowed {
+            let next = v.config;
+            return Stepped::Moved(next);
+        }
+        Stepped::NotAllowed
+    }
+}

@@ -1,0 +1,63 @@
+// The run checker.
+ghost use mathlib.Core.Path.{_≡_};
+ghost use lib.ListN.{drop};
+ghost use Rattle.fsbm.specs.Moves.{acceptingFrom, accepting};
+ghost use Rattle.fsbm.specs.Answers.{checkAnswer};
+use crate::answer;
+use crate::answer::Checked;
+use crate::answer::Refusal;
+use crate::config::Config;
+use crate::machine;
+use crate::machine::Machine;
+
+// Whether the entries of a run after its first one lead from a configuration to an accepting one.
+fn accepts_from(m: Machine, list: &[u16], word: &[u8], first: Config, run: &[u16]) -> bool
+    ensures { λ r. ⌜ r ≡ acceptingFrom m (now (list .entry)) (now (word .entry)) first (drop 1 (now (run .entry))) ⌝ }
+{
+    let mut c = first;
+    let mut i: usize = 1;
+    while i < run.len() {
+        let v = c.moved(m.states, m.transitions, &m.marks, list, word, run[i]);
+        if !v.allowed {
+            return false;
+        }
+        let next = v.config;
+        c = next;
+        i += 1;
+    }
+    c.is_accepting(&m.marks, word.len())
+}
+
+// Whether a written run accepts a word.
+// Time: the run once.
+pub fn is_accepting_run(m: Machine, list: &[u16], word: &[u8], run: &[u16]) -> bool
+    ensures { λ r. ⌜ r ≡ accepting m (now (list .entry)) (now (word .entry)) (now (run .entry)) ⌝ }
+{
+    if run.len() == 0 {
+        return false;
+    }
+    let q = run[0] as usize;
+    if m.states <= q {
+        return false;
+    }
+    if !machine::is_initial(&m.marks, q) {
+        return false;
+    }
+    accepts_from(m, list, word, Config::start_at(q), run)
+}
+
+// The public call for a whole run: accepting or not. It refuses 16 (the record and its list break the rules of a table), 9 (a word
+// of more than 1,048,576 letters), 8 (a letter that is not there), in this order; no run is refused.
+// Time: the table, the word and the run, each once. Memory: none beside its arguments.
+pub fn check_run(m: Machine, list: &[u16], word: &[u8], run: &[u16]) -> Checked
+    ensures { λ r. ⌜ r ≡ checkAnswer m (now (list .entry)) (now (word .entry)) (now (run .entry)) ⌝ }
+{
+    let number = answer::table_and_word(1048576, m, list, word);
+    if number != 0 {
+        return Checked::Refused(Refusal { number, needed: 0 });
+    }
+    if is_accepting_run(m, list, word, run) {
+        return Checked::Accepting;
+    }
+    Checked::NotAccepting
+}

@@ -1,0 +1,5 @@
+pub mod Search
+pub mod Counting
+pub mod Paths
+pub mod Reach
+pub mod Cost

@@ -1,0 +1,400 @@
+-- The moves of document 01 and the published definition agree: move by move, and run by run.
+--
+-- published w c          == the published configuration of c: the rest of the word, the state, the buffer as a string, the mode
+-- MovesTo m list w c D   == some entry takes c to a configuration whose published one is D
+-- move-yields            == an allowed move is a published one
+-- move-placed            == an allowed move of a well-formed machine leads to a configuration that a move is allowed from
+-- yields-move            == a published move from such a configuration is the move of some entry
+-- run-path               == a published run is a path of some number of moves
+-- path-run               == such a path of n moves from a start to an end is an accepting run of n + 1 entries, each below 65536
+-- accepting-published    == a word with an accepting run is in the published language
+-- published-accepting    == a word in the published language of a well-formed machine has an accepting run of entries below 65536
+use Prim.Native.Nat.{ℕ, zero, suc, _-_, _≤_, _<_}
+use mathlib.Core.Path.{_≡_, refl, sym, ap, _∙_, subst, subst₂}
+use mathlib.Core.Bool.{Bool, true, false, cond, not, _&&_, false≢true}
+use mathlib.Core.List.{List, [], _∷_, _++_}
+use native.Mathlib.Omega.{arith}
+use lib.ListN.{length, drop, length-drop}
+use lib.Seq.{slice, slice-empty, drop-length}
+use lib.Dec.{ltb, eqb}
+use borrow.Author.Tests.{ltb-true, eqb-true, eq-eqb, lt-ltb, le-ltb}
+use Rattle.graphs.specs.Search.{AllBelow, none, more}
+use Rattle.graphs.specs.Search.Laws.{and-true, and-both-true}
+use Rattle.graphs.specs.Paths.{Path, here, step}
+use Rattle.fsbm.specs.Machine.{wellFormed, transitionAt, initial, final, buffering, matching, bothMatching}
+use Rattle.fsbm.specs.Moves.{wellPlaced, readsLetter, advanced, goes, takes, changes, move, startAt, isNormal, accepts, acceptingFrom, accepting, beginBuffering, beginEmptying, backToNormal}
+use Rattle.fsbm.specs.Published.{FSBM, Listed, fsbmOf, Configuration, config, symbol, Yields, normal, buffer, empty, begin-buffering, begin-emptying, back-to-normal, Run, done, InLanguage}
+use Rattle.fsbm.specs.declared.machine.Machine.{Machine}
+use Rattle.fsbm.specs.declared.machine.Transition.{Transition}
+use Rattle.fsbm.specs.declared.config.Config.{Config}
+use Rattle.fsbm.specs.declared.config.Move.{Move}
+use Rattle.fsbm.specs.declared.config.Mode.{Mode}
+use Rattle.fsbm.specs.declared.config.Mode.the-variants.{Normal, Buffering, Emptying}
+use Rattle.language.specs.Bools.{cond-elim, not-says, says-not, not-and-says, says-not-and}
+use Rattle.language.specs.Rules.{Rules, rules, Placed, placed, unplaced}
+use Rattle.language.specs.Strings.{reads-slice, slice-reads, reads-drop, drop-reads, slice-grows, advanced-fits, slice-none}
+
+abbrev pub published : List ℕ → Config → Configuration
+published w c = config (drop (c .position) w) (c .state) (slice (c .start) (c .end) w) (c .mode)
+
+same-config : {u u′ : List ℕ} {q q′ : ℕ} {v v′ : List ℕ} {t t′ : Mode} → u ≡ u′ → q ≡ q′ → v ≡ v′ → t ≡ t′ → config u q v t ≡ config u′ q′ v′ t′
+same-config a b c d = λ i. record { input = a i; state = b i; buffer = c i; mode = d i }
+
+-- From moves to the published definition
+
+-- what a move from c in mode t to c′ amounts to
+record Step (m : Machine) (list w : List ℕ) (c : Config) (t : Mode) (c′ : Config) : Type 0 where
+  yields : Yields (fsbmOf m list) (config (drop (c .position) w) (c .state) (slice (c .start) (c .end) w) t) (published w c′)
+  stays : Rules m list → Placed m w c′ (c′ .mode)
+
+-- a listed transition leads to a state that is there
+listed-to : {m : Machine} {list : List ℕ} {p x q : ℕ} → Rules m list → Listed list (m .transitions) p x q → q < m .states
+listed-to r d = let lt = r .to-below (d .number) (d .listed) in let e = d .to in omega arith
+
+module _ (m : Machine) (list w : List ℕ) where
+  goes-step : (c : Config) (t : Mode) (ok : Bool) (next : Config) → (ok ≡ true → Step m list w c t next) → ok ≡ true → Step m list w c t (cond ok next c)
+  goes-step c t true next h e = h e
+  goes-step c t false next h e = absurd (false≢true e)
+
+  takes-step : (c : Config) (tr : Transition) (t : Mode) → Placed m w c t → Listed list (m .transitions) (tr .from) (tr .letter) (tr .to) → tr .from ≡ c .state
+      → takes (m .marks) w c tr t .allowed ≡ true → Step m list w c t (takes (m .marks) w c tr t .config)
+  unfolding takes
+  takes-step c tr Normal p δ same = goes-step c Normal _ _ step
+    where
+      step : (not (bothMatching (m .marks) tr) && (not (buffering (m .marks) (tr .from)) && readsLetter w (c .position) (length w) (tr .letter))) ≡ true
+          → Step m list w c Normal (record { position = advanced (c .position) (tr .letter); state = tr .to; mode = Normal; start = c .start; end = c .end })
+      step h =
+          let (apart, r) = and-true (not (bothMatching (m .marks) tr)) (not (buffering (m .marks) (tr .from)) && readsLetter w (c .position) (length w) (tr .letter)) h in
+          let (not-from, reads) = and-true (not (buffering (m .marks) (tr .from))) (readsLetter w (c .position) (length w) (tr .letter)) r in
+          let none : slice (c .start) (c .end) w ≡ [] = ap (λ (n : ℕ). slice n (c .end) w) (eqb-true (c .start) (c .end) (p .fits)) ∙ slice-empty (c .end) w in
+          let (on, inside) = advanced-fits w (c .position) (length w) (tr .letter) (p .in-word) reads in
+          record {
+            yields = subst₂ (Yields (fsbmOf m list))
+                (same-config (sym (reads-drop w (c .position) (tr .letter) reads)) same (sym none) refl)
+                (same-config refl refl (sym none) refl)
+                (normal δ (not-and-says (matching (m .marks) (tr .from)) (matching (m .marks) (tr .to)) apart) (not-says (buffering (m .marks) (tr .from)) not-from));
+            stays = λ r. record {
+              in-word = inside;
+              state-below = listed-to r δ;
+              forward = p .forward;
+              behind = omega (arith, p .behind);
+              fits = p .fits;
+            };
+          }
+  takes-step c tr Buffering p δ same = goes-step c Buffering _ _ step
+    where
+      step : (not (bothMatching (m .marks) tr) && (not (buffering (m .marks) (tr .to)) && readsLetter w (c .position) (length w) (tr .letter))) ≡ true
+          → Step m list w c Buffering (record { position = advanced (c .position) (tr .letter); state = tr .to; mode = Buffering; start = c .start; end = advanced (c .end) (tr .letter) })
+      step h =
+          let (apart, r) = and-true (not (bothMatching (m .marks) tr)) (not (buffering (m .marks) (tr .to)) && readsLetter w (c .position) (length w) (tr .letter)) h in
+          let (not-to, reads) = and-true (not (buffering (m .marks) (tr .to))) (readsLetter w (c .position) (length w) (tr .letter)) r in
+          let ends : c .end ≡ c .position = eqb-true (c .end) (c .position) (p .fits) in
+          let reads-end : readsLetter w (c .end) (length w) (tr .letter) ≡ true = subst (λ (n : ℕ). readsLetter w n (length w) (tr .letter) ≡ true) (sym ends) reads in
+          let (on, inside) = advanced-fits w (c .position) (length w) (tr .letter) (p .in-word) reads in
+          let next : advanced (c .end) (tr .letter) ≡ advanced (c .position) (tr .letter) = ap (λ (n : ℕ). advanced n (tr .letter)) ends in
+          record {
+            yields = subst₂ (Yields (fsbmOf m list))
+                (same-config (sym (reads-drop w (c .position) (tr .letter) reads)) same refl refl)
+                (same-config refl refl (sym (slice-grows w (c .start) (c .end) (tr .letter) (p .forward) reads-end)) refl)
+                (buffer δ (not-and-says (matching (m .marks) (tr .from)) (matching (m .marks) (tr .to)) apart) (not-says (buffering (m .marks) (tr .to)) not-to));
+            stays = λ r. record {
+              in-word = inside;
+              state-below = listed-to r δ;
+              forward = omega (arith, p .forward);
+              behind = omega arith;
+              fits = eq-eqb (advanced (c .end) (tr .letter)) (advanced (c .position) (tr .letter)) next;
+            };
+          }
+  takes-step c tr Emptying p δ same = goes-step c Emptying _ _ step
+    where
+      step : (bothMatching (m .marks) tr && (readsLetter w (c .position) (length w) (tr .letter) && readsLetter w (c .start) (c .end) (tr .letter))) ≡ true
+          → Step m list w c Emptying (record { position = advanced (c .position) (tr .letter); state = tr .to; mode = Emptying; start = advanced (c .start) (tr .letter); end = c .end })
+      step h =
+          let (both, r) = and-true (bothMatching (m .marks) tr) (readsLetter w (c .position) (length w) (tr .letter) && readsLetter w (c .start) (c .end) (tr .letter)) h in
+          let (reads, matches) = and-true (readsLetter w (c .position) (length w) (tr .letter)) (readsLetter w (c .start) (c .end) (tr .letter)) r in
+          let (from, to) = and-true (matching (m .marks) (tr .from)) (matching (m .marks) (tr .to)) both in
+          let (on, inside) = advanced-fits w (c .position) (length w) (tr .letter) (p .in-word) reads in
+          let (on₂, inside₂) = advanced-fits w (c .start) (c .end) (tr .letter) (p .forward) matches in
+          record {
+            yields = subst₂ (Yields (fsbmOf m list))
+                (same-config (sym (reads-drop w (c .position) (tr .letter) reads)) same
+                (sym (reads-slice w (c .start) (c .end) (tr .letter) (omega (arith, p .behind, p .in-word)) matches)) refl)
+                refl
+                (empty δ from to);
+            stays = λ r. record {
+              in-word = inside;
+              state-below = listed-to r δ;
+              forward = inside₂;
+              behind = omega (arith, p .behind);
+              fits = refl;
+            };
+          }
+
+  changes-step : (c : Config) (e : ℕ) (t : Mode) → Placed m w c t → changes (m .marks) c e t .allowed ≡ true → Step m list w c t (changes (m .marks) c e t .config)
+  unfolding changes
+  changes-step c e Normal p = goes-step c Normal _ _ step
+    where
+      step : (eqb e beginBuffering && (buffering (m .marks) (c .state) && eqb (c .start) (c .end))) ≡ true
+          → Step m list w c Normal (record { position = c .position; state = c .state; mode = Buffering; start = c .position; end = c .position })
+      step h =
+          let (entry, r) = and-true (eqb e beginBuffering) (buffering (m .marks) (c .state) && eqb (c .start) (c .end)) h in
+          let (is, equal) = and-true (buffering (m .marks) (c .state)) (eqb (c .start) (c .end)) r in
+          let none : slice (c .start) (c .end) w ≡ [] = ap (λ (n : ℕ). slice n (c .end) w) (eqb-true (c .start) (c .end) equal) ∙ slice-empty (c .end) w in
+          record {
+            yields = subst₂ (Yields (fsbmOf m list)) (same-config refl refl (sym none) refl) (same-config refl refl (sym (slice-empty (c .position) w)) refl) (begin-buffering is);
+            stays = λ r. record {
+              in-word = p .in-word;
+              state-below = p .state-below;
+              forward = omega arith;
+              behind = omega arith;
+              fits = eq-eqb (c .position) (c .position) refl;
+            };
+          }
+  changes-step c e Buffering p = goes-step c Buffering _ _ step
+    where
+      step : (eqb e beginEmptying && matching (m .marks) (c .state)) ≡ true
+          → Step m list w c Buffering (record { position = c .position; state = c .state; mode = Emptying; start = c .start; end = c .end })
+      step h =
+          let (entry, is) = and-true (eqb e beginEmptying) (matching (m .marks) (c .state)) h in
+          record {
+            yields = begin-emptying is;
+            stays = λ r. record { in-word = p .in-word; state-below = p .state-below; forward = p .forward; behind = p .behind; fits = refl };
+          }
+  changes-step c e Emptying p = goes-step c Emptying _ _ step
+    where
+      step : (eqb e backToNormal && (matching (m .marks) (c .state) && eqb (c .start) (c .end))) ≡ true
+          → Step m list w c Emptying (record { position = c .position; state = c .state; mode = Normal; start = c .start; end = c .end })
+      step h =
+          let (entry, r) = and-true (eqb e backToNormal) (matching (m .marks) (c .state) && eqb (c .start) (c .end)) h in
+          let (is, equal) = and-true (matching (m .marks) (c .state)) (eqb (c .start) (c .end)) r in
+          let none : slice (c .start) (c .end) w ≡ [] = ap (λ (n : ℕ). slice n (c .end) w) (eqb-true (c .start) (c .end) equal) ∙ slice-empty (c .end) w in
+          record {
+            yields = subst₂ (Yields (fsbmOf m list)) (same-config refl refl (sym none) refl) (same-config refl refl (sym none) refl) (back-to-normal is);
+            stays = λ r. record { in-word = p .in-word; state-below = p .state-below; forward = p .forward; behind = p .behind; fits = equal };
+          }
+
+  move-step : (c : Config) (e : ℕ) → move m list w c e .allowed ≡ true → Step m list w c (c .mode) (move m list w c e .config)
+  unfolding move
+  move-step c e =
+      cond-elim Good (wellPlaced (m .states) (length w) c) _ (goes false c c)
+      (λ p. cond-elim Good (ltb e (m .transitions)) _ (changes (m .marks) c e (c .mode))
+      (λ lt. cond-elim Good (eqb (transitionAt list e .from) (c .state)) (takes (m .marks) w c (transitionAt list e) (c .mode)) (goes false c c)
+      (λ same. takes-step c (transitionAt list e) (c .mode) (placed m w c p)
+      (record { number = e; listed = ltb-true e (m .transitions) lt; from = refl; letter = refl; to = refl })
+      (eqb-true (transitionAt list e .from) (c .state) same))
+      (λ f h. absurd (false≢true h)))
+      (λ ge. changes-step c e (c .mode) (placed m w c p)))
+      (λ f h. absurd (false≢true h))
+    where
+      Good : Move → Type 0
+      Good v = v .allowed ≡ true → Step m list w c (c .mode) (v .config)
+
+  pub move-yields : (c : Config) (e : ℕ) → move m list w c e .allowed ≡ true → Yields (fsbmOf m list) (published w c) (published w (move m list w c e .config))
+  move-yields c e h = move-step c e h .yields
+
+  pub move-placed : wellFormed m list ≡ true → (c : Config) (e : ℕ) → move m list w c e .allowed ≡ true → wellPlaced (m .states) (length w) (move m list w c e .config) ≡ true
+  move-placed good c e h = unplaced m w (move m list w c e .config) (move-step c e h .stays (rules m list good))
+
+-- From the published definition to moves
+
+-- some entry takes c to the published configuration D
+pub record MovesTo (m : Machine) (list w : List ℕ) (c : Config) (D : Configuration) : Type 0 where
+  pub entry : ℕ
+  pub small : entry < 65536
+  pub allowed : move m list w c entry .allowed ≡ true
+  pub lands : published w (move m list w c entry .config) ≡ D
+
+module _ (m : Machine) (list w : List ℕ) where
+  move-takes : (c : Config) (k : ℕ) → wellPlaced (m .states) (length w) c ≡ true → k < m .transitions → transitionAt list k .from ≡ c .state
+      → move m list w c k ≡ takes (m .marks) w c (transitionAt list k) (c .mode)
+  unfolding move
+  move-takes c k p lt same =
+      let lower = lt-ltb k (m .transitions) lt in
+      let equal = eq-eqb (transitionAt list k .from) (c .state) same in
+      rw (p, lower, equal)
+
+  move-changes : (c : Config) (e : ℕ) → wellPlaced (m .states) (length w) c ≡ true → m .transitions ≤ e → move m list w c e ≡ changes (m .marks) c e (c .mode)
+  unfolding move
+  move-changes c e p ge =
+      let above = le-ltb e (m .transitions) ge in
+      rw (p, above)
+
+  moves-by : (c : Config) (e : ℕ) (ok : Bool) (next : Config) {D : Configuration} → e < 65536 → move m list w c e ≡ goes ok next c → ok ≡ true → published w next ≡ D
+      → MovesTo m list w c D
+  moves-by c e ok next small is t lands =
+      record {
+        entry = e;
+        small = small;
+        allowed = ap (λ (v : Move). v .allowed) is ∙ t;
+        lands = ap (λ (v : Move). published w (v .config)) is ∙ ap (λ (b : Bool). published w (cond b next c)) t ∙ lands;
+      }
+
+  module _ (r : Rules m list) where
+    -- the test of a mark at an end of a transition, and at the state that it names
+    at-end : {y z : ℕ} → y ≡ z → (test : List ℕ → ℕ → Bool) → test (m .marks) z ≡ true → test (m .marks) y ≡ true
+    at-end e test h = subst (λ (n : ℕ). test (m .marks) n ≡ true) (sym e) h
+
+    yields-moves : {D D′ : Configuration} → Yields (fsbmOf m list) D D′ → (c : Config) → Placed m w c (c .mode) → published w c ≡ D → MovesTo m list w c D′
+    unfolding takes changes
+    yields-moves (normal {p = p} {x = x} {q = q} {u = u} δ apart not-from) c pl e =
+        let tr = transitionAt list (δ .number) in
+        let mode : c .mode ≡ Normal = ap (λ (D : Configuration). D .mode) e in
+        let state : tr .from ≡ c .state = δ .from ∙ sym (ap (λ (D : Configuration). D .state) e) in
+        let input : drop (c .position) w ≡ symbol (tr .letter) ++ u = ap (λ (D : Configuration). D .input) e ∙ ap (λ (y : ℕ). symbol y ++ u) (sym (δ .letter)) in
+        let (reads, rest) = drop-reads w (c .position) (tr .letter) u input in
+        moves-by c (δ .number) _ _ (omega (arith, r .transitions-fit, δ .listed))
+        (move-takes c (δ .number) (unplaced m w c pl) (δ .listed) state ∙ ap (takes (m .marks) w c tr) mode)
+        (and-both-true (not (bothMatching (m .marks) tr)) (not (buffering (m .marks) (tr .from)) && readsLetter w (c .position) (length w) (tr .letter))
+        (says-not-and (matching (m .marks) (tr .from)) (matching (m .marks) (tr .to)) (λ z. apart (at-end (sym (δ .from)) matching (z .0), at-end (sym (δ .to)) matching (z .1))))
+        (and-both-true (not (buffering (m .marks) (tr .from))) (readsLetter w (c .position) (length w) (tr .letter))
+        (says-not (buffering (m .marks) (tr .from)) (λ z. not-from (at-end (sym (δ .from)) buffering z))) reads))
+        (same-config rest (δ .to) (ap (λ (D : Configuration). D .buffer) e) refl)
+    yields-moves (buffer {p = p} {x = x} {q = q} {u = u} {v = v} δ apart not-to) c pl e =
+        let tr = transitionAt list (δ .number) in
+        let mode : c .mode ≡ Buffering = ap (λ (D : Configuration). D .mode) e in
+        let state : tr .from ≡ c .state = δ .from ∙ sym (ap (λ (D : Configuration). D .state) e) in
+        let input : drop (c .position) w ≡ symbol (tr .letter) ++ u = ap (λ (D : Configuration). D .input) e ∙ ap (λ (y : ℕ). symbol y ++ u) (sym (δ .letter)) in
+        let (reads, rest) = drop-reads w (c .position) (tr .letter) u input in
+        let pb : Placed m w c Buffering = subst (Placed m w c) mode pl in
+        let ends : c .end ≡ c .position = eqb-true (c .end) (c .position) (pb .fits) in
+        let reads-end : readsLetter w (c .end) (length w) (tr .letter) ≡ true = subst (λ (n : ℕ). readsLetter w n (length w) (tr .letter) ≡ true) (sym ends) reads in
+        moves-by c (δ .number) _ _ (omega (arith, r .transitions-fit, δ .listed))
+        (move-takes c (δ .number) (unplaced m w c pl) (δ .listed) state ∙ ap (takes (m .marks) w c tr) mode)
+        (and-both-true (not (bothMatching (m .marks) tr)) (not (buffering (m .marks) (tr .to)) && readsLetter w (c .position) (length w) (tr .letter))
+        (says-not-and (matching (m .marks) (tr .from)) (matching (m .marks) (tr .to)) (λ z. apart (at-end (sym (δ .from)) matching (z .0), at-end (sym (δ .to)) matching (z .1))))
+        (and-both-true (not (buffering (m .marks) (tr .to))) (readsLetter w (c .position) (length w) (tr .letter))
+        (says-not (buffering (m .marks) (tr .to)) (λ z. not-to (at-end (sym (δ .to)) buffering z))) reads))
+        (same-config rest (δ .to)
+        (slice-grows w (c .start) (c .end) (tr .letter) (pl .forward) reads-end ∙ ap (λ (y : List ℕ). y ++ symbol (tr .letter)) (ap (λ (D : Configuration). D .buffer) e) ∙ ap (λ (y : ℕ). v ++ symbol y) (δ .letter))
+        refl)
+    yields-moves (empty {p = p} {x = x} {q = q} {u = u} {v = v} δ from to) c pl e =
+        let tr = transitionAt list (δ .number) in
+        let mode : c .mode ≡ Emptying = ap (λ (D : Configuration). D .mode) e in
+        let state : tr .from ≡ c .state = δ .from ∙ sym (ap (λ (D : Configuration). D .state) e) in
+        let input : drop (c .position) w ≡ symbol (tr .letter) ++ u = ap (λ (D : Configuration). D .input) e ∙ ap (λ (y : ℕ). symbol y ++ u) (sym (δ .letter)) in
+        let stored : slice (c .start) (c .end) w ≡ symbol (tr .letter) ++ v = ap (λ (D : Configuration). D .buffer) e ∙ ap (λ (y : ℕ). symbol y ++ v) (sym (δ .letter)) in
+        let (reads, rest) = drop-reads w (c .position) (tr .letter) u input in
+        let (matches, left) = slice-reads w (c .start) (c .end) (tr .letter) v (omega (arith, pl .behind, pl .in-word)) stored in
+        moves-by c (δ .number) _ _ (omega (arith, r .transitions-fit, δ .listed))
+        (move-takes c (δ .number) (unplaced m w c pl) (δ .listed) state ∙ ap (takes (m .marks) w c tr) mode)
+        (and-both-true (bothMatching (m .marks) tr) (readsLetter w (c .position) (length w) (tr .letter) && readsLetter w (c .start) (c .end) (tr .letter))
+        (and-both-true (matching (m .marks) (tr .from)) (matching (m .marks) (tr .to)) (at-end (δ .from) matching from) (at-end (δ .to) matching to))
+        (and-both-true (readsLetter w (c .position) (length w) (tr .letter)) (readsLetter w (c .start) (c .end) (tr .letter)) reads matches))
+        (same-config rest (δ .to) left refl)
+    yields-moves (begin-buffering {q = q} {u = u} is) c pl e =
+        let mode : c .mode ≡ Normal = ap (λ (D : Configuration). D .mode) e in
+        let state : c .state ≡ q = ap (λ (D : Configuration). D .state) e in
+        let equal : c .start ≡ c .end = slice-none w (c .start) (c .end) (pl .forward) (omega (arith, pl .behind, pl .in-word)) (ap (λ (D : Configuration). D .buffer) e) in
+        moves-by c beginBuffering _ _ (omega arith)
+        (move-changes c beginBuffering (unplaced m w c pl) (omega (arith, r .transitions-fit)) ∙ ap (changes (m .marks) c beginBuffering) mode)
+        (and-both-true (buffering (m .marks) (c .state)) (eqb (c .start) (c .end)) (at-end state buffering is) (eq-eqb (c .start) (c .end) equal))
+        (same-config (ap (λ (D : Configuration). D .input) e) state (slice-empty (c .position) w) refl)
+    yields-moves (begin-emptying {q = q} {u = u} {v = v} is) c pl e =
+        let mode : c .mode ≡ Buffering = ap (λ (D : Configuration). D .mode) e in
+        let state : c .state ≡ q = ap (λ (D : Configuration). D .state) e in
+        moves-by c beginEmptying _ _ (omega arith)
+        (move-changes c beginEmptying (unplaced m w c pl) (omega (arith, r .transitions-fit)) ∙ ap (changes (m .marks) c beginEmptying) mode)
+        (at-end state matching is)
+        (same-config (ap (λ (D : Configuration). D .input) e) state (ap (λ (D : Configuration). D .buffer) e) refl)
+    yields-moves (back-to-normal {q = q} {u = u} is) c pl e =
+        let mode : c .mode ≡ Emptying = ap (λ (D : Configuration). D .mode) e in
+        let state : c .state ≡ q = ap (λ (D : Configuration). D .state) e in
+        let equal : c .start ≡ c .end = slice-none w (c .start) (c .end) (pl .forward) (omega (arith, pl .behind, pl .in-word)) (ap (λ (D : Configuration). D .buffer) e) in
+        moves-by c backToNormal _ _ (omega arith)
+        (move-changes c backToNormal (unplaced m w c pl) (omega (arith, r .transitions-fit)) ∙ ap (changes (m .marks) c backToNormal) mode)
+        (and-both-true (matching (m .marks) (c .state)) (eqb (c .start) (c .end)) (at-end state matching is) (eq-eqb (c .start) (c .end) equal))
+        (same-config (ap (λ (D : Configuration). D .input) e) state (ap (λ (D : Configuration). D .buffer) e) refl)
+
+  pub yields-move : wellFormed m list ≡ true → {D D′ : Configuration} → Yields (fsbmOf m list) D D′ → (c : Config) → wellPlaced (m .states) (length w) c ≡ true → published w c ≡ D
+      → MovesTo m list w c D′
+  yields-move good y c p e = yields-moves (rules m list good) y c (placed m w c p) e
+
+-- Whole runs
+
+is-normal : (t : Mode) → isNormal t ≡ true → t ≡ Normal
+is-normal Normal h = refl
+is-normal Buffering h = absurd (false≢true h)
+is-normal Emptying h = absurd (false≢true h)
+
+pub run-path : {M : FSBM} {D D′ : Configuration} → Run M D D′ → (n : ℕ) × Path Configuration (Yields M) D D′ n
+run-path done = (zero, here)
+run-path (Run.more y r) = let (n, p) = run-path r in (suc n, step y p)
+
+module _ (m : Machine) (list w : List ℕ) where
+  accepts-published : (c : Config) → accepts (m .marks) (length w) c ≡ true → (final (m .marks) (c .state) ≡ true) × (published w c ≡ config [] (c .state) [] Normal)
+  unfolding accepts
+  accepts-published c h =
+      let (f, r₁) = and-true (final (m .marks) (c .state)) (isNormal (c .mode) && (eqb (c .start) (c .end) && eqb (c .position) (length w))) h in
+      let (n, r₂) = and-true (isNormal (c .mode)) (eqb (c .start) (c .end) && eqb (c .position) (length w)) r₁ in
+      let (s, p) = and-true (eqb (c .start) (c .end)) (eqb (c .position) (length w)) r₂ in (
+        f,
+        same-config (ap (λ (n : ℕ). drop n w) (eqb-true (c .position) (length w) p) ∙ drop-length w) refl
+            (ap (λ (n : ℕ). slice n (c .end) w) (eqb-true (c .start) (c .end) s) ∙ slice-empty (c .end) w) (is-normal (c .mode) n),
+      )
+
+  published-accepts : (c : Config) (last : ℕ) → Placed m w c (c .mode) → final (m .marks) last ≡ true → published w c ≡ config [] last [] Normal → accepts (m .marks) (length w) c ≡ true
+  unfolding accepts
+  published-accepts c last pl f e =
+      let state : last ≡ c .state = sym (ap (λ (D : Configuration). D .state) e) in
+      let start : c .start ≡ c .end = slice-none w (c .start) (c .end) (pl .forward) (omega (arith, pl .behind, pl .in-word)) (ap (λ (D : Configuration). D .buffer) e) in
+      let left : length w - c .position ≡ 0 = sym (length-drop (c .position) w) ∙ ap length (ap (λ (D : Configuration). D .input) e) in
+      let place : c .position ≡ length w = omega (arith, pl .in-word) in
+      and-both-true (final (m .marks) (c .state)) (isNormal (c .mode) && (eqb (c .start) (c .end) && eqb (c .position) (length w)))
+      (subst (λ (q : ℕ). final (m .marks) q ≡ true) state f)
+      (and-both-true (isNormal (c .mode)) (eqb (c .start) (c .end) && eqb (c .position) (length w))
+      (ap isNormal (ap (λ (D : Configuration). D .mode) e))
+      (and-both-true (eqb (c .start) (c .end)) (eqb (c .position) (length w)) (eq-eqb (c .start) (c .end) start) (eq-eqb (c .position) (length w) place)))
+
+  entries-run : (c : Config) (es : List ℕ) → acceptingFrom m list w c es ≡ true
+      → (last : ℕ) × (final (m .marks) last ≡ true) × Run (fsbmOf m list) (published w c) (config [] last [] Normal)
+  unfolding acceptingFrom
+  entries-run c [] h =
+      let (f, e) = accepts-published c h in
+      (c .state, f, subst (Run (fsbmOf m list) (published w c)) e done)
+  entries-run c (e ∷ es) h =
+      let (a, rest) = and-true (move m list w c e .allowed) (acceptingFrom m list w (move m list w c e .config) es) h in
+      let (last, f, run) = entries-run (move m list w c e .config) es rest in
+      (last, f, Run.more (move-yields m list w c e a) run)
+
+  pub accepting-published : (run : List ℕ) → accepting m list w run ≡ true → InLanguage (fsbmOf m list) w
+  unfolding accepting
+  accepting-published [] h = absurd (false≢true h)
+  accepting-published (q ∷ es) h =
+      let (lt, r) = and-true (ltb q (m .states)) (initial (m .marks) q && acceptingFrom m list w (startAt q) es) h in
+      let (i, a) = and-true (initial (m .marks) q) (acceptingFrom m list w (startAt q) es) r in
+      let (last, f, run) = entries-run (startAt q) es a in
+      record { first = q; last = last; first-initial = (ltb-true q (m .states) lt, i); last-final = f; run = run }
+
+  module _ (r : Rules m list) where
+    start-placed : (q : ℕ) → q < m .states → Placed m w (startAt q) Normal
+    start-placed q lt = record { in-word = omega arith; state-below = lt; forward = omega arith; behind = omega arith; fits = refl }
+
+    path-entries : {D D′ : Configuration} {n : ℕ} → Path Configuration (Yields (fsbmOf m list)) D D′ n → (c : Config) → Placed m w c (c .mode) → published w c ≡ D
+        → (last : ℕ) → final (m .marks) last ≡ true → D′ ≡ config [] last [] Normal
+        → (es : List ℕ) × (length es ≡ n) × AllBelow 65536 es × (acceptingFrom m list w c es ≡ true)
+    unfolding acceptingFrom
+    path-entries here c pl e last f e′ = ([], refl, none, published-accepts c last pl f (e ∙ e′))
+    path-entries (step y p) c pl e last f e′ =
+        let v = yields-moves m list w r y c pl e in
+        let c′ = move m list w c (v .entry) .config in
+        let (es, len, below, a) = path-entries p c′ (move-step m list w c (v .entry) (v .allowed) .stays r) (v .lands) last f e′ in
+        (v .entry ∷ es, ap suc len, more (v .small) below, and-both-true (move m list w c (v .entry) .allowed) (acceptingFrom m list w c′ es) (v .allowed) a)
+
+    -- a published path of n moves is a run of n + 1 entries
+    pub path-run : (first last n : ℕ) → fsbmOf m list .I first → fsbmOf m list .F last → Path Configuration (Yields (fsbmOf m list)) (config w first [] Normal) (config [] last [] Normal) n
+        → (run : List ℕ) × (length run ≡ suc n) × AllBelow 65536 run × (accepting m list w run ≡ true)
+    unfolding accepting
+    path-run first last n (lt, i) f p =
+        let (es, len, below, a) = path-entries p (startAt first) (start-placed first lt) refl last f refl in (
+          first ∷ es,
+          ap suc len,
+          more {x = first} (omega (arith, r .states-fit)) below,
+          and-both-true (ltb first (m .states)) (initial (m .marks) first && acceptingFrom m list w (startAt first) es) (lt-ltb first (m .states) lt)
+              (and-both-true (initial (m .marks) first) (acceptingFrom m list w (startAt first) es) i a),
+        )
+
+  pub published-accepting : wellFormed m list ≡ true → InLanguage (fsbmOf m list) w → (run : List ℕ) × AllBelow 65536 run × (accepting m list w run ≡ true)
+  published-accepting good l =
+      let (n, p) = run-path (l .run) in
+      let (run, len, below, a) = path-run (rules m list good) (l .first) (l .last) n (l .first-initial) (l .last-final) p in
+      (run, below, a)

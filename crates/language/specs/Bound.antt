@@ -1,0 +1,192 @@
+-- The bound of a run: a word that some run accepts has an accepting run of at most runBound entries. So `accepted`, which searches
+-- only those, says whether any run accepts.
+--
+-- Shrinks D D′            == D′ has no more input than D, and the same input and buffer if it has as much
+-- key states D            == a number for the length of the input, the mode and the state of D
+-- published-short         == a word in the published language has a run of at most runBound entries, each below 65536
+-- accepted-iff-run        == accepted, if and only if some run accepts
+-- accepted-iff-published  == accepted, if and only if the word is in the published language
+-- accepted-not-run, accepted-not-published == not accepted, if and only if no run accepts; if and only if the word is not in the language
+use Prim.Native.Nat.{ℕ, zero, suc, _+_, _*_, _/_, _%_, _≤_, _<_}
+use mathlib.Core.Path.{_≡_, refl, sym, ap, _∙_}
+use mathlib.Core.Logic.{_↔_, _⊎_, inl, inr}
+use mathlib.Core.Bool.{true, false}
+use mathlib.Core.List.{List, [], append-nil}
+use native.Mathlib.Omega.{arith}
+use native.Mathlib.Nat.{mul-add-mod-self-right, mul-add-div-right, mod-eq-of-lt, div-eq-of-lt, mul-le-mul-right, mul-right-comm, suc-mul}
+use lib.ListN.{length}
+use Rattle.graphs.specs.Search.{AllBelow}
+use Rattle.graphs.specs.Search.Laws.{true-or-false, not-both}
+use Rattle.graphs.specs.Paths.{Path, here, step}
+use Rattle.graphs.specs.Paths.Laws.{closed, short-path}
+use Rattle.fsbm.specs.Machine.{wellFormed}
+use Rattle.fsbm.specs.Moves.{accepting}
+use Rattle.fsbm.specs.Accepted.{runBound, accepted}
+use Rattle.fsbm.specs.Accepted.Laws.{accepted-true}
+use Rattle.fsbm.specs.Published.{FSBM, Listed, fsbmOf, Configuration, config, Yields, normal, buffer, empty, begin-buffering, begin-emptying, back-to-normal, InLanguage}
+use Rattle.fsbm.specs.declared.machine.Machine.{Machine}
+use Rattle.fsbm.specs.declared.config.Mode.{Mode}
+use Rattle.fsbm.specs.declared.config.Mode.the-variants.{Normal, Buffering, Emptying}
+use Rattle.language.specs.Bools.{false-iff}
+use Rattle.language.specs.Rules.{Rules, rules, buffering-below, matching-below}
+use Rattle.language.specs.Agreement.{run-path, path-run, accepting-published}
+
+-- What a move leaves alone
+
+record Shrinks (D D′ : Configuration) : Type 0 where
+  shorter : length (D′ .input) ≤ length (D .input)
+  unread : length (D′ .input) ≡ length (D .input) → (D′ .input ≡ D .input) × (D′ .buffer ≡ D .buffer)
+
+yields-shrinks : {M : FSBM} {D D′ : Configuration} → Yields M D D′ → Shrinks D D′
+yields-shrinks (normal {x = zero} δ apart n) = record { shorter = omega arith; unread = λ e. (refl, refl) }
+yields-shrinks (normal {x = suc x} {u = u} δ apart n) = record { shorter = omega arith; unread = λ (e : length u ≡ suc (length u)). absurd (omega arith) }
+yields-shrinks (buffer {x = zero} {v = v} δ apart n) = record { shorter = omega arith; unread = λ e. (refl, append-nil v) }
+yields-shrinks (buffer {x = suc x} {u = u} δ apart n) = record { shorter = omega arith; unread = λ (e : length u ≡ suc (length u)). absurd (omega arith) }
+yields-shrinks (empty {x = zero} δ a b) = record { shorter = omega arith; unread = λ e. (refl, refl) }
+yields-shrinks (empty {x = suc x} {u = u} δ a b) = record { shorter = omega arith; unread = λ (e : length u ≡ suc (length u)). absurd (omega arith) }
+yields-shrinks (begin-buffering is) = record { shorter = omega arith; unread = λ e. (refl, refl) }
+yields-shrinks (begin-emptying is) = record { shorter = omega arith; unread = λ e. (refl, refl) }
+yields-shrinks (back-to-normal is) = record { shorter = omega arith; unread = λ e. (refl, refl) }
+
+path-shrinks : {M : FSBM} {D D′ : Configuration} {n : ℕ} → Path Configuration (Yields M) D D′ n → Shrinks D D′
+path-shrinks here = record { shorter = omega arith; unread = λ e. (refl, refl) }
+path-shrinks (step y p) = join (yields-shrinks y) (path-shrinks p)
+  where
+    join : {A B C : Configuration} → Shrinks A B → Shrinks B C → Shrinks A C
+    join {A} {B} {C} f g =
+        record {
+          shorter = omega (arith, f .shorter, g .shorter);
+          unread = λ (e : length (C .input) ≡ length (A .input)).
+              let (i₁, b₁) = f .unread (omega (arith, f .shorter, g .shorter)) in
+              let (i₂, b₂) = g .unread (omega (arith, f .shorter, g .shorter)) in
+              (i₂ ∙ i₁, b₂ ∙ b₁);
+        }
+
+-- Keys
+
+modeNumber : Mode → ℕ
+modeNumber Normal = 0
+modeNumber Buffering = 1
+modeNumber Emptying = 2
+
+modeNumber-below : (t : Mode) → modeNumber t < 3
+unfolding modeNumber
+modeNumber-below Normal = omega arith
+modeNumber-below Buffering = omega arith
+modeNumber-below Emptying = omega arith
+
+modeNumber-same : (s t : Mode) → modeNumber s ≡ modeNumber t → s ≡ t
+unfolding modeNumber
+modeNumber-same Normal Normal e = refl
+modeNumber-same Normal Buffering e = absurd (omega arith)
+modeNumber-same Normal Emptying e = absurd (omega arith)
+modeNumber-same Buffering Normal e = absurd (omega arith)
+modeNumber-same Buffering Buffering e = refl
+modeNumber-same Buffering Emptying e = absurd (omega arith)
+modeNumber-same Emptying Normal e = absurd (omega arith)
+modeNumber-same Emptying Buffering e = absurd (omega arith)
+modeNumber-same Emptying Emptying e = refl
+
+key : ℕ → Configuration → ℕ
+key states D = (length (D .input) * 3 + modeNumber (D .mode)) * states + D .state
+
+-- a number below s and how often s stands beside it are read off their sum
+digits : (s a b x y : ℕ) → x < s → y < s → a * s + x ≡ b * s + y → (a ≡ b) × (x ≡ y)
+digits s a b x y lx ly e =
+    let pos : 0 < s = omega arith in
+    let quotients = sym (mul-add-div-right pos a x) ∙ ap (λ (n : ℕ). n / s) e ∙ mul-add-div-right pos b y in
+    let dx = div-eq-of-lt lx in
+    let dy = div-eq-of-lt ly in
+    let remainders = sym (mul-add-mod-self-right a s x) ∙ ap (λ (n : ℕ). n % s) e ∙ mul-add-mod-self-right b s y in
+    let rx = mod-eq-of-lt lx in
+    let ry = mod-eq-of-lt ly in
+    (omega arith, sym rx ∙ remainders ∙ ry)
+
+in-bound : (s a n x : ℕ) → a < 3 * (n + 1) → x < s → a * s + x < 3 * s * (n + 1)
+in-bound s a n x la lx =
+    let rows = mul-le-mul-right s la in
+    let row = suc-mul a s in
+    let order = mul-right-comm 3 (n + 1) s in
+    omega arith
+
+key-same : (states : ℕ) (D D′ : Configuration) → D .state < states → D′ .state < states → Shrinks D D′ → key states D ≡ key states D′ → D ≡ D′
+unfolding key
+key-same s D D′ lt lt′ shrinks e =
+    let (upper, state) = digits s (length (D .input) * 3 + modeNumber (D .mode)) (length (D′ .input) * 3 + modeNumber (D′ .mode)) (D .state) (D′ .state) lt lt′ e in
+    let m = modeNumber-below (D .mode) in
+    let m′ = modeNumber-below (D′ .mode) in
+    let (input, stored) = shrinks .unread (omega arith) in
+    let mode = modeNumber-same (D .mode) (D′ .mode) (omega arith) in
+    λ i. record { input = sym input i; state = state i; buffer = sym stored i; mode = mode i }
+
+-- Short runs
+
+module _ {m : Machine} {list : List ℕ} (r : Rules m list) where
+  listed-below : {p x q : ℕ} → Listed list (m .transitions) p x q → (p < m .states) × (q < m .states)
+  listed-below δ =
+      let from = r .from-below (δ .number) (δ .listed) in
+      let to = r .to-below (δ .number) (δ .listed) in
+      let e = δ .from in
+      let e′ = δ .to in
+      (omega arith, omega arith)
+
+  yields-below : {D D′ : Configuration} → Yields (fsbmOf m list) D D′ → (D .state < m .states) × (D′ .state < m .states)
+  yields-below (normal δ apart n) = listed-below δ
+  yields-below (buffer δ apart n) = listed-below δ
+  yields-below (empty δ a b) = listed-below δ
+  yields-below (begin-buffering {q = q} is) = let lt = buffering-below m list r q is in (lt, lt)
+  yields-below (begin-emptying {q = q} is) = let lt = matching-below m list r q is in (lt, lt)
+  yields-below (back-to-normal {q = q} is) = let lt = matching-below m list r q is in (lt, lt)
+
+  path-below : {D D′ : Configuration} {n : ℕ} → Path Configuration (Yields (fsbmOf m list)) D D′ n → D .state < m .states → D′ .state < m .states
+  path-below = closed (λ (D : Configuration). D .state < m .states) (λ D D′ y lt. yields-below y .1)
+
+  -- within one path equal keys are equal configurations
+  same-key : (D D′ : Configuration) (n : ℕ) → Path Configuration (Yields (fsbmOf m list)) D D′ n → key (m .states) D ≡ key (m .states) D′ → D ≡ D′
+  same-key D D′ n here e = refl
+  same-key D D′ n (step y p) e =
+      let lt = yields-below y .0 in
+      key-same (m .states) D D′ lt (path-below (step y p) lt) (path-shrinks (step y p)) e
+
+  key-below : (w : List ℕ) (q : ℕ) → q < m .states → (D : Configuration) (n : ℕ) → Path Configuration (Yields (fsbmOf m list)) (config w q [] Normal) D n
+      → key (m .states) D < runBound m (length w)
+  unfolding key runBound
+  key-below w q lt D n p =
+      let shorter = path-shrinks p .shorter in
+      let mode = modeNumber-below (D .mode) in
+      in-bound (m .states) (length (D .input) * 3 + modeNumber (D .mode)) (length w) (D .state) (omega arith) (path-below p lt)
+
+module _ (m : Machine) (list w : List ℕ) where
+  pub published-short : wellFormed m list ≡ true → InLanguage (fsbmOf m list) w
+      → (run : List ℕ) × (length run ≤ runBound m (length w)) × AllBelow 65536 run × (accepting m list w run ≡ true)
+  published-short good l =
+      let r = rules m list good in
+      let (n, p) = run-path (l .run) in
+      let (k, lt, q) = short-path (key (m .states)) (same-key r) (runBound m (length w)) (key-below r w (l .first) (l .first-initial .0)) p in
+      let (run, len, below, a) = path-run m list w r (l .first) (l .last) k (l .first-initial) (l .last-final) q in
+      (run, omega arith, below, a)
+
+  pub accepted-iff-published : wellFormed m list ≡ true → (accepted m list w ≡ true) ↔ InLanguage (fsbmOf m list) w
+  accepted-iff-published good = (
+    λ t. let (run, len, below, a) = accepted-true m list w .0 t in accepting-published m list w run a,
+    λ l. accepted-true m list w .1 (published-short good l),
+  )
+
+  pub accepted-iff-run : wellFormed m list ≡ true → (accepted m list w ≡ true) ↔ ((run : List ℕ) × (accepting m list w run ≡ true))
+  accepted-iff-run good = (
+    λ t. let (run, len, below, a) = accepted-true m list w .0 t in (run, a),
+    λ s. accepted-iff-published good .1 (accepting-published m list w (s .0) (s .1)),
+  )
+
+  pub accepted-not-published : wellFormed m list ≡ true → (accepted m list w ≡ false) ↔ (InLanguage (fsbmOf m list) w → ⊥)
+  accepted-not-published good = false-iff (accepted m list w) (accepted-iff-published good)
+
+  pub accepted-not-run : wellFormed m list ≡ true → (accepted m list w ≡ false) ↔ ((run : List ℕ) → accepting m list w run ≡ false)
+  accepted-not-run good = (
+    λ f run. no-run run (true-or-false (accepting m list w run)) f,
+    λ h. false-iff (accepted m list w) (accepted-iff-run good) .1 (λ s. not-both (s .1) (h (s .0))),
+  )
+    where
+      no-run : (run : List ℕ) → (accepting m list w run ≡ true) ⊎ (accepting m list w run ≡ false) → accepted m list w ≡ false → accepting m list w run ≡ false
+      no-run run (inl t) f = absurd (false-iff (accepted m list w) (accepted-iff-run good) .0 f (run, t))
+      no-run run (inr z) f = z

@@ -1,0 +1,97 @@
+// Sets of states, each a 64-bit number, one bit a state: the state q is a member of the set if the bit of value 2^q is set in it.
+// The states are 0 to 63. Every function takes every input; a number of 64 and above is no state: no member, and neither added nor
+// removed. Each takes a few instructions and no memory. The laws of sets, by membership, stand in specs/Set/Laws.antt.
+ghost use mathlib.Core.Path.{_≡_};
+ghost use mathlib.Core.Logic.{_⊎_};
+ghost use Prim.Native.Nat.{_<_};
+ghost use lib.Bits.{bitAnd, bitOr};
+ghost use lib.Dec.{eqb};
+ghost use Rattle.stateset.specs.Set.{width, In, has, added, removed, without, below, SetIs, Size, Lowest};
+
+// How many states a set can hold.
+pub const WIDTH: usize = 64;
+
+// The set with no member.
+pub fn empty() -> u64
+    ensures { λ r. ⌜ SetIs r 0 (λ p. ⊥) ⌝ }
+{
+    0
+}
+
+// The states below n: all states where n is 64 or more.
+pub fn full(n: usize) -> u64
+    ensures { λ r. ⌜ SetIs r (below n) (λ p. (p < n) × (p < width)) ⌝ }
+{
+    if n < WIDTH {
+        (1u64 << n) - 1
+    } else {
+        0xffff_ffff_ffff_ffff
+    }
+}
+
+// Whether q is a member of the set.
+pub fn member(set: u64, q: usize) -> bool
+    ensures { λ r. ⌜ r ≡ has set q ⌝ }
+{
+    if q < WIDTH {
+        (set >> q) % 2 == 1
+    } else {
+        false
+    }
+}
+
+// The set with the state q.
+pub fn add(set: u64, q: usize) -> u64
+    ensures { λ r. ⌜ SetIs r (added set q) (λ p. In set p ⊎ ((p ≡ q) × (p < width))) ⌝ }
+{
+    if q < WIDTH { set | (1u64 << q) } else { set }
+}
+
+// The set without the state q.
+pub fn remove(set: u64, q: usize) -> u64
+    ensures { λ r. ⌜ SetIs r (removed set q) (λ p. In set p × (p ≡ q → ⊥)) ⌝ }
+{
+    if q < WIDTH { set & !(1u64 << q) } else { set }
+}
+
+// The members of a and those of b.
+pub fn union(a: u64, b: u64) -> u64
+    ensures { λ r. ⌜ SetIs r (bitOr a b) (λ p. In a p ⊎ In b p) ⌝ }
+{
+    a | b
+}
+
+// The members that a and b share.
+pub fn intersection(a: u64, b: u64) -> u64
+    ensures { λ r. ⌜ SetIs r (bitAnd a b) (λ p. In a p × In b p) ⌝ }
+{
+    a & b
+}
+
+// The members of a that are no members of b.
+pub fn difference(a: u64, b: u64) -> u64
+    ensures { λ r. ⌜ SetIs r (without a b) (λ p. In a p × (In b p → ⊥)) ⌝ }
+{
+    a & !b
+}
+
+// Whether a and b have the same members.
+pub fn same(a: u64, b: u64) -> bool
+    ensures { λ r. ⌜ r ≡ eqb a b ⌝ }
+{
+    a == b
+}
+
+// How many members the set has.
+pub fn size(set: u64) -> u32
+    ensures { λ r. ⌜ Size set r ⌝ }
+{
+    u64::count_ones(set)
+}
+
+// The lowest member of the set, or 64 where it has none.
+pub fn lowest(set: u64) -> u32
+    ensures { λ r. ⌜ Lowest set r ⌝ }
+{
+    u64::trailing_zeros(set)
+}

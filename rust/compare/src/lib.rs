@@ -1,0 +1,270 @@
+//! Comparison of the proved calls with the reference. The functions here make one comparison each; the tests choose
+//! the inputs and print how many cases they compared.
+
+use reference::{Machine, Record, Refusal};
+use zagvirk::records;
+
+/// A pseudo-random generator (splitmix64).
+pub struct Rng(u64);
+
+impl Rng {
+    /// The generator with the seed.
+    pub fn new(seed: u64) -> Rng {
+        Rng(seed)
+    }
+
+    /// The next 64 bits.
+    pub fn bits(&mut self) -> u64 {
+        self.0 = self.0.wrapping_add(0x9e37_79b9_7f4a_7c15);
+        let mut z = self.0;
+        z = (z ^ (z >> 30)).wrapping_mul(0xbf58_476d_1ce4_e5b9);
+        z = (z ^ (z >> 27)).wrapping_mul(0x94d0_49bb_1331_11eb);
+        z ^ (z >> 31)
+    }
+
+    /// A number below `bound`.
+    pub fn below(&mut self, bound: usize) -> usize {
+        (self.bits() % bound as u64) as usize
+    }
+
+    /// True once in `times`.
+    pub fn once_in(&mut self, times: usize) -> bool {
+        self.below(times) == 0
+    }
+
+    /// One of the choices.
+    pub fn pick<T: Copy>(&mut self, choices: &[T]) -> T {
+        choices[self.below(choices.len())]
+    }
+}
+
+/// The record for the proved calls.
+pub fn record_of(record: &Record) -> zagvirk::Machine {
+    zagvirk::Machine {
+        states: record.states,
+        letters: record.letters,
+        transitions: record.transitions,
+        marks: record.marks,
+    }
+}
+
+/// The configuration for the proved calls.
+pub fn config_of(config: reference::Config) -> records::Config {
+    records::Config {
+        position: config.position,
+        state: config.state,
+        mode: config.mode,
+        start: config.start,
+        end: config.end,
+    }
+}
+
+/// A machine and a word ready for many comparisons: whether they are refused is found once.
+pub struct Case<'a> {
+    record: &'a Record,
+    list: &'a [u16],
+    word: &'a [u8],
+    judged: Result<Machine, Refusal>,
+    proved: zagvirk::Machine,
+    list_before: Vec<u16>,
+    word_before: Vec<u8>,
+    /// The number of comparisons made.
+    pub cases: u64,
+}
+
+impl<'a> Case<'a> {
+    /// The case of the machine and the word.
+    pub fn new(record: &'a Record, list: &'a [u16], word: &'a [u8]) -> Case<'a> {
+        let judged = record.machine(list).and_then(|machine| {
+            reference::check_word(&machine, word, reference::LONGEST_CHECKED)?;
+            Ok(machine)
+        });
+        Case {
+            record,
+            list,
+            word,
+            judged,
+            proved: record_of(record),
+            list_before: list.to_vec(),
+            word_before: word.to_vec(),
+            cases: 0,
+        }
+    }
+
+    /// The refusal that the reference gives, or 0.
+    pub fn refusal(&self) -> u8 {
+        self.judged
+            .as_ref()
+            .err()
+            .map_or(0, |refusal| refusal.number)
+    }
+
+    /// Compares one move. Returns the next configuration if there is one.
+    pub fn step(&mut self, config: reference::Config, entry: u16) -> Option<reference::Config> {
+        let next = match &self.judged {
+            Ok(machine) => reference::moves::step(machine, self.word, config, entry),
+            Err(_) => None,
+        };
+        let expected = records::Stepped {
+            refusal: self.refusal(),
+            allowed: u8::from(next.is_some()),
+            config: config_of(next.unwrap_or(config)),
+        };
+        let found = records::step(&self.proved, self.list, self.word, config_of(config), entry);
+        if found != expected {
+            panic!(
+                "step differs\n{}\nconfig {config:?}\nentry {entry}\nreference {expected:?}\nproved {found:?}",
+                self.input()
+            );
+        }
+        self.cases += 1;
+        next
+    }
+
+    /// Compares the run checker on one run. Returns whether the run accepts.
+    pub fn check_run(&mut self, run: &[u16]) -> bool {
+        let accepting = match &self.judged {
+            Ok(machine) => reference::moves::accepting(machine, self.word, run),
+            Err(_) => false,
+        };
+        let expected = records::Checked {
+            refusal: self.refusal(),
+            accepting: u8::from(accepting),
+        };
+        let found = records::check_run(&self.proved, self.list, self.word, run);
+        if found != expected {
+            let shown = &run[..run.len().min(200)];
+            panic!(
+                "check_run differs\n{}\nrun of {} entries {shown:?}\nreference {expected:?}\nproved {found:?}",
+                self.input(),
+                run.len(),
+            );
+        }
+        self.cases += 1;
+        accepting
+    }
+
+    /// Compares the run checker on one run and its copy before and after the call.
+    pub fn check_run_kept(&mut self, run: &[u16]) -> bool {
+        let before = run.to_vec();
+        let accepting = self.check_run(run);
+        assert!(before == run, "the run changed\n{}", self.input());
+        accepting
+    }
+
+    /// Compares the wrappers with enums with the reference on one configuration of the three modes, and on one run.
+    pub fn wrappers(&mut self, config: reference::Config, entry: u16, run: &[u16]) {
+        let typed = zagvirk::Config {
+            position: config.position,
+            state: config.state,
+            mode: match config.mode {
+                0 => zagvirk::Mode::Normal,
+                1 => zagvirk::Mode::Buffering,
+                2 => zagvirk::Mode::Emptying,
+                _ => panic!("one of the three modes"),
+            },
+            start: config.start,
+            end: config.end,
+        };
+        let found = zagvirk::step(&self.proved, self.list, self.word, typed, entry);
+        let found = found.map(|next| next.map(records::Config::from));
+        let judged = self.judged.as_ref();
+        let expected = judged.map(|machine| {
+            reference::moves::step(machine, self.word, config, entry).map(config_of)
+        });
+        assert_eq!(
+            found.map_err(|refusal| refusal.number()),
+            expected.map_err(|refusal| refusal.number)
+        );
+        let found = zagvirk::check_run(&self.proved, self.list, self.word, run);
+        let expected = judged.map(|machine| reference::moves::accepting(machine, self.word, run));
+        assert_eq!(
+            found.map_err(|refusal| refusal.number()),
+            expected.map_err(|refusal| refusal.number)
+        );
+        self.cases += 2;
+    }
+
+    /// Asserts that the calls changed neither list nor word. Returns the number of comparisons made.
+    pub fn finish(self) -> u64 {
+        assert!(
+            self.list_before == self.list,
+            "the list changed\n{}",
+            self.input()
+        );
+        assert!(
+            self.word_before == self.word,
+            "the word changed\n{}",
+            self.input()
+        );
+        assert!(self.proved == record_of(self.record));
+        self.cases
+    }
+
+    /// The input as text for a message.
+    fn input(&self) -> String {
+        let marks = self.record.marks.iter().rposition(|&mark| mark != 0);
+        let marks = &self.record.marks[..marks.map_or(0, |last| last + 1)];
+        format!(
+            "states {} letters {} transitions {} marks {:?}\nlist of {} elements {:?}\nword of {} letters {:?}",
+            self.record.states,
+            self.record.letters,
+            self.record.transitions,
+            marks,
+            self.list.len(),
+            &self.list[..self.list.len().min(300)],
+            self.word.len(),
+            &self.word[..self.word.len().min(300)],
+        )
+    }
+}
+
+/// A machine with up to the given numbers of states and letters, chosen so that copying is frequent: about half start in
+/// a buffering state and end in a matching state.
+pub fn random_machine(rng: &mut Rng, states: usize, letters: usize) -> Machine {
+    let states = 1 + rng.below(states);
+    let letters = rng.below(letters + 1);
+    let mut marks = Vec::new();
+    for _ in 0..states {
+        let role = rng.pick(&[0, 0, 4, 8, 8]);
+        marks.push(role | rng.pick(&[0, 0, 1, 2, 3]));
+    }
+    let last = states - 1;
+    if last > 0 && rng.once_in(2) {
+        marks[0] = 5;
+        marks[last] = 10;
+    } else {
+        marks[0] |= 1;
+        marks[last] |= 2;
+    }
+    let count = rng.below(3 * states * (letters + 1) + 1);
+    let mut transitions = Vec::new();
+    for _ in 0..count {
+        let letter = if rng.once_in(3) {
+            0
+        } else {
+            rng.below(letters + 1)
+        };
+        transitions.push((rng.below(states), letter, rng.below(states)));
+    }
+    Machine::new(letters, &marks, &transitions)
+}
+
+/// A word of at most `longest` letters, often with a part repeated.
+pub fn random_word(rng: &mut Rng, letters: usize, longest: usize) -> Vec<u8> {
+    if letters == 0 {
+        return vec![];
+    }
+    let mut word = Vec::new();
+    let target = rng.below(longest + 1);
+    while word.len() < target {
+        let length = 1 + rng.below(3);
+        let part: Vec<u8> = (0..length).map(|_| 1 + rng.below(letters) as u8).collect();
+        word.extend(&part);
+        if rng.once_in(2) {
+            word.extend(&part);
+        }
+    }
+    word.truncate(target);
+    word
+}

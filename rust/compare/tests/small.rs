@@ -1,0 +1,171 @@
+//! Every machine of one state and every machine of two states over one letter.
+
+use compare::Case;
+use reference::{Config, Machine, Record};
+
+/// The transitions of a machine with `states` states over one letter, in rising order.
+fn universe(states: usize) -> Vec<(usize, usize, usize)> {
+    let mut all = Vec::new();
+    for from in 0..states {
+        for letter in 0..2 {
+            for to in 0..states {
+                all.push((from, letter, to));
+            }
+        }
+    }
+    all
+}
+
+/// All machines with `states` states over one letter whose set of transitions is in `subsets`.
+fn machines(states: usize, subsets: std::ops::Range<usize>) -> Vec<Machine> {
+    let all = universe(states);
+    let good: Vec<u8> = (0..16).filter(|mark| mark & 12 != 12).collect();
+    let mut found = Vec::new();
+    for subset in subsets {
+        let chosen: Vec<_> = (0..all.len())
+            .filter(|bit| subset >> bit & 1 == 1)
+            .map(|bit| all[bit])
+            .collect();
+        for number in 0..good.len().pow(states as u32) {
+            let marks: Vec<u8> = (0..states as u32)
+                .map(|state| good[number / good.len().pow(state) % good.len()])
+                .collect();
+            found.push(Machine::new(1, &marks, &chosen));
+        }
+    }
+    found
+}
+
+/// Entries that name a transition, one that is absent, the three mode changes and the number before them.
+fn entries(record: &Record) -> Vec<u16> {
+    let mut entries: Vec<u16> = (0..=record.transitions as u16).collect();
+    entries.extend([65_532, 65_533, 65_534, 65_535]);
+    entries
+}
+
+/// Compares every move from every configuration whose numbers go one past what is allowed.
+fn every_step(case: &mut Case, record: &Record, length: usize, entries: &[u16]) {
+    let past = length + 1;
+    for position in 0..=past {
+        for state in 0..=record.states {
+            for mode in 0..=3 {
+                for start in 0..=past {
+                    for end in 0..=past {
+                        let config = Config {
+                            position,
+                            state,
+                            mode,
+                            start,
+                            end,
+                        };
+                        for &entry in entries {
+                            case.step(config, entry);
+                        }
+                    }
+                }
+            }
+        }
+    }
+}
+
+/// Compares every run of at most `longest` entries.
+fn every_run(case: &mut Case, run: &mut Vec<u16>, entries: &[u16], longest: usize) {
+    case.check_run(run);
+    if run.len() < longest {
+        for &entry in entries {
+            run.push(entry);
+            every_run(case, run, entries, longest);
+            run.pop();
+        }
+    }
+}
+
+/// Compares every run of at most `longest` entries in which all entries but the last are allowed. Returns the number of
+/// accepting ones.
+fn every_allowed_run(
+    case: &mut Case,
+    run: &mut Vec<u16>,
+    config: Config,
+    entries: &[u16],
+    longest: usize,
+) -> u64 {
+    let mut accepting = u64::from(case.check_run(run));
+    if run.len() == longest {
+        return accepting;
+    }
+    for &entry in entries {
+        run.push(entry);
+        match case.step(config, entry) {
+            Some(next) => accepting += every_allowed_run(case, run, next, entries, longest),
+            None => assert!(!case.check_run(run)),
+        }
+        run.pop();
+    }
+    accepting
+}
+
+fn compare_all(
+    machines: &[Machine],
+    longest_word: usize,
+    word_for_steps: usize,
+    any_run: usize,
+    allowed_run: usize,
+) -> (u64, u64) {
+    let (mut cases, mut accepting) = (0, 0);
+    for machine in machines {
+        let (record, list) = machine.record();
+        let entries = entries(&record);
+        for length in 0..=longest_word {
+            let word = vec![1; length];
+            let mut case = Case::new(&record, &list, &word);
+            if length <= word_for_steps {
+                every_step(&mut case, &record, length, &entries);
+            }
+            case.check_run(&[]);
+            for start in 0..=record.states as u16 {
+                every_run(&mut case, &mut vec![start], &entries, any_run);
+                if machine.has(usize::from(start), reference::INITIAL) {
+                    let config = Config::initial(usize::from(start));
+                    let run = &mut vec![start];
+                    accepting += every_allowed_run(&mut case, run, config, &entries, allowed_run);
+                }
+            }
+            for start in [65_533, 65_534, 65_535] {
+                assert!(!case.check_run(&[start]));
+            }
+            cases += case.finish();
+        }
+    }
+    (cases, accepting)
+}
+
+#[test]
+fn one_state() {
+    let machines = machines(1, 0..4);
+    let (cases, accepting) = compare_all(&machines, 4, 4, 4, 8);
+    println!(
+        "one state, one letter: {} machines, {cases} cases, {accepting} accepting runs",
+        machines.len()
+    );
+}
+
+#[test]
+fn two_states_every_step() {
+    // A move depends on the marks and on its own transition, so the machines with all transitions suffice here.
+    let machines = machines(2, 255..256);
+    let (cases, _) = compare_all(&machines, 3, 3, 1, 1);
+    println!(
+        "two states, one letter, all transitions: {} machines, {cases} cases, nearly all single moves",
+        machines.len()
+    );
+}
+
+#[test]
+fn two_states_every_run() {
+    let machines = machines(2, 0..256);
+    let (cases, accepting) = compare_all(&machines, 3, 0, 2, 7);
+    println!(
+        "two states, one letter: {} machines, {cases} cases, {accepting} accepting runs",
+        machines.len()
+    );
+}

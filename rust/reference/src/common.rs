@@ -1,0 +1,89 @@
+//! A shortest common word of a machine and a plain machine, by trying every word.
+
+use crate::{product, published, Machine, Record, Refusal};
+
+/// The first word of at most `longest` letters, in order of length, that both machines accept.
+pub fn shortest(first: &Machine, second: &Machine, longest: usize) -> Option<Vec<u8>> {
+    let letters = first.letters.min(second.letters) as u8;
+    for length in 0..=longest {
+        if length > 0 && letters == 0 {
+            return None;
+        }
+        let mut word = vec![1; length];
+        loop {
+            let both = published::find_run(second, &word).is_some()
+                && published::find_run(first, &word).is_some();
+            if both {
+                return Some(word);
+            }
+            if !next_word(&mut word, letters) {
+                break;
+            }
+        }
+    }
+    None
+}
+
+/// Puts the next word of the same length in place, or says that there is none.
+pub fn next_word(word: &mut [u8], letters: u8) -> bool {
+    for letter in word.iter_mut().rev() {
+        if *letter < letters {
+            *letter += 1;
+            return true;
+        }
+        *letter = 1;
+    }
+    false
+}
+
+/// The counts of an answer with a common word.
+#[derive(Clone, Copy, PartialEq, Eq, Debug)]
+pub struct Common {
+    /// The number of letters of the word.
+    pub letters: usize,
+    /// The number of entries of the first machine's run.
+    pub first_entries: usize,
+    /// The number of entries of the second machine's run.
+    pub second_entries: usize,
+}
+
+/// The public call of the common-word search: refusals 16, 16, 10, 11, 12, 13, then, if there is a common word,
+/// 18, 17 (first run), 17 (second run). Nothing for "no common word"; here that covers only words of at most
+/// `longest` letters. On a refusal and on "no common word" every slice is unchanged.
+#[allow(clippy::too_many_arguments)]
+pub fn search(
+    first: &Record,
+    first_list: &[u16],
+    second: &Record,
+    second_list: &[u16],
+    word: &mut [u8],
+    first_run: &mut [u16],
+    second_run: &mut [u16],
+    longest: usize,
+) -> Result<Option<Common>, Refusal> {
+    let (first, second) = product::operands(first, first_list, second, second_list)?;
+    let Some(found) = shortest(&first, &second, longest) else {
+        return Ok(None);
+    };
+    let n = found.len();
+    if word.len() < n {
+        return Err(Refusal::too_short(18, n));
+    }
+    let needed = 3 * first.states() * (n + 1);
+    if first_run.len() < needed {
+        return Err(Refusal::too_short(17, needed));
+    }
+    if second_run.len() < n + 1 {
+        return Err(Refusal::too_short(17, n + 1));
+    }
+    let one = published::find_run(&first, &found).expect("the first machine accepts the word");
+    let two = published::find_run(&second, &found).expect("the second machine accepts the word");
+    word[..n].copy_from_slice(&found);
+    first_run[..one.len()].copy_from_slice(&one);
+    second_run[..two.len()].copy_from_slice(&two);
+    Ok(Some(Common {
+        letters: n,
+        first_entries: one.len(),
+        second_entries: two.len(),
+    }))
+}

@@ -1,0 +1,182 @@
+//! Safe calls of the proved library for finite-state buffered machines (FSBMs): finite automata with a buffer that
+//! accept words in which a part is repeated.
+//!
+//! - [`Machine`]: a machine's record. Its transitions stand in a list of 16-bit numbers beside it.
+//! - [`Config`], [`Mode`]: a configuration of a run.
+//! - [`step`]: one move of a run.
+//! - [`check_run`]: whether a run accepts a word.
+//! - [`Refusal`]: why a call turned its input down.
+//! - [`records`]: the same calls with the records as they cross the boundary, for any mode byte.
+//!
+//! # Example
+//!
+//! ```
+//! use zagvirk::{check_run, Machine, BACK_TO_NORMAL, BEGIN_BUFFERING, BEGIN_EMPTYING};
+//!
+//! // Doubled words over letters 1 and 2.
+//! let machine = Machine::new(2, 6, &[5, 0, 10]);
+//! let list = [0, 0, 1, 1, 0, 2, 1, 1, 1, 1, 2, 1, 2, 1, 2, 2, 2, 2];
+//! let run = [0, BEGIN_BUFFERING, 0, 2, 3, 1, BEGIN_EMPTYING, 4, 5, BACK_TO_NORMAL];
+//! assert_eq!(check_run(&machine, &list, &[1, 2, 1, 2], &run), Ok(true));
+//! assert_eq!(check_run(&machine, &list, &[1, 2, 2, 1], &run), Ok(false));
+//! ```
+//!
+//! # Trade-offs
+//!
+//! Each call checks its machine and its word again before it moves, so a loop over [`step`] costs a pass over both for
+//! each entry; [`check_run`] does so once for a whole run. No call allocates or writes.
+
+pub mod records;
+
+pub use records::Machine;
+
+/// Mark of an initial state.
+pub const INITIAL: u8 = 1;
+/// Mark of a final state.
+pub const FINAL: u8 = 2;
+/// Mark of a buffering state.
+pub const BUFFERING: u8 = 4;
+/// Mark of a matching state.
+pub const MATCHING: u8 = 8;
+
+/// Entry of a run: normal mode becomes buffering mode.
+pub const BEGIN_BUFFERING: u16 = 65_533;
+/// Entry of a run: buffering mode becomes emptying mode.
+pub const BEGIN_EMPTYING: u16 = 65_534;
+/// Entry of a run: emptying mode becomes normal mode.
+pub const BACK_TO_NORMAL: u16 = 65_535;
+
+/// The most letters of a word.
+pub const LONGEST_WORD: usize = 1_048_576;
+
+/// The mode of a configuration.
+#[derive(Clone, Copy, PartialEq, Eq, Hash, Debug)]
+#[repr(u8)]
+pub enum Mode {
+    /// Letters are read.
+    Normal = 0,
+    /// Letters are read and stored in the buffer (document 01: storing).
+    Buffering = 1,
+    /// Letters are read and matched with the buffer (document 01: matching).
+    Emptying = 2,
+}
+
+/// A configuration: the position in the word, the state, the mode, and the buffer `word[start..end]`.
+#[derive(Clone, Copy, PartialEq, Eq, Hash, Debug)]
+pub struct Config {
+    pub position: usize,
+    pub state: usize,
+    pub mode: Mode,
+    pub start: usize,
+    pub end: usize,
+}
+
+impl Config {
+    /// Where a run starts: position 0, the given state, normal mode, empty buffer.
+    pub fn initial(state: usize) -> Config {
+        Config {
+            position: 0,
+            state,
+            mode: Mode::Normal,
+            start: 0,
+            end: 0,
+        }
+    }
+}
+
+/// Why a call turned its input down.
+#[derive(Clone, Copy, PartialEq, Eq, Hash, Debug)]
+#[repr(u8)]
+pub enum Refusal {
+    /// A word has letter 0 or a letter above the machine's count.
+    WordLetter = 8,
+    /// A word has more than [`LONGEST_WORD`] letters.
+    WordTooLong = 9,
+    /// The machine and its list break the rules for machines.
+    MachineBroken = 16,
+}
+
+impl Refusal {
+    /// The number of the refusal in document 01.
+    pub fn number(self) -> u8 {
+        self as u8
+    }
+
+    fn from_number(number: u8) -> Option<Refusal> {
+        match number {
+            0 => None,
+            8 => Some(Refusal::WordLetter),
+            9 => Some(Refusal::WordTooLong),
+            16 => Some(Refusal::MachineBroken),
+            _ => unreachable!("the library refuses with 8, 9 or 16 only"),
+        }
+    }
+}
+
+impl std::fmt::Display for Refusal {
+    fn fmt(&self, f: &mut std::fmt::Formatter<'_>) -> std::fmt::Result {
+        let text = match self {
+            Refusal::WordLetter => "a word has letter 0 or a letter above the count",
+            Refusal::WordTooLong => "a word is too long",
+            Refusal::MachineBroken => "a machine and its list break the rules for machines",
+        };
+        write!(f, "refusal {}: {text}", self.number())
+    }
+}
+
+impl std::error::Error for Refusal {}
+
+/// The configuration after one entry, or `None` if the move is not allowed.
+///
+/// Refuses, in this order: [`Refusal::MachineBroken`], [`Refusal::WordTooLong`], [`Refusal::WordLetter`].
+///
+/// No move is allowed from a configuration with a position past the word's end, an absent state, or a buffer that is
+/// not a stretch of the word ending at or before the position (buffering mode: ending at it; normal mode: empty), nor
+/// by an entry that names nothing.
+///
+/// Time: one pass over the machine and the word. Memory: constant.
+pub fn step(
+    machine: &Machine,
+    list: &[u16],
+    word: &[u8],
+    config: Config,
+    entry: u16,
+) -> Result<Option<Config>, Refusal> {
+    let stepped = records::step(machine, list, word, config.into(), entry);
+    match Refusal::from_number(stepped.refusal) {
+        Some(refusal) => Err(refusal),
+        None if stepped.allowed == 1 => Ok(Some(Config {
+            position: stepped.config.position,
+            state: stepped.config.state,
+            mode: match stepped.config.mode {
+                0 => Mode::Normal,
+                1 => Mode::Buffering,
+                _ => Mode::Emptying,
+            },
+            start: stepped.config.start,
+            end: stepped.config.end,
+        })),
+        None => Ok(None),
+    }
+}
+
+/// Whether the run accepts the word. A run is its start state, then one entry a move.
+///
+/// Refuses, in this order: [`Refusal::MachineBroken`], [`Refusal::WordTooLong`], [`Refusal::WordLetter`].
+///
+/// An empty run, a start state that is absent or not initial, and a move that is not allowed make a run that does not
+/// accept.
+///
+/// Time: one pass over the machine, the word and the run. Memory: constant.
+pub fn check_run(
+    machine: &Machine,
+    list: &[u16],
+    word: &[u8],
+    run: &[u16],
+) -> Result<bool, Refusal> {
+    let checked = records::check_run(machine, list, word, run);
+    match Refusal::from_number(checked.refusal) {
+        Some(refusal) => Err(refusal),
+        None => Ok(checked.accepting == 1),
+    }
+}
