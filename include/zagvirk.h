@@ -1,13 +1,18 @@
 /* Calls of the proved library for finite-state buffered machines (FSBMs).
  *
- *   zagvirk_step       one move of a run
- *   zagvirk_check_run  whether a run accepts a word
+ *   zagvirk_step         one move of a run
+ *   zagvirk_check_run    whether a run accepts a word
+ *   zagvirk_read_sheet   a machine from its sheet
+ *   zagvirk_write_sheet  a machine's sheet
+ *   zagvirk_translate    a written word to letters
  *
  * A machine has states numbered from 0 (1 to 64), letters numbered from 1 (0 to 250) and transitions numbered from 0
  * (0 to 4,000). Letter 0 in a transition is epsilon: nothing is read. A word is an array of bytes, one letter each.
  *
- * Link with libexports.a. Both calls only read the arrays given to them; a pointer that goes with a length of 0 must
- * still not be null. Nothing is kept after a call returns, and calls on several threads do not affect one another.
+ * Link with libexports.a. A call only reads the arrays that its prototype marks const. It writes to the front of the
+ * other one and leaves the rest of it as it was; after a refusal, and after the answer no, all of it is as it was. That
+ * array may not overlap with another argument. A pointer that goes with a length of 0 must still not be null. Lengths
+ * are in elements. Nothing is kept after a call returns, and calls on several threads do not affect one another.
  */
 #ifndef ZAGVIRK_H
 #define ZAGVIRK_H
@@ -35,10 +40,27 @@ extern "C" {
 #define ZAGVIRK_BEGIN_EMPTYING 65534
 #define ZAGVIRK_BACK_TO_NORMAL 65535
 
-/* Refusals of the calls below. */
-#define ZAGVIRK_WORD_LETTER 8     /* a word has letter 0 or a letter above the count */
-#define ZAGVIRK_WORD_TOO_LONG 9   /* a word has more than 1,048,576 letters */
-#define ZAGVIRK_MACHINE_BROKEN 16 /* a machine and its list break the rules */
+/* Refusals. With 15 and 17 to 20 a result's field `needed` is the length that the array needs, else it is 0. */
+#define ZAGVIRK_LINE_CUT_SHORT 1        /* fewer bytes are left than the next line takes */
+#define ZAGVIRK_COLUMN_BROKEN 2         /* a column or a line end is not as described */
+#define ZAGVIRK_COUNT_OUT_OF_RANGE 3    /* a count is outside its range */
+#define ZAGVIRK_STATE_BROKEN 4          /* a state number is out of turn, or a mark is not allowed */
+#define ZAGVIRK_TRANSITION_BROKEN 5     /* a transition names a state or a letter that is not there */
+#define ZAGVIRK_NOT_RISING 6            /* transitions do not rise strictly */
+#define ZAGVIRK_BYTES_LEFT 7            /* bytes follow the last line */
+#define ZAGVIRK_WORD_LETTER 8           /* a word has letter 0, a letter above the count, or a byte with no letter */
+#define ZAGVIRK_WORD_TOO_LONG 9         /* a word has too many letters; how many is said at each call */
+#define ZAGVIRK_NOT_PLAIN 10            /* the second machine is not plain */
+#define ZAGVIRK_LETTERS_DIFFER 11       /* the letter counts differ */
+#define ZAGVIRK_TOO_MANY_STATES 12      /* the state counts multiplied exceed 64 */
+#define ZAGVIRK_TOO_MANY_TRANSITIONS 13 /* the product's transitions exceed 4,000 */
+#define ZAGVIRK_NOT_ACCEPTING 14        /* copies are wanted of a run that does not accept */
+#define ZAGVIRK_LIST_TOO_SHORT 15       /* the array for transitions is too short */
+#define ZAGVIRK_MACHINE_BROKEN 16       /* a machine and its list break the rules */
+#define ZAGVIRK_RUN_TOO_SHORT 17        /* the array for a run is too short */
+#define ZAGVIRK_WORD_TOO_SHORT 18       /* the array for a word is too short */
+#define ZAGVIRK_SHEET_TOO_SHORT 19      /* the array for a sheet is too short */
+#define ZAGVIRK_COPIES_TOO_SHORT 20     /* the array for copies is too short */
 
 /* A machine's record. marks[i] is the mark of state i; marks past the last state are 0.
  *
@@ -102,6 +124,61 @@ zagvirk_stepped zagvirk_step(zagvirk_machine machine, const uint16_t *list, size
  */
 zagvirk_checked zagvirk_check_run(zagvirk_machine machine, const uint16_t *list, size_t list_len, const uint8_t *word,
                                   size_t word_len, const uint16_t *run, size_t run_len);
+
+/* Sheets. */
+
+/* The result of zagvirk_read_sheet. After a refusal every field of machine is 0. */
+typedef struct {
+  uint8_t refusal; /* 0, 1 to 7 or 15 */
+  size_t needed;
+  zagvirk_machine machine;
+} zagvirk_sheet_read;
+
+/* The result of zagvirk_write_sheet. bytes is the number of bytes written, 0 after a refusal. */
+typedef struct {
+  uint8_t refusal; /* 0, 16 or 19 */
+  size_t needed;
+  size_t bytes;
+} zagvirk_sheet_written;
+
+/* The machine of a sheet; its transitions are written to the front of list, three elements each.
+ *
+ * A sheet has decimal numbers in columns of five bytes, right-justified, padded on the left with spaces, without
+ * leading zeros; every line ends with byte 10. Line one: states, letters, transitions. Then a line for each state: its
+ * number and mark. Then a line for each transition: from, letter, to.
+ *
+ * Refuses at the first fault in reading order, in each line in this order: 1, 2, then 3 (line one), 4 (a state's line)
+ * or 5 (a transition's line), then 6; after all lines 7, then 15.
+ *
+ * Time: in proportion to the sheet's bytes. Memory: constant.
+ */
+zagvirk_sheet_read zagvirk_read_sheet(const uint8_t *sheet, size_t sheet_len, uint16_t *list, size_t list_len);
+
+/* Writes the machine's sheet to the front of sheet: 16 + 11 x states + 16 x transitions bytes, 64,720 at most.
+ *
+ * Refuses, in this order: 16, 19.
+ *
+ * Time: in proportion to the sheet's bytes. Memory: constant.
+ */
+zagvirk_sheet_written zagvirk_write_sheet(zagvirk_machine machine, const uint16_t *list, size_t list_len,
+                                          uint8_t *sheet, size_t sheet_len);
+
+/* Written words. */
+
+/* The result of zagvirk_translate. letters is the number of letters written, 0 after a refusal. */
+typedef struct {
+  uint8_t refusal; /* 0, 9, 8 or 18 */
+  size_t needed;
+  size_t letters;
+} zagvirk_translated;
+
+/* Writes a letter for each byte to the front of word: a to z are 1 to 26, hyphen is 27, apostrophe 28.
+ *
+ * Refuses, in this order: 9 over 255 bytes, 8 if a byte has no letter, 18.
+ *
+ * Time: one pass over the bytes. Memory: constant.
+ */
+zagvirk_translated zagvirk_translate(const uint8_t *bytes, size_t bytes_len, uint8_t *word, size_t word_len);
 
 #ifdef __cplusplus
 }

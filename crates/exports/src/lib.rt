@@ -1,2 +1,3 @@
 // The library for C and Rust: each function is a thin call of a proved one. include/zagvirk.h has the prototypes.
 pub mod run;
+pub mod sheets;

@@ -1,10 +1,18 @@
 -- The definitions of specs/Answers.antt case by case, over plain variables: what each way through a function gives.
-use Prim.Native.Nat.{ℕ}
+--
+-- step-refused, step-moved, check-refused, check-tried == the ways through Config::step and check_run
+-- table-good == what no refusal says of a table and a word
+use Prim.Native.Nat.{ℕ, _≤_}
 use mathlib.Core.Path.{_≡_, refl, sym, _∙_, ap}
 use mathlib.Core.Bool.{Bool, true, false}
 use mathlib.Core.List.{List}
-use lib.Dec.{eqb}
-use borrow.Author.Tests.{eq-eqb, ne-eqb}
+use mathlib.Core.Logic.{_⊎_, inl, inr}
+use native.Mathlib.Omega.{arith}
+use lib.ListN.{length}
+use lib.Dec.{leb, eqb}
+use borrow.Author.Tests.{eq-eqb, ne-eqb, leb-true}
+use Rattle.graphs.specs.Search.Laws.{true-or-false}
+use Rattle.fsbm.specs.Machine.{wellFormed}
 use Rattle.graphs.specs.Search.Loops.{first, second}
 use Rattle.fsbm.specs.declared.machine.Machine.{Machine}
 use Rattle.fsbm.specs.declared.config.Config.{Config}
@@ -39,3 +47,14 @@ module _ (m : Machine) (list w : List ℕ) (n : ℕ) (at-n : n ≡ tableAndWord 
   pub check-tried : (run : List ℕ) → n ≡ 0 → (b : Bool) → b ≡ accepting m list w run → checkedBy b ≡ checkAnswer m list w run
   unfolding checkAnswer
   check-tried run h b at-b = first _ (no-refusal h) (ap checkedBy at-b)
+
+-- a table and a word that no test refuses
+pub table-good : (longest : ℕ) (m : Machine) (list w : List ℕ) → tableAndWord longest m list w ≡ 0 → (wellFormed m list ≡ true) × (length w ≤ longest)
+unfolding tableAndWord
+table-good longest m list w e = at (true-or-false (wellFormed m list)) (true-or-false (leb (length w) longest))
+  where
+    at : (wellFormed m list ≡ true) ⊎ (wellFormed m list ≡ false) → (leb (length w) longest ≡ true) ⊎ (leb (length w) longest ≡ false)
+        → (wellFormed m list ≡ true) × (length w ≤ longest)
+    at (inr f) l = absurd (let d = second {r = 16} _ f refl ∙ e in omega arith)
+    at (inl t) (inr f) = absurd (let d = first {r = 9} _ t (second _ f refl) ∙ e in omega arith)
+    at (inl t) (inl l) = (t, leb-true (length w) longest l)

@@ -11,7 +11,7 @@ enum Mode {
 }
 
 /// Whether the machine and its list keep the rules.
-fn keeps_rules(machine: &Machine, list: &[u16]) -> bool {
+pub fn keeps_rules(machine: &Machine, list: &[u16]) -> bool {
     let Machine {
         states,
         letters,

@@ -1,6 +1,8 @@
 //! Comparison of the proved calls with the reference. The functions here make one comparison each; the tests choose
 //! the inputs and print how many cases they compared.
 
+pub mod c;
+
 use reference::{Machine, Record, Refusal};
 use zagvirk::records;
 
@@ -37,6 +39,24 @@ impl Rng {
         choices[self.below(choices.len())]
     }
 }
+
+/// What a lent slice of 16-bit numbers holds before a call: numbers that no call writes.
+pub fn filled(length: usize) -> Vec<u16> {
+    (0..length).map(|i| 40_000 + (i % 9_973) as u16).collect()
+}
+
+/// What a lent slice of bytes holds before a call: bytes that no call writes.
+pub fn filled_bytes(length: usize) -> Vec<u8> {
+    (0..length).map(|i| 129 + (i % 113) as u8).collect()
+}
+
+/// The machine of a result after a refusal.
+pub const NO_MACHINE: zagvirk::Machine = zagvirk::Machine {
+    states: 0,
+    letters: 0,
+    transitions: 0,
+    marks: [0; 64],
+};
 
 /// The record for the proved calls.
 pub fn record_of(record: &Record) -> zagvirk::Machine {
@@ -217,6 +237,43 @@ impl<'a> Case<'a> {
             &self.word[..self.word.len().min(300)],
         )
     }
+}
+
+/// The machine's record and list with one rule of "The table" broken, or now and then none.
+pub fn break_a_rule(rng: &mut Rng, machine: &Machine) -> (Record, Vec<u16>) {
+    let (mut record, mut list) = machine.record();
+    let count = record.transitions;
+    match rng.below(10) {
+        0 => record.states = rng.pick(&[0, 65, 256, 65_537, usize::MAX]),
+        1 => record.letters = rng.pick(&[251, 256, 65_536, usize::MAX]),
+        2 => record.transitions = rng.pick(&[4001, count + 1, usize::MAX / 3 + 1, usize::MAX]),
+        3 => record.marks[rng.below(record.states)] = rng.pick(&[12, 13, 14, 15, 16, 32, 255]),
+        4 if record.states < 64 => {
+            let past = record.states + rng.below(64 - record.states);
+            record.marks[past] = rng.pick(&[1, 2, 4, 8, 16]);
+        }
+        5 if count > 0 => list.truncate(3 * count - 1 - rng.below(3)),
+        6 if count > 0 => {
+            let at = 3 * rng.below(count) + rng.pick(&[0, 2]);
+            list[at] = rng.pick(&[record.states as u16, 64, 256, 65_535]);
+        }
+        7 if count > 0 => {
+            let at = 3 * rng.below(count) + 1;
+            list[at] = rng.pick(&[record.letters as u16 + 1, 251, 256, 65_535]);
+        }
+        8 if count > 1 => {
+            let at = 3 + 3 * rng.below(count - 1);
+            list.copy_within(at - 3..at, at);
+        }
+        9 if count > 1 => {
+            let at = 3 + 3 * rng.below(count - 1);
+            for i in 0..3 {
+                list.swap(at + i, at - 3 + i);
+            }
+        }
+        _ => {}
+    }
+    (record, list)
 }
 
 /// A machine with up to the given numbers of states and letters, chosen so that copying is frequent: about half start in

@@ -1,28 +1,7 @@
 //! The C header: it compiles as it is, and a C program that includes it links the archive and gets the right answers.
 
-use std::path::{Path, PathBuf};
+use compare::c::{program, repository, run, STRICT};
 use std::process::Command;
-
-fn repository() -> PathBuf {
-    Path::new(env!("CARGO_MANIFEST_DIR")).join("../..")
-}
-
-/// Runs the command and asserts that it succeeds without a word on standard error.
-fn run(command: &mut Command) -> String {
-    let output = command
-        .output()
-        .unwrap_or_else(|e| panic!("{command:?}: {e}"));
-    let errors = String::from_utf8_lossy(&output.stderr);
-    assert!(
-        output.status.success(),
-        "{command:?}: {}\n{errors}",
-        output.status
-    );
-    assert!(errors.is_empty(), "{errors}");
-    String::from_utf8_lossy(&output.stdout).into_owned()
-}
-
-const STRICT: [&str; 4] = ["-Wall", "-Wextra", "-Werror", "-pedantic"];
 
 #[test]
 fn header_alone() {
@@ -43,17 +22,7 @@ fn header_alone() {
 
 #[test]
 fn c_program() {
-    let program = Path::new(env!("CARGO_TARGET_TMPDIR")).join("table_t");
-    run(Command::new("cc")
-        .arg("-std=c99")
-        .args(STRICT)
-        .arg("-I")
-        .arg(repository().join("include"))
-        .arg(Path::new(env!("CARGO_MANIFEST_DIR")).join("tests/c/table_t.c"))
-        .arg(Path::new(env!("EXPORTS_FOLDER")).join("libexports.a"))
-        .arg("-o")
-        .arg(&program));
-    let printed = run(&mut Command::new(&program));
+    let printed = program("table_t", env!("CARGO_TARGET_TMPDIR"));
     assert_eq!(printed, "both calls answer right from C\n");
     print!("{printed}");
 }

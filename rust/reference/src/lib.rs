@@ -8,6 +8,7 @@
 //! - [`Refusal`]: the number of a refusal and the length a slice needs.
 //! - [`moves`]: the one-entry move with the buffer as a stretch of the word, and the run checker.
 //! - [`published`]: configurations with strings, the relation "yields", recognition by breadth-first search.
+//! - [`shortest`]: recognition of long words, with the shortest run that comes first in order of its entries.
 //! - [`sheet`]: reader and writer of sheets.
 //! - [`spelling`]: written words to letters.
 //! - [`product`]: the joined machine.
@@ -41,6 +42,7 @@ pub mod product;
 pub mod published;
 mod refusal;
 pub mod sheet;
+pub mod shortest;
 pub mod spelling;
 mod word;
 

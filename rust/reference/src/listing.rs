@@ -1,6 +1,6 @@
 //! The listing program as a function.
 
-use crate::{check_word, published, sheet, Machine, Refusal, LONGEST_RECOGNIZED};
+use crate::{check_word, published, sheet, shortest, Machine, Refusal, LONGEST_RECOGNIZED};
 
 /// The first line of a listing.
 pub const HEADER: &str = "  NO.  ANS  REF\n";
@@ -61,5 +61,10 @@ fn judge(machine: &Machine, line: &[u8]) -> Result<bool, Refusal> {
     }
     let word: Vec<u8> = numbers.iter().map(|&number| number as u8).collect();
     check_word(machine, &word, LONGEST_RECOGNIZED)?;
-    Ok(published::find_run(machine, &word).is_some())
+    // The search by the definition is too slow for long words.
+    let run = match word.len() {
+        0..=12 => published::find_run(machine, &word),
+        _ => shortest::find_run(machine, &word),
+    };
+    Ok(run.is_some())
 }

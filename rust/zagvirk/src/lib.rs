@@ -5,8 +5,10 @@
 //! - [`Config`], [`Mode`]: a configuration of a run.
 //! - [`step`]: one move of a run.
 //! - [`check_run`]: whether a run accepts a word.
+//! - [`sheet`]: reading and writing of sheets, the text form of a machine.
+//! - [`spelling`]: written words to letters.
 //! - [`Refusal`]: why a call turned its input down.
-//! - [`records`]: the same calls with the records as they cross the boundary, for any mode byte.
+//! - [`records`]: `step` and `check_run` with the records as they cross the boundary, for any mode byte.
 //!
 //! # Example
 //!
@@ -24,11 +26,16 @@
 //! # Trade-offs
 //!
 //! Each call checks its machine and its word again before it moves, so a loop over [`step`] costs a pass over both for
-//! each entry; [`check_run`] does so once for a whole run. No call allocates or writes.
+//! each entry; [`check_run`] does so once for a whole run. No call allocates. A call that writes does so only to the
+//! slice it takes as `&mut`: on success at its front, on a refusal nowhere.
 
 pub mod records;
+mod refusal;
+pub mod sheet;
+pub mod spelling;
 
 pub use records::Machine;
+pub use refusal::Refusal;
 
 /// Mark of an initial state.
 pub const INITIAL: u8 = 1;
@@ -46,7 +53,7 @@ pub const BEGIN_EMPTYING: u16 = 65_534;
 /// Entry of a run: emptying mode becomes normal mode.
 pub const BACK_TO_NORMAL: u16 = 65_535;
 
-/// The most letters of a word.
+/// The most letters of a word to check a run on.
 pub const LONGEST_WORD: usize = 1_048_576;
 
 /// The mode of a configuration.
@@ -84,48 +91,6 @@ impl Config {
     }
 }
 
-/// Why a call turned its input down.
-#[derive(Clone, Copy, PartialEq, Eq, Hash, Debug)]
-#[repr(u8)]
-pub enum Refusal {
-    /// A word has letter 0 or a letter above the machine's count.
-    WordLetter = 8,
-    /// A word has more than [`LONGEST_WORD`] letters.
-    WordTooLong = 9,
-    /// The machine and its list break the rules for machines.
-    MachineBroken = 16,
-}
-
-impl Refusal {
-    /// The number of the refusal in document 01.
-    pub fn number(self) -> u8 {
-        self as u8
-    }
-
-    fn from_number(number: u8) -> Option<Refusal> {
-        match number {
-            0 => None,
-            8 => Some(Refusal::WordLetter),
-            9 => Some(Refusal::WordTooLong),
-            16 => Some(Refusal::MachineBroken),
-            _ => unreachable!("the library refuses with 8, 9 or 16 only"),
-        }
-    }
-}
-
-impl std::fmt::Display for Refusal {
-    fn fmt(&self, f: &mut std::fmt::Formatter<'_>) -> std::fmt::Result {
-        let text = match self {
-            Refusal::WordLetter => "a word has letter 0 or a letter above the count",
-            Refusal::WordTooLong => "a word is too long",
-            Refusal::MachineBroken => "a machine and its list break the rules for machines",
-        };
-        write!(f, "refusal {}: {text}", self.number())
-    }
-}
-
-impl std::error::Error for Refusal {}
-
 /// The configuration after one entry, or `None` if the move is not allowed.
 ///
 /// Refuses, in this order: [`Refusal::MachineBroken`], [`Refusal::WordTooLong`], [`Refusal::WordLetter`].
@@ -143,7 +108,7 @@ pub fn step(
     entry: u16,
 ) -> Result<Option<Config>, Refusal> {
     let stepped = records::step(machine, list, word, config.into(), entry);
-    match Refusal::from_number(stepped.refusal) {
+    match Refusal::of(stepped.refusal, 0) {
         Some(refusal) => Err(refusal),
         None if stepped.allowed == 1 => Ok(Some(Config {
             position: stepped.config.position,
@@ -175,7 +140,7 @@ pub fn check_run(
     run: &[u16],
 ) -> Result<bool, Refusal> {
     let checked = records::check_run(machine, list, word, run);
-    match Refusal::from_number(checked.refusal) {
+    match Refusal::of(checked.refusal, 0) {
         Some(refusal) => Err(refusal),
         None => Ok(checked.accepting == 1),
     }

@@ -1,0 +1,259 @@
+-- What the rise of the list gives, and which transitions an index names.
+--
+-- Sorted m list     == what the laws use of wellFormed: the counts, the names, the rise
+-- sorted            == wellFormed says it
+-- from-rises        == a later transition leaves no lower state
+-- letter-rises      == a later transition of the same state has no lower letter
+-- leaves            == the transitions that leave q are those from first[q] up to first[q + 1]
+-- group-rises       == within them the letters do not fall
+-- zeros-at          == a list of zeros has a 0 everywhere
+-- Built              == the part of an index that a loop has built; built-start, built-turn, built-index: it begins, one turn, it ends
+use Prim.Native.Nat.{ℕ, zero, suc, _+_, _*_, _-_, _≤_, _<_}
+use mathlib.Core.Path.{_≡_, refl, sym, ap, _∙_, subst}
+use mathlib.Core.Logic.{_↔_, _⊎_, inl, inr}
+use mathlib.Core.Bool.{Bool, true, false, cond, not, _&&_, _||_, false≢true}
+use mathlib.Core.List.{List}
+use native.Mathlib.Omega.{arith}
+use native.Mathlib.Decide.{decLe, decLt, ℕ-discrete}
+use lib.ListN.{length, getD, set, length-set, replicate, length-replicate}
+use lib.Seq.{getD-set-same, getD-set-other}
+use lib.Dec.{leb, ltb, eqb}
+use borrow.Author.Tests.{leb-true, ltb-true, eqb-true, eqb-false, eq-eqb}
+use Rattle.graphs.specs.Search.{allBelow}
+use Rattle.graphs.specs.Search.Laws.{and-true, true-or-false, allBelow-true, or-true}
+use Rattle.fsbm.specs.Machine.{wellFormed, goodMark, named, precedes, goodTransition, transitionAt, maxStates, maxLetters, maxTransitions}
+use Rattle.fsbm.specs.declared.machine.Machine.{Machine}
+use Rattle.fsbm.specs.declared.machine.Transition.{Transition}
+use Rattle.adjacency.specs.Index.{column, Sought, Index}
+
+pub record Sorted (m : Machine) (list : List ℕ) : Type 0 where
+  pub some-state : 1 ≤ m .states
+  pub states-fit : m .states ≤ 64
+  pub letters-fit : m .letters ≤ 250
+  pub transitions-fit : m .transitions ≤ 4000
+  pub list-fits : m .transitions * 3 ≤ length list
+  pub marks-good : (q : ℕ) → q < 64 → goodMark m q ≡ true
+  pub from-below : (k : ℕ) → k < m .transitions → transitionAt list k .from < m .states
+  pub letter-below : (k : ℕ) → k < m .transitions → transitionAt list k .letter ≤ m .letters
+  pub to-below : (k : ℕ) → k < m .transitions → transitionAt list k .to < m .states
+  pub rises : (k : ℕ) → suc k < m .transitions → precedes (transitionAt list k) (transitionAt list (suc k)) ≡ true
+
+record Good (m : Machine) (list : List ℕ) (k : ℕ) : Type 0 where
+  from : transitionAt list k .from < m .states
+  letter : transitionAt list k .letter ≤ m .letters
+  to : transitionAt list k .to < m .states
+  after : (eqb k 0 || precedes (transitionAt list (k - 1)) (transitionAt list k)) ≡ true
+
+good-says : (m : Machine) (list : List ℕ) (k : ℕ) → goodTransition (m .states) (m .letters) list k ≡ true → Good m list k
+good-says m list k h =
+    let t = transitionAt list k in
+    let (n, after) = and-true (named (m .states) (m .letters) t) (eqb k 0 || precedes (transitionAt list (k - 1)) t) h in
+    let (from, rest) = and-true (ltb (t .from) (m .states)) (leb (t .letter) (m .letters) && ltb (t .to) (m .states)) n in
+    let (letter, to) = and-true (leb (t .letter) (m .letters)) (ltb (t .to) (m .states)) rest in
+    record {
+      from = ltb-true (t .from) (m .states) from;
+      letter = leb-true (t .letter) (m .letters) letter;
+      to = ltb-true (t .to) (m .states) to;
+      after = after;
+    }
+
+good-rises : (m : Machine) (list : List ℕ) (k : ℕ) → Good m list (suc k) → precedes (transitionAt list k) (transitionAt list (suc k)) ≡ true
+good-rises m list k g = at (or-true (eqb (suc k) 0) (precedes (transitionAt list (suc k - 1)) (transitionAt list (suc k))) (g .after))
+  where
+    at : (eqb (suc k) 0 ≡ true) ⊎ (precedes (transitionAt list (suc k - 1)) (transitionAt list (suc k)) ≡ true) → precedes (transitionAt list k) (transitionAt list (suc k)) ≡ true
+    at (inl z) = let e = eqb-true (suc k) 0 z in absurd (omega arith)
+    at (inr t) = let e : suc k - 1 ≡ k = omega arith in subst (λ (j : ℕ). precedes (transitionAt list j) (transitionAt list (suc k)) ≡ true) e t
+
+pub sorted : (m : Machine) (list : List ℕ) → wellFormed m list ≡ true → Sorted m list
+unfolding wellFormed
+sorted m list h =
+    let good = goodTransition (m .states) (m .letters) list in
+    let all = allBelow maxStates (goodMark m) && allBelow (m .transitions) good in
+    let enough = leb (m .transitions * 3) (length list) in
+    let few = leb (m .transitions) maxTransitions in
+    let letters = leb (m .letters) maxLetters in
+    let (a, r₁) = and-true (leb 1 (m .states)) (leb (m .states) maxStates && (letters && (few && (enough && all)))) h in
+    let (b, r₂) = and-true (leb (m .states) maxStates) (letters && (few && (enough && all))) r₁ in
+    let (c, r₃) = and-true letters (few && (enough && all)) r₂ in
+    let (d, r₄) = and-true few (enough && all) r₃ in
+    let (e, r₅) = and-true enough all r₄ in
+    let (marks, moves) = and-true (allBelow maxStates (goodMark m)) (allBelow (m .transitions) good) r₅ in
+    let each : (k : ℕ) → k < m .transitions → Good m list k = λ k lt. good-says m list k (allBelow-true good (m .transitions) .0 moves k lt) in
+    record {
+      some-state = leb-true 1 (m .states) a;
+      states-fit = leb-true (m .states) maxStates b;
+      letters-fit = leb-true (m .letters) maxLetters c;
+      transitions-fit = leb-true (m .transitions) maxTransitions d;
+      list-fits = leb-true (m .transitions * 3) (length list) e;
+      marks-good = allBelow-true (goodMark m) maxStates .0 marks;
+      from-below = λ k lt. each k lt .from;
+      letter-below = λ k lt. each k lt .letter;
+      to-below = λ k lt. each k lt .to;
+      rises = λ k lt. good-rises m list k (each (suc k) lt);
+    }
+
+-- The rise
+
+precedes-says : (s t : Transition) → precedes s t ≡ true → (s .from ≤ t .from) × (s .from ≡ t .from → s .letter ≤ t .letter)
+precedes-says s t h = at (true-or-false (eqb (s .from) (t .from))) (true-or-false (eqb (s .letter) (t .letter)))
+  where
+    at : (eqb (s .from) (t .from) ≡ true) ⊎ (eqb (s .from) (t .from) ≡ false) → (eqb (s .letter) (t .letter) ≡ true) ⊎ (eqb (s .letter) (t .letter) ≡ false)
+        → (s .from ≤ t .from) × (s .from ≡ t .from → s .letter ≤ t .letter)
+    at (inl e) (inl l) =
+        let same = eqb-true (s .from) (t .from) e in
+        let letter = eqb-true (s .letter) (t .letter) l in
+        (omega arith, λ z. omega arith)
+    at (inl e) (inr l) =
+        let same = eqb-true (s .from) (t .from) e in
+        let less = ltb-true (s .letter) (t .letter) (rw (e, l) at h) in
+        (omega arith, λ z. omega arith)
+    at (inr n) l =
+        let less = ltb-true (s .from) (t .from) (rw n at h) in
+        (omega arith, λ (z : s .from ≡ t .from). absurd (omega arith))
+
+-- the index of the states below q, where the transitions below k are those that leave a state below q
+pub record Built (m : Machine) (list first : List ℕ) (k q : ℕ) : Type 0 where
+  pub size : length first ≡ 65
+  pub at-most : k ≤ m .transitions
+  pub bound : q ≤ m .states + 1
+  pub passed : (t : ℕ) → t < k → transitionAt list t .from < q
+  pub within : (p : ℕ) → p < q → getD first p 0 ≤ m .transitions
+  pub below : (p t : ℕ) → p < q → t < m .transitions → (t < getD first p 0) ↔ (transitionAt list t .from < p)
+  pub past : (p : ℕ) → q ≤ p → getD first p 0 ≡ 0
+
+pub zeros-at : (n p : ℕ) → _≡_ {A = ℕ} (getD (replicate n 0) p 0) 0
+zeros-at zero p = refl
+zeros-at (suc n) zero = refl
+zeros-at (suc n) (suc p) = zeros-at n p
+
+module _ (m : Machine) (list : List ℕ) (s : Sorted m list) where
+  rises-by : (i d : ℕ) → i + d < m .transitions
+      → (transitionAt list i .from ≤ transitionAt list (i + d) .from) × (transitionAt list i .from ≡ transitionAt list (i + d) .from → transitionAt list i .letter ≤ transitionAt list (i + d) .letter)
+  rises-by i zero h =
+      let e : i ≡ i + 0 = omega arith in
+      subst (λ (k : ℕ). (transitionAt list i .from ≤ transitionAt list k .from) × (transitionAt list i .from ≡ transitionAt list k .from → transitionAt list i .letter ≤ transitionAt list k .letter)) e (omega arith, λ z. omega arith)
+  rises-by i (suc d) h =
+      let (from, letter) = rises-by i d (omega arith) in
+      let (more, next) = precedes-says (transitionAt list (i + d)) (transitionAt list (suc (i + d))) (s .rises (i + d) (omega arith)) in
+      let e : suc (i + d) ≡ i + suc d = omega arith in
+      subst (λ (k : ℕ). (transitionAt list i .from ≤ transitionAt list k .from) × (transitionAt list i .from ≡ transitionAt list k .from → transitionAt list i .letter ≤ transitionAt list k .letter)) e
+      (omega arith, λ (z : transitionAt list i .from ≡ transitionAt list (suc (i + d)) .from). let a = letter (omega arith) in let b = next (omega arith) in omega arith)
+
+  rises-to : (i j : ℕ) → i ≤ j → j < m .transitions
+      → (transitionAt list i .from ≤ transitionAt list j .from) × (transitionAt list i .from ≡ transitionAt list j .from → transitionAt list i .letter ≤ transitionAt list j .letter)
+  rises-to i j le lt =
+      let e : i + (j - i) ≡ j = omega arith in
+      subst (λ (k : ℕ). (transitionAt list i .from ≤ transitionAt list k .from) × (transitionAt list i .from ≡ transitionAt list k .from → transitionAt list i .letter ≤ transitionAt list k .letter)) e
+      (rises-by i (j - i) (omega arith))
+
+  pub from-rises : (i j : ℕ) → i ≤ j → j < m .transitions → transitionAt list i .from ≤ transitionAt list j .from
+  from-rises i j le lt = rises-to i j le lt .0
+
+  pub letter-rises : (i j : ℕ) → i ≤ j → j < m .transitions → transitionAt list i .from ≡ transitionAt list j .from → transitionAt list i .letter ≤ transitionAt list j .letter
+  letter-rises i j le lt same = rises-to i j le lt .1 same
+
+  -- The index
+
+  module _ (first : List ℕ) (x : Index m list first) where
+    pub leaves : (q k : ℕ) → q < m .states → ((getD first q 0 ≤ k) × (k < getD first (q + 1) 0)) ↔ ((k < m .transitions) × (transitionAt list k .from ≡ q))
+    leaves q k lt = (
+      λ (h : (getD first q 0 ≤ k) × (k < getD first (q + 1) 0)).
+          let inside : k < m .transitions = omega (arith, x .within (q + 1) (omega arith)) in
+          let next = x .below (q + 1) k (omega arith) inside .0 (h .1) in
+          (inside, not-below k inside (h .0) next),
+      λ (h : (k < m .transitions) × (transitionAt list k .from ≡ q)).
+          (above k (h .0) (h .1), x .below (q + 1) k (omega arith) (h .0) .1 (omega arith)),
+    )
+      where
+        not-below : (k : ℕ) → k < m .transitions → getD first q 0 ≤ k → transitionAt list k .from < q + 1 → transitionAt list k .from ≡ q
+        not-below k inside ge le = at (decLt (transitionAt list k .from) q)
+          where
+            at : Dec (transitionAt list k .from < q) → transitionAt list k .from ≡ q
+            at (yes l) = let z = x .below q k (omega arith) inside .1 l in absurd (omega arith)
+            at (no n) = omega arith
+
+        above : (k : ℕ) → k < m .transitions → transitionAt list k .from ≡ q → getD first q 0 ≤ k
+        above k inside e = at (decLt k (getD first q 0))
+          where
+            at : Dec (k < getD first q 0) → getD first q 0 ≤ k
+            at (yes l) = let z = x .below q k (omega arith) inside .0 l in absurd (omega arith)
+            at (no n) = omega arith
+
+    pub group-rises : (q i j : ℕ) → q < m .states → getD first q 0 ≤ i → i ≤ j → j < getD first (q + 1) 0 → transitionAt list i .letter ≤ transitionAt list j .letter
+    group-rises q i j lt lo le hi =
+        let (a, f) = leaves q i lt .0 (omega arith, omega arith) in
+        let (b, g) = leaves q j lt .0 (omega arith, hi) in
+        letter-rises i j le b (f ∙ sym g)
+
+  -- Building it
+
+  pub built-start : Built m list (replicate 65 0) 0 0
+  built-start =
+      record {
+        size = refl;
+        at-most = omega arith;
+        bound = omega arith;
+        passed = λ t (lt : t < 0). absurd (omega arith);
+        within = λ p (lt : p < 0). absurd (omega arith);
+        below = λ p t (lt : p < 0) z. absurd (omega arith);
+        past = λ p le. zeros-at 65 p;
+      }
+
+  from-column : (k : ℕ) → column list 0 k ≡ transitionAt list k .from
+  from-column k = ap (λ (n : ℕ). getD list n 0) (let e : k * 3 + 0 ≡ k * 3 = omega arith in e)
+
+  pub built-turn : (first : List ℕ) (k q r : ℕ) → Built m list first k q → q ≤ m .states → Sought list 0 k (m .transitions) q r → Built m list (set first q r) r (q + 1)
+  built-turn first k q r b le found =
+      record {
+        size = length-set first q r ∙ b .size;
+        at-most = found .within;
+        bound = omega arith;
+        passed = λ (t : ℕ) (lt : t < r). let z = passes t lt in omega arith;
+        within = λ (p : ℕ) (lt : p < q + 1). bounds p (ℕ-discrete p q) lt;
+        below = λ (p : ℕ) (t : ℕ) (lt : p < q + 1) (l : t < m .transitions). belows p t (ℕ-discrete p q) lt l;
+        past = λ (p : ℕ) (le : q + 1 ≤ p). getD-set-other first q p r 0 (λ (e : p ≡ q). absurd (omega arith)) ∙ b .past p (omega arith);
+      }
+    where
+      room : q < length first
+      room = let z = b .size in let f = s .states-fit in omega arith
+
+      passes : (t : ℕ) → t < r → transitionAt list t .from < q
+      passes t lt = at (decLt t k)
+        where
+          at : Dec (t < k) → transitionAt list t .from < q
+          at (yes l) = b .passed t l
+          at (no n) = let z = found .before t (omega arith) lt in let c = from-column t in omega arith
+
+      stops : (t : ℕ) → r ≤ t → t < m .transitions → q ≤ transitionAt list t .from
+      stops t ge lt = let z = found .found (omega arith) in let c = from-column r in let u = from-rises r t ge lt in omega arith
+
+      bounds : (p : ℕ) → Dec (p ≡ q) → p < q + 1 → getD (set first q r) p 0 ≤ m .transitions
+      bounds p (yes e) lt =
+          let v = found .within in
+          let z : getD (set first q r) p 0 ≡ r = subst (λ (n : ℕ). getD (set first q r) n 0 ≡ r) (sym e) (getD-set-same first q r 0 room) in
+          omega arith
+      bounds p (no n) lt = let z = getD-set-other first q p r 0 n in let v = b .within p (omega arith) in omega arith
+
+      belows : (p t : ℕ) → Dec (p ≡ q) → p < q + 1 → t < m .transitions → (t < getD (set first q r) p 0) ↔ (transitionAt list t .from < p)
+      belows p t (yes e) lt l =
+          let z : getD (set first q r) p 0 ≡ r = subst (λ (n : ℕ). getD (set first q r) n 0 ≡ r) (sym e) (getD-set-same first q r 0 room) in (
+            λ (h : t < getD (set first q r) p 0). let y = passes t (omega arith) in omega arith,
+            λ (h : transitionAt list t .from < p). at z h (decLt t r),
+          )
+        where
+          at : getD (set first q r) p 0 ≡ r → transitionAt list t .from < p → Dec (t < r) → t < getD (set first q r) p 0
+          at z h (yes y) = omega arith
+          at z h (no n) = let y = stops t (omega arith) l in absurd (omega arith)
+      belows p t (no n) lt l =
+          let z = getD-set-other first q p r 0 n in
+          let old = b .below p t (omega arith) l in
+          (λ (h : t < getD (set first q r) p 0). old .0 (omega arith), λ (h : transitionAt list t .from < p). let y = old .1 h in omega arith)
+
+  pub built-index : (first : List ℕ) (k q : ℕ) → Built m list first k q → m .states < q → Index m list first
+  built-index first k q b lt =
+      record {
+        size = b .size;
+        within = λ p le. b .within p (omega arith);
+        below = λ p t le l. b .below p t (omega arith) l;
+        past = λ p le. b .past p (omega arith);
+      }

@@ -1,0 +1,71 @@
+-- How one column is read and written: a decimal number, right-justified, padded on the left with spaces, no leading zero but in 0
+-- itself (document 01, "The sheet"). Everything that reads or writes columns cites these definitions and the laws in
+-- specs/Column/Laws.antt; the width is the length of the list.
+--
+-- Pass               == what a pass over a column holds after some of its bytes
+-- next p b           == what it holds after one byte more
+-- passFrom p l       == what it holds after the bytes l
+-- columnNumber l     == the number that the bytes l are; noNumber where they are not a column
+-- columnOf w n       == the column of w bytes that holds n
+-- put at l bytes     == the list l with these bytes from index at on
+use Prim.Native.Nat.{ℕ, zero, suc, _+_, _*_, _-_, _/_, _%_}
+use mathlib.Core.List.{List, [], _∷_, _++_}
+use mathlib.Core.Bool.{Bool, true, false, cond, _&&_}
+use lib.ListN.{length, take, drop}
+use lib.Dec.{leb, eqb}
+pub mod Laws
+
+-- stands for a number where there is none: more than any column of ten bytes holds
+abbrev pub noNumber : ℕ
+noNumber = 10000000000
+
+-- bytes 48 to 57 are the digits 0 to 9, byte 32 is the space
+abbrev pub isDigit : ℕ → Bool
+isDigit b = leb 48 b && leb b 57
+
+pub data Pass : Type 0 where
+  -- spaces alone
+  blank : Pass
+  -- spaces and the digit 0, after which nothing may follow
+  nought : Pass
+  -- spaces and digits of this number, after which digits may follow
+  digits : ℕ → Pass
+  -- not the beginning of a column
+  broken : Pass
+
+unfoldable pub next : Pass → ℕ → Pass
+next blank b = cond (eqb b 32) blank (cond (eqb b 48) nought (cond (isDigit b) (digits (b - 48)) broken))
+next nought b = broken
+next (digits v) b = cond (isDigit b) (digits (v * 10 + (b - 48))) broken
+next broken b = broken
+
+unfoldable pub passFrom : Pass → List ℕ → Pass
+passFrom p [] = p
+passFrom p (b ∷ l) = passFrom (next p b) l
+
+-- what a pass has found at the column's end; a column of spaces alone holds no number
+unfoldable pub found : Pass → ℕ
+found blank = noNumber
+found nought = 0
+found (digits v) = v
+found broken = noNumber
+
+unfoldable pub columnNumber : List ℕ → ℕ
+columnNumber l = found (passFrom blank l)
+
+-- the last digit of q, or a space where q is 0
+unfoldable pub digitOr : ℕ → ℕ
+digitOr q = cond (eqb q 0) 32 (48 + q % 10)
+
+-- the digits of q at the end of w bytes, spaces before them
+unfoldable pub padded : ℕ → ℕ → List ℕ
+padded zero q = []
+padded (suc w) q = padded w (q / 10) ++ (digitOr q ∷ [])
+
+-- the last digit is written in any case
+unfoldable pub columnOf : ℕ → ℕ → List ℕ
+columnOf zero n = []
+columnOf (suc w) n = padded w (n / 10) ++ ((48 + n % 10) ∷ [])
+
+unfoldable pub put : ℕ → List ℕ → List ℕ → List ℕ
+put at l bytes = take at l ++ bytes ++ drop (at + length bytes) l

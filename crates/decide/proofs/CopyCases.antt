@@ -1,0 +1,242 @@
+-- Walks that read a stretch of a word letter by letter, and the loop of copies_from.
+--
+-- walk-forward        == a walk does not go back
+-- walk-last           == a walk that reads something splits before its last letter
+-- walk-before         == a walk passes every place on its way
+-- walk-free           == a walk that reads nothing is epsilon moves
+-- walk-matching       == an emptying walk from a matching state ends in one
+-- walks-start, walks-turn == the set of what walks reach, at the start and after one more letter; rows-start, rows-turn for rows
+-- Copying             == the invariant of copies_from; copying-start, copying-turn, copying-dead, copying-end: it begins, one turn, its two ends
+use Prim.Native.Nat.{ℕ, suc, _+_, _-_, _^_, _≤_, _<_}
+use mathlib.Core.Path.{_≡_, refl, sym, ap, _∙_, subst}
+use mathlib.Core.Logic.{_↔_, _⊎_, inl, inr}
+use mathlib.Core.List.{List}
+use native.Mathlib.Omega.{arith}
+use native.Mathlib.Decide.{decLe}
+use lib.ListN.{length, getD, set, length-set}
+use Rattle.stateset.specs.Set.{width, In}
+use Rattle.fsbm.specs.declared.config.Mode.{Mode}
+use Rattle.fsbm.specs.declared.config.Mode.the-variants.{Normal, Buffering, Emptying}
+use Rattle.decide.specs.Graph.{Members, Fitting, Rows, From, Star, here, more, Graph, Edge, Free, Advance}
+use Rattle.decide.specs.Reach.{Walk, still, reads, Matches, LastSquare, CopyTo, Copied}
+use Rattle.decide.proofs.SetCases.{members-as, none-in}
+use Rattle.decide.proofs.RowCases.{rows-as, row-cases}
+
+module _ {G : Graph} {w : List ℕ} {T : Mode} {i p : ℕ} where
+  pub walk-forward : {j q : ℕ} → Walk G w T i p j q → i ≤ j
+  walk-forward (still e f) = omega arith
+  walk-forward (reads v lt a e) = let z = walk-forward v in omega arith
+
+  pub walk-last : {k q : ℕ} (j : ℕ) → Walk G w T i p k q → k ≡ j + 1 → i ≤ j → (r : ℕ) × Walk G w T i p j r × Advance G T (getD w j 0) r q
+  walk-last j (still e f) k le = absurd (omega arith)
+  walk-last {q = q} j (reads {j = j′} {q = r} v lt a e) k le =
+      let same : j′ ≡ j = omega arith in
+      (r, subst (λ (n : ℕ). Walk G w T i p n r) same v, subst (λ (n : ℕ). Advance G T (getD w n 0) r q) same a)
+
+  pub walk-before : {k q : ℕ} (j : ℕ) → Walk G w T i p k q → i ≤ j → j ≤ k → (r : ℕ) × Walk G w T i p j r
+  walk-before {q = q} j (still e f) le ge = (q, still {j = j} (omega arith) f)
+  walk-before {q = q} j (reads {j = j′} v lt a e) le ge = at (decLe j j′) (walk-before j v le)
+    where
+      at : Dec (j ≤ j′) → (j ≤ j′ → (r : ℕ) × Walk G w T i p j r) → (r : ℕ) × Walk G w T i p j r
+      at (yes y) f = f y
+      at (no n) f = (q, reads {k = j} v lt a (omega arith))
+
+pub walk-free : {G : Graph} {w : List ℕ} {T : Mode} {i p q : ℕ} → Walk G w T i p i q → Free G T p q
+walk-free (still e f) = f
+walk-free (reads v lt a e) = let z = walk-forward v in absurd (omega arith)
+
+-- an emptying walk from a matching state ends in a matching state
+free-matching : {G : Graph} {p q : ℕ} → In (G .matching) p → Free G Emptying p q → In (G .matching) q
+free-matching h here = h
+free-matching h (more f e) = e .may .1
+
+pub walk-matching : {G : Graph} {w : List ℕ} {i p j q : ℕ} → In (G .matching) p → Walk G w Emptying i p j q → In (G .matching) q
+walk-matching h (still e f) = free-matching h f
+walk-matching h (reads v lt a e) = free-matching (a .edge .may .1) (a .free)
+
+module _ (G : Graph) (w : List ℕ) (T : Mode) (i : ℕ) where
+  pub walks-start : (starts s : ℕ) → Members s (From starts (Free G T)) → Members s (From starts (λ p q. Walk G w T i p i q))
+  walks-start starts s m = members-as m (λ q z. (z .0, z .1, still refl (z .2))) (λ q z. (z .0, z .1, walk-free (z .2)))
+
+  pub walks-turn : (starts s next j : ℕ) → i ≤ j → j < length w → Members s (From starts (λ p q. Walk G w T i p j q)) → Members next (From s (Advance G T (getD w j 0)))
+      → Members next (From starts (λ p q. Walk G w T i p (j + 1) q))
+  walks-turn starts s next j le lt so-far m = members-as m
+      (λ q z. let y = so-far .members (z .0) .0 (z .1) in (y .0, y .1, reads (y .2) lt (z .2) (omega arith)))
+      (λ q z. let (r, v, a) = walk-last j (z .2) refl le in (r, so-far .members r .1 (z .0, z .1, v), a))
+
+  pub rows-start : (h : ℕ) (rows : List ℕ) → Rows rows (λ s q. In h s × Free G T s q) → Rows rows (λ s q. In h s × Walk G w T i s i q)
+  rows-start h rows m = rows-as m (λ s q z. (z .0, still refl (z .1))) (λ s q z. (z .0, walk-free (z .1)))
+
+  pub rows-turn : (h : ℕ) (rows next : List ℕ) (j : ℕ) → i ≤ j → j < length w → Rows rows (λ s q. In h s × Walk G w T i s j q)
+      → Rows next (λ s q. (p : ℕ) × In (getD rows p 0) s × Advance G T (getD w j 0) p q) → Rows next (λ s q. In h s × Walk G w T i s (j + 1) q)
+  rows-turn h rows next j le lt so-far m = rows-as m
+      (λ s q z. let y = so-far .members (z .0) s .0 (z .1) in (y .0, reads (y .1) lt (z .2) (omega arith)))
+      (λ s q z. let (r, v, a) = walk-last j (z .1) refl le in (r, so-far .members r s .1 (z .0, v), a))
+
+pub record Copying (G : Graph) (w : List ℕ) (i starts : ℕ) (a b : List ℕ) (j s : ℕ) (rows : List ℕ) (last : ℕ) : Type 0 where
+  pub from : i ≤ j
+  pub within : j ≤ last
+  pub squares : LastSquare w i last
+  pub storing : Members s (From starts (λ p q. Walk G w Buffering i p j q))
+  pub emptying : Rows rows (λ s q. In (G .matching) s × Walk G w Emptying i s j q)
+  pub fitting : Fitting 256 b
+  pub members : (k q : ℕ) → In (getD b k 0) q ↔ (In (getD a k 0) q ⊎ ((c : CopyTo G w i starts k q) × (c .end ≤ j)))
+
+module _ (G : Graph) (w : List ℕ) (i starts : ℕ) (a : List ℕ) where
+  pub copying-start : (s last : ℕ) (rows : List ℕ) → LastSquare w i last → Fitting 256 a → Members s (From starts (Free G Buffering))
+      → Rows rows (λ s q. In (G .matching) s × Free G Emptying s q) → Copying G w i starts a a i s rows last
+  copying-start s last rows sq fit m r =
+      record {
+        from = omega arith;
+        within = sq .from;
+        squares = sq;
+        storing = walks-start G w Buffering i starts s m;
+        emptying = rows-start G w Emptying i (G .matching) rows r;
+        fitting = fit;
+        members = λ k q. (λ h. inl h, back k q);
+      }
+    where
+      back : (k q : ℕ) → In (getD a k 0) q ⊎ ((c : CopyTo G w i starts k q) × (c .end ≤ i)) → In (getD a k 0) q
+      back k q (inl h) = h
+      back k q (inr (c, le)) = let z = c .some in absurd (omega arith)
+
+  module _ (b : List ℕ) (j s : ℕ) (rows : List ℕ) (last : ℕ) (cp : Copying G w i starts a b j s rows last) where
+    -- the loop ends where the last square ends
+    pub copying-end : last ≤ j → Copied G w i starts a b
+    copying-end le =
+        record {
+          fitting = cp .fitting;
+          members = λ k q. (λ h. to k q (cp .members k q .0 h), λ h. cp .members k q .1 (back k q h));
+        }
+      where
+        to : (k q : ℕ) → In (getD a k 0) q ⊎ ((c : CopyTo G w i starts k q) × (c .end ≤ j)) → In (getD a k 0) q ⊎ CopyTo G w i starts k q
+        to k q (inl h) = inl h
+        to k q (inr z) = inr (z .0)
+
+        back : (k q : ℕ) → In (getD a k 0) q ⊎ CopyTo G w i starts k q → In (getD a k 0) q ⊎ ((c : CopyTo G w i starts k q) × (c .end ≤ j))
+        back k q (inl h) = inl h
+        back k q (inr c) = inr (c, at (decLe (c .end) j))
+          where
+            at : Dec (c .end ≤ j) → c .end ≤ j
+            at (yes y) = y
+            at (no n) = let e = c .place in let f = c .inside in absurd (cp .squares .last (c .end) (omega arith) (omega arith) (c .same))
+
+    -- or where no state is left that stores
+    pub copying-dead : s ≡ 0 → Copied G w i starts a b
+    copying-dead e =
+        record {
+          fitting = cp .fitting;
+          members = λ k q. (λ h. to k q (cp .members k q .0 h), λ h. cp .members k q .1 (back k q h));
+        }
+      where
+        to : (k q : ℕ) → In (getD a k 0) q ⊎ ((c : CopyTo G w i starts k q) × (c .end ≤ j)) → In (getD a k 0) q ⊎ CopyTo G w i starts k q
+        to k q (inl h) = inl h
+        to k q (inr z) = inr (z .0)
+
+        back : (k q : ℕ) → In (getD a k 0) q ⊎ CopyTo G w i starts k q → In (getD a k 0) q ⊎ ((c : CopyTo G w i starts k q) × (c .end ≤ j))
+        back k q (inl h) = inl h
+        back k q (inr c) = inr (c, at (decLe (c .end) j))
+          where
+            at : Dec (c .end ≤ j) → c .end ≤ j
+            at (yes y) = y
+            at (no n) =
+                let (r, v) = walk-before j (c .storing) (cp .from) (omega arith) in
+                absurd (none-in e r (cp .storing .members r .1 (c .from, c .begins, v)))
+
+    pub copying-turn : (next u t : ℕ) (after : List ℕ) → j < last → Members next (From s (Advance G Buffering (getD w j 0)))
+        → Rows after (λ s q. (p : ℕ) × In (getD rows p 0) s × Advance G Emptying (getD w j 0) p q)
+        → Members t (λ q. Matches w i (j + 1) × (In (G .matching) q × ((p : ℕ) × In (getD after q 0) p × (In next p × In (G .matching) p))))
+        → Members u (λ q. In (getD b (j + 1 + (j + 1 - i)) 0) q ⊎ In t q) → length w ≤ 255
+        → Copying G w i starts a (set b (j + 1 + (j + 1 - i)) u) (j + 1) next after last
+    copying-turn next u t after lt m r found union short =
+        record {
+          from = omega (arith, cp .from);
+          within = omega arith;
+          squares = cp .squares;
+          storing = storing;
+          emptying = emptying;
+          fitting = record {
+            size = length-set b e u ∙ cp .fitting .size;
+            each = row-cases b e u inside (λ k y. y < 2 ^ width) (union .fits) (λ k n. cp .fitting .each k);
+          };
+          members = λ k q. row-cases b e u inside (λ k y. In y q ↔ (In (getD a k 0) q ⊎ ((c : CopyTo G w i starts k q) × (c .end ≤ j + 1)))) (at-end q) (λ k n. (λ h. wider k q (cp .members k q .0 h), λ h. cp .members k q .1 (elsewhere k q n h))) k;
+        }
+      where
+        e : ℕ
+        e = j + 1 + (j + 1 - i)
+
+        room : e ≤ length w
+        room = let z = cp .squares .room in let y = cp .from in omega arith
+
+        reading : j < length w
+        reading = let z = cp .squares .room in let y = cp .from in omega arith
+
+        inside : e < length b
+        inside = let z = cp .fitting .size in let y = room in omega arith
+
+        storing : Members next (From starts (λ p q. Walk G w Buffering i p (j + 1) q))
+        storing = walks-turn G w Buffering i starts s next j (cp .from) reading (cp .storing) m
+
+        emptying : Rows after (λ s q. In (G .matching) s × Walk G w Emptying i s (j + 1) q)
+        emptying = rows-turn G w Emptying i (G .matching) rows after j (cp .from) reading (cp .emptying) r
+
+        wider : (k q : ℕ) → In (getD a k 0) q ⊎ ((c : CopyTo G w i starts k q) × (c .end ≤ j)) → In (getD a k 0) q ⊎ ((c : CopyTo G w i starts k q) × (c .end ≤ j + 1))
+        wider k q (inl h) = inl h
+        wider k q (inr z) = inr (z .0, omega (arith, z .1))
+
+        elsewhere : (k q : ℕ) → (k ≡ e → ⊥) → In (getD a k 0) q ⊎ ((c : CopyTo G w i starts k q) × (c .end ≤ j + 1)) → In (getD a k 0) q ⊎ ((c : CopyTo G w i starts k q) × (c .end ≤ j))
+        elsewhere k q n (inl h) = inl h
+        elsewhere k q n (inr (c, le)) = inr (c, at (decLe (c .end) j))
+          where
+            at : Dec (c .end ≤ j) → c .end ≤ j
+            at (yes y) = y
+            at (no o) =
+                let last-one : c .end ≡ j + 1 = omega arith in
+                absurd (n (c .place ∙ ap (λ (x : ℕ). x + (x - i)) last-one))
+
+        to : (q : ℕ) → In (getD b e 0) q ⊎ In t q → In (getD a e 0) q ⊎ ((c : CopyTo G w i starts e q) × (c .end ≤ j + 1))
+        to q (inl h) = wider e q (cp .members e q .0 h)
+        to q (inr h) =
+            let (same, (hq, (p, row, (sp, hp)))) = found .members q .0 h in
+            let (o, oi, v) = storing .members p .0 sp in
+            let (hp′, y) = emptying .members q p .0 row in
+            inr (
+              record {
+                from = o;
+                begins = oi;
+                end = j + 1;
+                some = omega (arith, cp .from);
+                middle = p;
+                storing = v;
+                turns = hp;
+                emptying = y;
+                same = same;
+                place = refl;
+                inside = room;
+              },
+              omega arith,
+            )
+
+        back : (q : ℕ) → In (getD a e 0) q ⊎ ((c : CopyTo G w i starts e q) × (c .end ≤ j + 1)) → In (getD b e 0) q ⊎ In t q
+        back q (inl h) = inl (cp .members e q .1 (inl h))
+        back q (inr (c, le)) = at (decLe (c .end) j)
+          where
+            at : Dec (c .end ≤ j) → In (getD b e 0) q ⊎ In t q
+            at (yes y) = inl (cp .members e q .1 (inr (c, y)))
+            at (no o) =
+                let last-one : c .end ≡ j + 1 = omega arith in
+                let v = subst (λ (x : ℕ). Walk G w Buffering i (c .from) x (c .middle)) last-one (c .storing) in
+                let y = subst (λ (x : ℕ). Walk G w Emptying i (c .middle) x q) last-one (c .emptying) in
+                let same = subst (λ (x : ℕ). Matches w i x) last-one (c .same) in
+                inr (found .members q .1 (same, (walk-matching (c .turns) y, (c .middle, emptying .members q (c .middle) .1 (c .turns, y), (storing .members (c .middle) .1 (c .from, c .begins, v), c .turns)))))
+
+        at-end : (q : ℕ) → In u q ↔ (In (getD a e 0) q ⊎ ((c : CopyTo G w i starts e q) × (c .end ≤ j + 1)))
+        at-end q = (λ h. to q (union .members q .0 h), λ h. union .members q .1 (back q h))
+
+-- no square starts at i: there is nothing to copy
+pub copied-none : (G : Graph) (w : List ℕ) (i starts last : ℕ) (a : List ℕ) → LastSquare w i last → last ≤ i → Fitting 256 a → Copied G w i starts a a
+copied-none G w i starts last a sq le fit = record { fitting = fit; members = λ k q. (λ h. inl h, back k q) }
+  where
+    back : (k q : ℕ) → In (getD a k 0) q ⊎ CopyTo G w i starts k q → In (getD a k 0) q
+    back k q (inl h) = h
+    back k q (inr c) = let e = c .place in let f = c .inside in let s = c .some in absurd (sq .last (c .end) (omega arith) (omega arith) (c .same))

@@ -1,0 +1,256 @@
+-- Every configuration of a run of the published definition is covered by the states reached in normal mode: the closed-set argument.
+--
+-- Covered T D      == the configuration D, in mode T, is one that the reached states lead to
+-- covers           == a move from a covered configuration leads to a covered one
+-- run-covers       == so does a run
+-- run-reach        == the state at the end of a run that ends in normal mode with the word read is reached
+use Prim.Native.Nat.{ℕ, zero, suc, _+_, _-_, _≤_, _<_}
+use mathlib.Core.Path.{_≡_, refl, sym, ap, _∙_, subst}
+use mathlib.Core.Logic.{_↔_, _⊎_, inl, inr}
+use mathlib.Core.Bool.{Bool, true, false, _&&_, _||_}
+use mathlib.Core.List.{List, [], _∷_, _++_}
+use native.Mathlib.Omega.{arith}
+use native.Mathlib.Decide.{ℕ-discrete}
+use lib.ListN.{length, getD, drop, length-drop}
+use lib.Seq.{slice, slice-empty}
+use lib.Dec.{ltb, eqb}
+use borrow.Author.Tests.{ltb-true, eqb-true, eq-eqb}
+use Rattle.graphs.specs.Search.Laws.{or-true, and-true}
+use Rattle.stateset.specs.Set.{width, In}
+use Rattle.fsbm.specs.Moves.{readsLetter, advanced}
+use Rattle.fsbm.specs.Published.{FSBM, Listed, fsbmOf, Configuration, config, symbol, Yields, normal, buffer, empty, begin-buffering, begin-emptying, back-to-normal, Run, done}
+use Rattle.fsbm.specs.declared.machine.Machine.{Machine}
+use Rattle.fsbm.specs.declared.config.Mode.{Mode}
+use Rattle.fsbm.specs.declared.config.Mode.the-variants.{Normal, Buffering, Emptying}
+use Rattle.language.specs.Strings.{drop-reads, slice-reads, slice-grows, slice-none, advanced-fits}
+use Rattle.decide.specs.Graph.{Star, here, more, Graph, graph, Edge, Free, Advance}
+use Rattle.decide.specs.Reach.{Walk, still, reads, Matches, Reach, begins, passes, moves, copies}
+use Rattle.decide.proofs.CopyCases.{walk-forward}
+use Rattle.decide.proofs.StageCases.{reach-inside}
+use Rattle.decide.proofs.Runs.{advanced-some}
+use Rattle.decide.proofs.Tables.{Table, listed-edge}
+
+-- the test of a letter: it is epsilon, or it stands there
+pub reads-says : (w : List ℕ) (p e x : ℕ) → readsLetter w p e x ≡ true → (x ≡ 0) ⊎ ((0 < x) × (p < e) × (getD w p 0 ≡ x))
+unfolding readsLetter
+reads-says w p e x h = zeroed (ℕ-discrete x 0) (or-true (eqb x 0) (ltb p e && eqb (getD w p 0) x) h)
+  where
+    zeroed : Dec (x ≡ 0) → (eqb x 0 ≡ true) ⊎ ((ltb p e && eqb (getD w p 0) x) ≡ true) → (x ≡ 0) ⊎ ((0 < x) × (p < e) × (getD w p 0 ≡ x))
+    zeroed (yes z) y = inl z
+    zeroed (no n) (inl z) = inl (eqb-true x 0 z)
+    zeroed (no n) (inr y) = let b = and-true (ltb p e) (eqb (getD w p 0) x) y in inr (omega arith, ltb-true p e (b .0), eqb-true (getD w p 0) x (b .1))
+
+pub advanced-zero : (p x : ℕ) → x ≡ 0 → advanced p x ≡ p
+advanced-zero p x e = let z : eqb x 0 ≡ true = eq-eqb x 0 e in rw z
+
+-- one epsilon move more
+walk-more : {G : Graph} {w : List ℕ} {T : Mode} {i p j q r : ℕ} → Walk G w T i p j q → Edge G T 0 q r → Walk G w T i p j r
+walk-more (still e f) y = still e (more f y)
+walk-more (reads v lt a e) y = reads v lt (record { letter = a .letter; middle = a .middle; edge = a .edge; free = more (a .free) y }) e
+
+-- one move more that reads x, which is epsilon or the letter at j
+walk-reads : {G : Graph} {w : List ℕ} {T : Mode} {i p j q r : ℕ} (x : ℕ) → Walk G w T i p j q → Edge G T x q r → (x ≡ 0) ⊎ ((0 < x) × (j < length w) × (getD w j 0 ≡ x)) → Walk G w T i p (advanced j x) r
+walk-reads {G} {w} {T} {i} {p} {j} {q} {r} x v e (inl z) =
+    subst (λ (n : ℕ). Walk G w T i p n r) (sym (advanced-zero j x z)) (walk-more v (subst (λ (y : ℕ). Edge G T y q r) z e))
+walk-reads {G} {w} {T} {i} {p} {j} {q} {r} x v e (inr (some, lt, same)) =
+    reads v lt (record {
+      letter = omega arith;
+      middle = r;
+      edge = subst (λ (y : ℕ). Edge G T y q r) (sym same) e;
+      free = here;
+    }) (advanced-some j x some)
+
+reach-reads : {G : Graph} {w : List ℕ} {start k p q : ℕ} (x : ℕ) → Reach G w start k p → Edge G Normal x p q → (x ≡ 0) ⊎ ((0 < x) × (k < length w) × (getD w k 0 ≡ x)) → Reach G w start (advanced k x) q
+reach-reads {G} {w} {start} {k} {p} {q} x r e (inl z) =
+    subst (λ (n : ℕ). Reach G w start n q) (sym (advanced-zero k x z)) (passes r (subst (λ (y : ℕ). Edge G Normal y p q) z e))
+reach-reads {G} {w} {start} {k} {p} {q} x r e (inr (some, lt, same)) =
+    moves r lt (let z = same in omega arith) (subst (λ (y : ℕ). Edge G Normal y p q) (sym same) e) (advanced-some k x some)
+
+pub record CoverNormal (G : Graph) (w : List ℕ) (start : ℕ) (D : Configuration) : Type 0 where
+  pub place : ℕ
+  pub reach : Reach G w start place (D .state)
+  pub input : D .input ≡ drop place w
+
+pub record CoverBuffering (G : Graph) (w : List ℕ) (start : ℕ) (D : Configuration) : Type 0 where
+  pub from : ℕ
+  pub place : ℕ
+  pub first : ℕ
+  pub reach : Reach G w start from first
+  pub stores : In (G .buffering) first
+  pub walk : Walk G w Buffering from first place (D .state)
+  pub inside : place ≤ length w
+  pub input : D .input ≡ drop place w
+  pub stored : D .buffer ≡ slice from place w
+
+pub record CoverEmptying (G : Graph) (w : List ℕ) (start : ℕ) (D : Configuration) : Type 0 where
+  pub from : ℕ
+  pub end : ℕ
+  pub place : ℕ
+  pub first : ℕ
+  pub middle : ℕ
+  pub reach : Reach G w start from first
+  pub stores : In (G .buffering) first
+  pub storing : Walk G w Buffering from first end middle
+  pub turns : In (G .matching) middle
+  pub emptying : Walk G w Emptying from middle place (D .state)
+  pub behind : place ≤ end
+  pub inside : end + (place - from) ≤ length w
+  pub same : (t : ℕ) → t < place - from → getD w (from + t) 0 ≡ getD w (end + t) 0
+  pub input : D .input ≡ drop (end + (place - from)) w
+  pub stored : D .buffer ≡ slice place end w
+
+abbrev pub Covered : Graph → List ℕ → ℕ → Mode → Configuration → Type 0
+Covered G w start Normal D = CoverNormal G w start D
+Covered G w start Buffering D = CoverBuffering G w start D
+Covered G w start Emptying D = CoverEmptying G w start D
+
+module _ {m : Machine} {list first : List ℕ} {g h : ℕ} (t : Table m list first g h) (w : List ℕ) (start : ℕ) where
+  cover-normal : {x p q : ℕ} (u : List ℕ) → Edge (graph list first g h) Normal x p q → CoverNormal (graph list first g h) w start (config (symbol x ++ u) p [] Normal)
+      → CoverNormal (graph list first g h) w start (config u q [] Normal)
+  cover-normal {x} u e c =
+      let (reading, rest) = drop-reads w (c .place) x u (sym (c .input)) in
+      record { place = advanced (c .place) x; reach = reach-reads x (c .reach) e (reads-says w (c .place) (length w) x reading); input = sym rest }
+
+  cover-buffering : {x p q : ℕ} (u v : List ℕ) → Edge (graph list first g h) Buffering x p q → CoverBuffering (graph list first g h) w start (config (symbol x ++ u) p v Buffering)
+      → CoverBuffering (graph list first g h) w start (config u q (v ++ symbol x) Buffering)
+  cover-buffering {x} u v e c =
+      let (reading, rest) = drop-reads w (c .place) x u (sym (c .input)) in
+      record {
+        from = c .from;
+        place = advanced (c .place) x;
+        first = c .first;
+        reach = c .reach;
+        stores = c .stores;
+        walk = walk-reads x (c .walk) e (reads-says w (c .place) (length w) x reading);
+        inside = advanced-fits w (c .place) (length w) x (c .inside) reading .1;
+        input = sym rest;
+        stored = ap (λ (y : List ℕ). y ++ symbol x) (c .stored) ∙ sym (slice-grows w (c .from) (c .place) x (walk-forward (c .walk)) reading);
+      }
+
+  cover-emptying : {x p q : ℕ} (u v : List ℕ) → Edge (graph list first g h) Emptying x p q → CoverEmptying (graph list first g h) w start (config (symbol x ++ u) p (symbol x ++ v) Emptying)
+      → CoverEmptying (graph list first g h) w start (config u q v Emptying)
+  cover-emptying {x} {p} {q} u v e c = at (reads-says w (c .end + (c .place - c .from)) (length w) x (input .0)) (reads-says w (c .place) (c .end) x (stored .0))
+    where
+      input : (readsLetter w (c .end + (c .place - c .from)) (length w) x ≡ true) × (drop (advanced (c .end + (c .place - c .from)) x) w ≡ u)
+      input = drop-reads w (c .end + (c .place - c .from)) x u (sym (c .input))
+
+      stored : (readsLetter w (c .place) (c .end) x ≡ true) × (slice (advanced (c .place) x) (c .end) w ≡ v)
+      stored = slice-reads w (c .place) (c .end) x v (let z = c .inside in omega arith) (sym (c .stored))
+
+      stays : x ≡ 0 → CoverEmptying (graph list first g h) w start (config u q v Emptying)
+      stays z =
+          record {
+            from = c .from;
+            end = c .end;
+            place = c .place;
+            first = c .first;
+            middle = c .middle;
+            reach = c .reach;
+            stores = c .stores;
+            storing = c .storing;
+            turns = c .turns;
+            emptying = walk-more (c .emptying) (subst (λ (y : ℕ). Edge (graph list first g h) Emptying y p q) z e);
+            behind = c .behind;
+            inside = c .inside;
+            same = c .same;
+            input = sym (input .1) ∙ ap (λ (n : ℕ). drop n w) (advanced-zero (c .end + (c .place - c .from)) x z);
+            stored = sym (stored .1) ∙ ap (λ (n : ℕ). slice n (c .end) w) (advanced-zero (c .place) x z);
+          }
+
+      goes : 0 < x → c .end + (c .place - c .from) < length w → getD w (c .end + (c .place - c .from)) 0 ≡ x → c .place < c .end → getD w (c .place) 0 ≡ x
+          → CoverEmptying (graph list first g h) w start (config u q v Emptying)
+      goes some lt there before here′ =
+          let ge = walk-forward (c .emptying) in
+          let next : suc (c .end + (c .place - c .from)) ≡ c .end + (suc (c .place) - c .from) = omega arith in
+          record {
+            from = c .from;
+            end = c .end;
+            place = suc (c .place);
+            first = c .first;
+            middle = c .middle;
+            reach = c .reach;
+            stores = c .stores;
+            storing = c .storing;
+            turns = c .turns;
+            emptying = subst (λ (n : ℕ). Walk (graph list first g h) w Emptying (c .from) (c .middle) n q) (advanced-some (c .place) x some) (walk-reads x (c .emptying) e (inr (some, omega arith, here′)));
+            behind = omega arith;
+            inside = omega arith;
+            same = λ (t : ℕ) (l : t < suc (c .place) - c .from). one ge there here′ t (ℕ-discrete t (c .place - c .from)) l;
+            input = sym (input .1) ∙ ap (λ (n : ℕ). drop n w) (advanced-some (c .end + (c .place - c .from)) x some ∙ next);
+            stored = sym (stored .1) ∙ ap (λ (n : ℕ). slice n (c .end) w) (advanced-some (c .place) x some);
+          }
+        where
+          one : c .from ≤ c .place → getD w (c .end + (c .place - c .from)) 0 ≡ x → getD w (c .place) 0 ≡ x → (t : ℕ) → Dec (t ≡ c .place - c .from) → t < suc (c .place) - c .from → getD w (c .from + t) 0 ≡ getD w (c .end + t) 0
+          one ge there here′ t (yes y) l =
+              let at : c .from + t ≡ c .place = omega arith in
+              ap (λ (n : ℕ). getD w n 0) at ∙ (here′ ∙ (sym there ∙ ap (λ (n : ℕ). getD w (c .end + n) 0) (sym y)))
+          one ge there here′ t (no n) l = c .same t (omega arith)
+
+      at : (x ≡ 0) ⊎ ((0 < x) × (c .end + (c .place - c .from) < length w) × (getD w (c .end + (c .place - c .from)) 0 ≡ x))
+          → (x ≡ 0) ⊎ ((0 < x) × (c .place < c .end) × (getD w (c .place) 0 ≡ x)) → CoverEmptying (graph list first g h) w start (config u q v Emptying)
+      at (inl z) b = stays z
+      at (inr a) (inl z) = stays z
+      at (inr a) (inr b) = goes (a .0) (a .1) (a .2) (b .1) (b .2)
+
+  covers : {D D′ : Configuration} → Yields (fsbmOf m list) D D′ → Covered (graph list first g h) w start (D .mode) D → Covered (graph list first g h) w start (D′ .mode) D′
+  covers (normal {p = p} {x = x} {q = q} {u = u} δ apart calm) c =
+      cover-normal {x = x} {p = p} {q = q} u (listed-edge t δ (λ z. apart (t .matches p .0 (z .0), t .matches q .0 (z .1)), λ z. calm (t .stores p .0 z))) c
+  covers (buffer {p = p} {x = x} {q = q} {u = u} {v = v} δ apart calm) c =
+      cover-buffering {x = x} {p = p} {q = q} u v (listed-edge t δ (λ z. apart (t .matches p .0 (z .0), t .matches q .0 (z .1)), λ z. calm (t .stores q .0 z))) c
+  covers (empty {p = p} {x = x} {q = q} {u = u} {v = v} δ hp hq) c =
+      cover-emptying {x = x} {p = p} {q = q} u v (listed-edge t δ (t .matches p .1 hp, t .matches q .1 hq)) c
+  covers (begin-buffering {q = q} {u = u} gq) c =
+      record {
+        from = c .place;
+        place = c .place;
+        first = q;
+        reach = c .reach;
+        stores = t .stores q .1 gq;
+        walk = still refl here;
+        inside = reach-inside (graph list first g h) w start (c .reach);
+        input = c .input;
+        stored = sym (slice-empty (c .place) w);
+      }
+  covers (begin-emptying {q = q} {u = u} {v = v} hq) c =
+      let none : c .place + (c .from - c .from) ≡ c .place = omega arith in
+      record {
+        from = c .from;
+        end = c .place;
+        place = c .from;
+        first = c .first;
+        middle = q;
+        reach = c .reach;
+        stores = c .stores;
+        storing = c .walk;
+        turns = t .matches q .1 hq;
+        emptying = still refl here;
+        behind = walk-forward (c .walk);
+        inside = let z = c .inside in omega arith;
+        same = λ n (lt : n < c .from - c .from). absurd (omega arith);
+        input = c .input ∙ ap (λ (n : ℕ). drop n w) (sym none);
+        stored = c .stored;
+      }
+  covers (back-to-normal {q = q} {u = u} hq) c =
+      let room : c .end ≤ length w = let z = c .inside in omega arith in
+      let used : c .place ≡ c .end = slice-none w (c .place) (c .end) (c .behind) room (sym (c .stored)) in
+      record {
+        place = c .end + (c .place - c .from);
+        reach = copies {j = c .end} (c .reach) (c .stores) (walk-forward (c .storing)) (c .storing) (c .turns)
+            (subst (λ (n : ℕ). Walk (graph list first g h) w Emptying (c .from) (c .middle) n q) used (c .emptying))
+            (subst (λ (n : ℕ). (k : ℕ) → k < n - c .from → getD w (c .from + k) 0 ≡ getD w (c .end + k) 0) used (c .same))
+            (ap (λ (n : ℕ). c .end + (n - c .from)) used) (c .inside);
+        input = c .input;
+      }
+
+  run-covers : {D D′ : Configuration} → Run (fsbmOf m list) D D′ → Covered (graph list first g h) w start (D .mode) D → Covered (graph list first g h) w start (D′ .mode) D′
+  run-covers done c = c
+  run-covers (Run.more y r) c = run-covers r (covers y c)
+
+  pub run-reach : {o q : ℕ} → In start o → Run (fsbmOf m list) (config w o [] Normal) (config [] q [] Normal) → Reach (graph list first g h) w start (length w) q
+  run-reach {o} {q} i r =
+      let c = run-covers r (record { place = 0; reach = begins refl i; input = refl }) in
+      let inside = reach-inside (graph list first g h) w start (c .reach) in
+      let all : length (drop (c .place) w) ≡ 0 = sym (ap length (c .input)) in
+      let z = length-drop (c .place) w in
+      let e : c .place ≡ length w = omega arith in
+      subst (λ (n : ℕ). Reach (graph list first g h) w start n q) e (c .reach)

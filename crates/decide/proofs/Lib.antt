@@ -1,0 +1,9 @@
+pub mod CopyCases
+pub mod Covering
+pub mod Decided
+pub mod RowCases
+pub mod Runs
+pub mod SetCases
+pub mod StageCases
+pub mod Sweeps
+pub mod Tables

@@ -1,0 +1,134 @@
+-- Every state that is reached at a place in normal mode is reached there by a run of the published definition.
+--
+-- run-join          == a run and a run from its end
+-- reads-letter      == a letter of the word passes the test of a letter
+-- storing-run, emptying-run == the run of a walk
+-- reach-run         == the run to a reached state
+use Prim.Native.Nat.{ℕ, zero, suc, _+_, _-_, _≤_, _<_}
+use mathlib.Core.Path.{_≡_, refl, sym, ap, _∙_, subst, subst₂}
+use mathlib.Core.Logic.{_↔_, _⊎_, inl, inr}
+use mathlib.Core.Bool.{Bool, true, false, _&&_, _||_}
+use mathlib.Core.List.{List, [], _∷_, _++_, append-nil}
+use native.Mathlib.Omega.{arith}
+use lib.ListN.{length, getD, drop}
+use lib.Seq.{slice, slice-empty}
+use lib.Dec.{ltb, eqb}
+use borrow.Author.Tests.{lt-ltb, eq-eqb, ne-eqb}
+use Rattle.graphs.specs.Search.Laws.{or-true-right, and-both-true}
+use Rattle.stateset.specs.Set.{width, In}
+use Rattle.fsbm.specs.Moves.{readsLetter, advanced}
+use Rattle.fsbm.specs.Published.{FSBM, Listed, fsbmOf, Configuration, config, symbol, Yields, normal, buffer, empty, begin-buffering, begin-emptying, back-to-normal, Run, done}
+use Rattle.fsbm.specs.declared.machine.Machine.{Machine}
+use Rattle.fsbm.specs.declared.config.Mode.{Mode}
+use Rattle.fsbm.specs.declared.config.Mode.the-variants.{Normal, Buffering, Emptying}
+use Rattle.language.specs.Strings.{reads-drop, reads-slice, slice-grows}
+use Rattle.decide.specs.Graph.{Star, here, more, Graph, graph, Edge, Free, Advance}
+use Rattle.decide.specs.Reach.{Walk, still, reads, Matches, Reach, begins, passes, moves, copies}
+use Rattle.decide.proofs.CopyCases.{walk-forward, walk-matching}
+use Rattle.decide.proofs.Tables.{Table, edge-listed}
+
+pub run-join : {M : FSBM} {A B C : Configuration} → Run M A B → Run M B C → Run M A C
+run-join done r = r
+run-join (Run.more y q) r = Run.more y (run-join q r)
+
+pub run-one : {M : FSBM} {A B C : Configuration} → Run M A B → Yields M B C → Run M A C
+run-one r y = run-join r (Run.more y done)
+
+pub reads-letter : (w : List ℕ) (p e x : ℕ) → p < e → getD w p 0 ≡ x → readsLetter w p e x ≡ true
+unfolding readsLetter
+reads-letter w p e x lt same =
+    or-true-right (eqb x 0) (ltb p e && eqb (getD w p 0) x) (and-both-true (ltb p e) (eqb (getD w p 0) x) (lt-ltb p e lt) (eq-eqb (getD w p 0) x same))
+
+pub advanced-some : (p x : ℕ) → 0 < x → advanced p x ≡ suc p
+advanced-some p x lt = let n : eqb x 0 ≡ false = ne-eqb x 0 (λ (e : x ≡ 0). absurd (omega arith)) in rw n (let e : p + 1 ≡ suc p = omega arith in e)
+
+-- a letter at p that is not epsilon stands at the front of the rest of the word, and of a stretch
+drop-letter : (w : List ℕ) (p x : ℕ) → p < length w → getD w p 0 ≡ x → 0 < x → drop p w ≡ symbol x ++ drop (suc p) w
+drop-letter w p x lt same some = reads-drop w p x (reads-letter w p (length w) x lt same) ∙ ap (λ (n : ℕ). symbol x ++ drop n w) (advanced-some p x some)
+
+slice-letter : (w : List ℕ) (p e x : ℕ) → p < e → e ≤ length w → getD w p 0 ≡ x → 0 < x → slice p e w ≡ symbol x ++ slice (suc p) e w
+slice-letter w p e x lt le same some = reads-slice w p e x le (reads-letter w p e x lt same) ∙ ap (λ (n : ℕ). symbol x ++ slice n e w) (advanced-some p x some)
+
+slice-more : (w : List ℕ) (i e x : ℕ) → i ≤ e → e < length w → getD w e 0 ≡ x → 0 < x → slice i (suc e) w ≡ slice i e w ++ symbol x
+slice-more w i e x le lt same some = sym (ap (λ (n : ℕ). slice i n w) (advanced-some e x some)) ∙ slice-grows w i e x le (reads-letter w e (length w) x lt same)
+
+module _ {m : Machine} {list first : List ℕ} {g h : ℕ} (t : Table m list first g h) (w : List ℕ) where
+  -- a buffering move, and an emptying move, that reads x
+  store-one : {x p q : ℕ} → Edge (graph list first g h) Buffering x p q → (u v : List ℕ) → Yields (fsbmOf m list) (config (symbol x ++ u) p v Buffering) (config u q (v ++ symbol x) Buffering)
+  store-one {x} {p} {q} e u v =
+      buffer (edge-listed t e)
+      (λ z. e .may .0 (t .matches p .1 (z .0), t .matches q .1 (z .1)))
+      (λ z. e .may .1 (t .stores q .1 z))
+
+  empty-one : {x p q : ℕ} → Edge (graph list first g h) Emptying x p q → (u v : List ℕ) → Yields (fsbmOf m list) (config (symbol x ++ u) p (symbol x ++ v) Emptying) (config u q v Emptying)
+  empty-one {x} {p} {q} e u v = empty (edge-listed t e) (t .matches p .0 (e .may .0)) (t .matches q .0 (e .may .1))
+
+  normal-one : {x p q : ℕ} → Edge (graph list first g h) Normal x p q → (u : List ℕ) → Yields (fsbmOf m list) (config (symbol x ++ u) p [] Normal) (config u q [] Normal)
+  normal-one {x} {p} {q} e u =
+      normal (edge-listed t e)
+      (λ z. e .may .0 (t .matches p .1 (z .0), t .matches q .1 (z .1)))
+      (λ z. e .may .1 (t .stores p .1 z))
+
+  store-free : {p q : ℕ} → Free (graph list first g h) Buffering p q → (u v : List ℕ) → Run (fsbmOf m list) (config u p v Buffering) (config u q v Buffering)
+  store-free here u v = done
+  store-free (more {r = r} f e) u v =
+      run-one (store-free f u v) (subst (λ (z : List ℕ). Yields (fsbmOf m list) (config u _ v Buffering) (config u r z Buffering)) (append-nil v) (store-one e u v))
+
+  empty-free : {p q : ℕ} → Free (graph list first g h) Emptying p q → (u v : List ℕ) → Run (fsbmOf m list) (config u p v Emptying) (config u q v Emptying)
+  empty-free here u v = done
+  empty-free (more f e) u v = run-one (empty-free f u v) (empty-one e u v)
+
+  storing-run : {i p j q : ℕ} → Walk (graph list first g h) w Buffering i p j q → Run (fsbmOf m list) (config (drop i w) p [] Buffering) (config (drop j w) q (slice i j w) Buffering)
+  storing-run {i} {p} {j} {q} (still e f) =
+      subst₂ (λ (u v : List ℕ). Run (fsbmOf m list) (config (drop i w) p [] Buffering) (config u q v Buffering))
+      (ap (λ (n : ℕ). drop n w) (sym e)) (sym (ap (λ (n : ℕ). slice i n w) e ∙ slice-empty i w)) (store-free f (drop i w) [])
+  storing-run {i} {p} {j} {q} (reads {j = k} {q = r} v lt a e) =
+      let x = getD w k 0 in
+      let le = walk-forward v in
+      let step = subst₂ (λ (u z : List ℕ). Yields (fsbmOf m list) (config u r (slice i k w) Buffering) (config (drop (suc k) w) (a .middle) z Buffering))
+      (sym (drop-letter w k x lt refl (a .letter))) (sym (slice-more w i k x le lt refl (a .letter))) (store-one (a .edge) (drop (suc k) w) (slice i k w)) in
+      subst (λ (n : ℕ). Run (fsbmOf m list) (config (drop i w) p [] Buffering) (config (drop n w) q (slice i n w) Buffering)) (sym e)
+      (run-join (run-one (storing-run v) step) (store-free (a .free) (drop (suc k) w) (slice i (suc k) w)))
+
+  -- the letters from i up to k are taken from the buffer, and stand in the word from j on
+  emptying-run : (i j : ℕ) → i ≤ j → j + (j - i) ≤ length w → Matches w i j → {s k q : ℕ} → Walk (graph list first g h) w Emptying i s k q → k ≤ j
+      → Run (fsbmOf m list) (config (drop j w) s (slice i j w) Emptying) (config (drop (j + (k - i)) w) q (slice k j w) Emptying)
+  emptying-run i j ij room same {s} {k} {q} (still e f) le =
+      let at : j ≡ j + (k - i) = omega arith in
+      subst₂ (λ (u v : List ℕ). Run (fsbmOf m list) (config (drop j w) s (slice i j w) Emptying) (config u q v Emptying))
+      (ap (λ (n : ℕ). drop n w) at) (ap (λ (n : ℕ). slice n j w) (sym e)) (empty-free f (drop j w) (slice i j w))
+  emptying-run i j ij room same {s} {k} {q} (reads {j = o} {q = r} v lt a e) le =
+      let x = getD w o 0 in
+      let ge = walk-forward v in
+      let back : i + (o - i) ≡ o = omega arith in
+      let letter : getD w (j + (o - i)) 0 ≡ x = sym (same (o - i) (omega arith)) ∙ ap (λ (n : ℕ). getD w n 0) back in
+      let next : suc (j + (o - i)) ≡ j + (k - i) = omega arith in
+      let input = drop-letter w (j + (o - i)) x (omega arith) letter (a .letter) in
+      let stored = slice-letter w o j x (omega arith) (omega arith) refl (a .letter) in
+      let step = subst₂ (λ (u z : List ℕ). Yields (fsbmOf m list) (config u r z Emptying) (config (drop (suc (j + (o - i))) w) (a .middle) (slice (suc o) j w) Emptying))
+      (sym input) (sym stored) (empty-one (a .edge) (drop (suc (j + (o - i))) w) (slice (suc o) j w)) in
+      subst₂ (λ (u v : List ℕ). Run (fsbmOf m list) (config (drop j w) s (slice i j w) Emptying) (config u q v Emptying))
+      (ap (λ (n : ℕ). drop n w) next) (ap (λ (n : ℕ). slice n j w) (sym e))
+      (run-join (run-one (emptying-run i j ij room same v (omega arith)) step) (empty-free (a .free) (drop (suc (j + (o - i))) w) (slice (suc o) j w)))
+
+  copy-run : {i j k p s q : ℕ} → In g p → i ≤ j → Walk (graph list first g h) w Buffering i p j s → In h s → Walk (graph list first g h) w Emptying i s j q
+      → Matches w i j → k ≡ j + (j - i) → k ≤ length w → Run (fsbmOf m list) (config (drop i w) p [] Normal) (config (drop k w) q [] Normal)
+  copy-run {i} {j} {k} {p} {s} {q} gp le v hs y same place in-word =
+      let turn = run-one (Run.more (begin-buffering (t .stores p .0 gp)) (storing-run v)) (begin-emptying (t .matches s .0 hs)) in
+      let read = emptying-run i j le (omega arith) same y (omega arith) in
+      let whole = run-join turn read in
+      let ended = subst (λ (z : List ℕ). Run (fsbmOf m list) (config (drop i w) p [] Normal) (config (drop (j + (j - i)) w) q z Emptying)) (slice-empty j w) whole in
+      subst (λ (n : ℕ). Run (fsbmOf m list) (config (drop i w) p [] Normal) (config (drop n w) q [] Normal)) (sym place)
+      (run-one ended (back-to-normal (t .matches q .0 (walk-matching hs y))))
+
+  pub reach-run : {start k q : ℕ} → Reach (graph list first g h) w start k q → (o : ℕ) × In start o × Run (fsbmOf m list) (config w o [] Normal) (config (drop k w) q [] Normal)
+  reach-run {q = q} (begins e i) = (q, i, subst (λ (n : ℕ). Run (fsbmOf m list) (config w q [] Normal) (config (drop n w) q [] Normal)) (sym e) done)
+  reach-run {k = k} (passes r e) = let (o, i, run) = reach-run r in (o, i, run-one run (normal-one e (drop k w)))
+  reach-run {q = q} (moves {i = k} {p = p} r lt some e place) =
+      let (o, i, run) = reach-run r in
+      let x = getD w k 0 in
+      let step = subst (λ (u : List ℕ). Yields (fsbmOf m list) (config u p [] Normal) (config (drop (suc k) w) q [] Normal)) (sym (drop-letter w k x lt refl some)) (normal-one e (drop (suc k) w)) in
+      (o, i, subst (λ (n : ℕ). Run (fsbmOf m list) (config w o [] Normal) (config (drop n w) q [] Normal)) (sym place) (run-one run step))
+  reach-run (copies r gp le v hs y same place in-word) =
+      let (o, i, run) = reach-run r in
+      (o, i, run-join run (copy-run gp le v hs y same place in-word))

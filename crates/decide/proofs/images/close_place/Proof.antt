@@ -1,0 +1,64 @@
+use Rattle.decide.proofs.Sweeps.{Placing, placing-start, placing-turn, placing-less, placing-end}
+use Rattle.decide.proofs.SetCases.{members-is}
+use Prim.Native.Nat.{_-_}
+use lib.Count.{ones}
+use Rattle.stateset.specs.Set.{width}
+use Rattle.fsbm.specs.declared.config.Mode.the-variants.{Normal}
+use Rattle.decide.specs.Graph.{graph, Edge, EmptyCopy, Turn, Good}
+use native.Mathlib.Omega.{arith}
+use borrow.Author.Needs.{needs}
+use Rattle.decide.proofs.images.close_place.Statement.{statement}
+use Rattle.decide.proofs.images.close_place.Tie as tie
+use Rattle.decide.proofs.images.close_place.Reads as reads
+use Rattle.decide.proofs.images.close_place.Lts as lts
+use Rattle.decide.proofs.images.close_set.Reads as close-set-reads
+use Rattle.decide.proofs.images.empty_copies.Reads as empty-copies-reads
+use Rattle.stateset.proofs.union.Reads as union-reads
+
+abbrev Inv-loop : tie.InvT-loop
+Inv-loop list first g h set all₀ all = Good list first × Placing (Turn (graph list first g h)) set all
+
+abbrev μ-loop : tie.MeasureT-loop
+μ-loop list first g h set all₀ all = width - ones all
+
+-- src/images.rt:198:5
+loop-holds : tie.Need-loop-holds Inv-loop μ-loop
+loop-holds c = ((c .before .pre), placing-start (Edge (graph ((c .before .args .list) .now) ((c .before .args .first) .now) (c .before .args .g) (c .before .args .h)) Normal 0) (EmptyCopy (graph ((c .before .args .list) .now) ((c .before .args .first) .now) (c .before .args .g) (c .before .args .h))) _ (omega arith))
+
+-- src/images.rt:199:13
+close-set-requires : tie.Need-close-set-requires Inv-loop μ-loop
+close-set-requires c κs = (c .loop .inv) .0
+
+-- src/images.rt:200:44
+empty-copies-requires : tie.Need-empty-copies-requires Inv-loop μ-loop
+empty-copies-requires c κs = (c .before .loop .inv) .0
+
+-- src/images.rt:200:13
+union-requires : tie.Need-union-requires Inv-loop μ-loop
+union-requires c κs = search needs
+
+-- src/images.rt:202:13
+returns : tie.Need-returns Inv-loop μ-loop
+returns c = placing-end (Edge (graph ((c .before .before .before .before .before .before .args .list) .now) ((c .before .before .before .before .before .before .args .first) .now) (c .before .before .before .before .before .before .args .g) (c .before .before .before .before .before .before .args .h)) Normal 0) (EmptyCopy (graph ((c .before .before .before .before .before .before .args .list) .now) ((c .before .before .before .before .before .before .args .first) .now) (c .before .before .before .before .before .before .args .g) (c .before .before .before .before .before .before .args .h))) _ _ _ _ _ ((c .before .before .before .before .loop .inv) .1) (c .before .before .before .close-set .ensures) (c .before .before .empty-copies .ensures) (members-is (c .before .union .ensures)) (c .if1 .taken)
+
+-- src/images.rt:198:5
+loop-less : tie.Need-loop-less Inv-loop μ-loop
+loop-less c = placing-less (Edge (graph ((c .before .before .before .before .before .before .args .list) .now) ((c .before .before .before .before .before .before .args .first) .now) (c .before .before .before .before .before .before .args .g) (c .before .before .before .before .before .before .args .h)) Normal 0) (EmptyCopy (graph ((c .before .before .before .before .before .before .args .list) .now) ((c .before .before .before .before .before .before .args .first) .now) (c .before .before .before .before .before .before .args .g) (c .before .before .before .before .before .before .args .h))) _ _ _ _ _ ((c .before .before .before .before .loop .inv) .1) (c .before .before .before .close-set .ensures) (c .before .before .empty-copies .ensures) (members-is (c .before .union .ensures)) (c .before .union .ensures) (c .if1 .left)
+
+-- src/images.rt:198:5
+loop-again : tie.Need-loop-again Inv-loop μ-loop
+loop-again c = ((c .before .before .before .before .loop .inv) .0, placing-turn (Edge (graph ((c .before .before .before .before .before .before .args .list) .now) ((c .before .before .before .before .before .before .args .first) .now) (c .before .before .before .before .before .before .args .g) (c .before .before .before .before .before .before .args .h)) Normal 0) (EmptyCopy (graph ((c .before .before .before .before .before .before .args .list) .now) ((c .before .before .before .before .before .before .args .first) .now) (c .before .before .before .before .before .before .args .g) (c .before .before .before .before .before .before .args .h))) _ _ _ _ _ ((c .before .before .before .before .loop .inv) .1) (c .before .before .before .close-set .ensures) (c .before .before .empty-copies .ensures) (members-is (c .before .union .ensures)))
+
+pub close-place-spec : {M : Type 1} → statement M
+close-place-spec =
+    tie.close
+    (tie.spec
+    Inv-loop
+    μ-loop
+    loop-holds
+    close-set-requires
+    empty-copies-requires
+    union-requires
+    returns
+    loop-less
+    loop-again)

@@ -1,0 +1,18 @@
+use Rattle.decide.proofs.StageCases.{stage-start}
+use native.Mathlib.Omega.{arith}
+use borrow.Author.Needs.{needs}
+use Rattle.decide.proofs.places.start_at.Statement.{statement}
+use Rattle.decide.proofs.places.start_at.Tie as tie
+use Rattle.decide.proofs.places.start_at.Reads as reads
+use Rattle.decide.proofs.places.start_at.Lts as lts
+
+-- src/places.rt:103:5
+array-write-sets : tie.Need-array-write-sets
+array-write-sets c = search needs
+
+-- src/places.rt:99:1
+returns : tie.Need-returns
+returns c = λ G w. stage-start G w _ (omega arith)
+
+pub start-at-spec : {M : Type 1} → statement M
+start-at-spec = tie.close (tie.spec array-write-sets returns)

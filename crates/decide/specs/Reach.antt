@@ -1,0 +1,78 @@
+-- The states that a run reaches at each place in normal mode, copies taken as one step.
+--
+-- Walk G w T i p j q       == in mode T the letters of w from i up to j lead from p to q
+-- Matches w i j            == the letters of w from i up to j stand once more from j on
+-- LastSquare w i r         == no square of w that starts at i is longer than the one up to r and as far again
+-- Reach G w start k q      == some run from a state of the set start is in state q at place k in normal mode
+-- CopyTo G w i starts k q  == a copy of at least one letter that begins at place i in a state of the set starts ends at k in q
+-- Copied G w i starts a b  == the sets b are the sets a with what such copies reach
+-- ReadTo G w i near k q     == a normal move from a state of the set near reads the letter at i and ends at place k in q
+-- Passed G w a b i         == the sets b are the sets a once place i is completed and what it reaches at later places is added
+-- Stage G w start sets t   == the sets of the places below t are complete; every member of a set is reached
+use Prim.Native.Nat.{ℕ, suc, _+_, _-_, _^_, _≤_, _<_}
+use mathlib.Core.Path.{_≡_}
+use mathlib.Core.Logic.{_↔_, _⊎_}
+use mathlib.Core.List.{List}
+use lib.ListN.{length, getD, set}
+use lib.Bits.{bitAnd}
+use Rattle.stateset.specs.Set.{width, In}
+use Rattle.fsbm.specs.declared.config.Mode.{Mode}
+use Rattle.fsbm.specs.declared.config.Mode.the-variants.{Normal, Buffering, Emptying}
+use Rattle.decide.specs.Graph.{Members, From, Star, Graph, Fitting, Edge, Free, Turn, Advance}
+
+pub data Walk (G : Graph) (w : List ℕ) (T : Mode) (i p : ℕ) : ℕ → ℕ → Type 0 where
+  still : {j q : ℕ} → j ≡ i → Free G T p q → Walk G w T i p j q
+  reads : {j k q r : ℕ} → Walk G w T i p j q → j < length w → Advance G T (getD w j 0) q r → k ≡ suc j → Walk G w T i p k r
+
+abbrev pub Matches : List ℕ → ℕ → ℕ → Type 0
+Matches w i j = (t : ℕ) → t < j - i → getD w (i + t) 0 ≡ getD w (j + t) 0
+
+pub record LastSquare (w : List ℕ) (i r : ℕ) : Type 0 where
+  pub from : i ≤ r
+  pub room : r + (r - i) ≤ length w
+  pub last : (j : ℕ) → r < j → j + (j - i) ≤ length w → Matches w i j → ⊥
+
+pub data Reach (G : Graph) (w : List ℕ) (start : ℕ) : ℕ → ℕ → Type 0 where
+  begins : {k q : ℕ} → k ≡ 0 → In start q → Reach G w start k q
+  passes : {k p q : ℕ} → Reach G w start k p → Edge G Normal 0 p q → Reach G w start k q
+  moves : {i k p q : ℕ} → Reach G w start i p → i < length w → 0 < getD w i 0 → Edge G Normal (getD w i 0) p q → k ≡ suc i → Reach G w start k q
+  copies : {i j k p s q : ℕ} → Reach G w start i p → In (G .buffering) p → i ≤ j → Walk G w Buffering i p j s → In (G .matching) s
+      → Walk G w Emptying i s j q → Matches w i j → k ≡ j + (j - i) → k ≤ length w → Reach G w start k q
+
+pub record CopyTo (G : Graph) (w : List ℕ) (i starts k q : ℕ) : Type 0 where
+  pub from : ℕ
+  pub begins : In starts from
+  pub end : ℕ
+  pub some : i < end
+  pub middle : ℕ
+  pub storing : Walk G w Buffering i from end middle
+  pub turns : In (G .matching) middle
+  pub emptying : Walk G w Emptying i middle end q
+  pub same : Matches w i end
+  pub place : k ≡ end + (end - i)
+  pub inside : k ≤ length w
+
+pub record Copied (G : Graph) (w : List ℕ) (i starts : ℕ) (a b : List ℕ) : Type 0 where
+  pub fitting : Fitting 256 b
+  pub members : (k q : ℕ) → In (getD b k 0) q ↔ (In (getD a k 0) q ⊎ CopyTo G w i starts k q)
+
+pub record ReadTo (G : Graph) (w : List ℕ) (i near k q : ℕ) : Type 0 where
+  pub place : k ≡ suc i
+  pub inside : i < length w
+  pub letter : 0 < getD w i 0
+  pub from : From near (Edge G Normal (getD w i 0)) q
+
+pub record Passed (G : Graph) (w : List ℕ) (a b : List ℕ) (i : ℕ) : Type 0 where
+  pub fitting : Fitting 256 b
+  pub near : ℕ
+  pub completes : Members near (From (getD a i 0) (Star (Turn G)))
+  pub members : (k q : ℕ) → In (getD b k 0) q ↔ (In (getD (set a i near) k 0) q ⊎ (ReadTo G w i near k q ⊎ CopyTo G w i (bitAnd near (G .buffering)) k q))
+
+pub record Stage (G : Graph) (w : List ℕ) (start : ℕ) (sets : List ℕ) (t : ℕ) : Type 0 where
+  pub fitting : Fitting 256 sets
+  pub sound : (k q : ℕ) → In (getD sets k 0) q → Reach G w start k q
+  pub begun : (q : ℕ) → In start q → In (getD sets 0 0) q
+  pub passed : (k p q : ℕ) → k < t → In (getD sets k 0) p → Edge G Normal 0 p q → In (getD sets k 0) q
+  pub read : (k p q : ℕ) → k < t → k < length w → 0 < getD w k 0 → In (getD sets k 0) p → Edge G Normal (getD w k 0) p q → In (getD sets (suc k) 0) q
+  pub copied : (i j k p s q : ℕ) → i < t → In (getD sets i 0) p → In (G .buffering) p → i ≤ j → Walk G w Buffering i p j s → In (G .matching) s
+      → Walk G w Emptying i s j q → Matches w i j → k ≡ j + (j - i) → k ≤ length w → In (getD sets k 0) q

@@ -1,0 +1,10 @@
+// Whether a machine accepts a word, by sets of states.
+//
+// images   the image of a set under the transitions that a mode may take, and closures under epsilon moves
+// rows     for each matching state the set of matching states that a stretch of letters leads from
+// squares  stretches of a word that stand twice in a row
+// places   the states reached at each place of a word; is_accepted
+pub mod images;
+pub mod places;
+pub mod rows;
+pub mod squares;

@@ -1,0 +1,153 @@
+// The states that runs reach at each place of a word in normal mode, and whether a machine accepts a word.
+ghost use Prim.Native.Nat.{ℕ, _+_, _-_, _≤_, _<_};
+ghost use mathlib.Core.Path.{_≡_};
+ghost use mathlib.Core.Bool.{true};
+ghost use mathlib.Core.List.{List};
+ghost use lib.ListN.{length, getD};
+ghost use Rattle.stateset.specs.Set.{width, In};
+ghost use Rattle.fsbm.specs.Machine.{wellFormed};
+ghost use Rattle.fsbm.specs.Accepted.{accepted};
+ghost use Rattle.fsbm.specs.declared.config.Mode.the-variants.{Normal, Buffering, Emptying};
+ghost use Rattle.decide.specs.Graph.{Members, Fitting, Graph, graph, Good};
+ghost use Rattle.decide.specs.Reach.{Matches, Copied, Passed, Stage};
+use crate::images;
+use crate::rows;
+use crate::squares;
+use fsbm::config::Mode;
+use fsbm::machine::Machine;
+
+// The reached set of each place of a word: one for each place 0 to 255.
+pub struct Reached {
+    pub sets: [u64; 256],
+}
+
+// Where the copy of the letters from i up to j ends: the states of s with which storing ends there turn to matching, and the rows
+// say where those letters lead from each.
+fn turned(h: u64, rows: &[u64; 64], word: &[u8], i: usize, j: usize, s: u64) -> u64
+    requires { ⌜ (i ≤ j) × (j + (j - i) ≤ length (now word)) ⌝ }
+    ensures { λ r. ⌜ Members r (λ q. Matches (now (word .entry)) i j × (In h q × ((p : ℕ) × In (getD (now (rows .entry)) q 0) p × (In s p × In h p)))) ⌝ }
+{
+    let ends = stateset::intersection(s, h);
+    if ends == 0 {
+        return 0;
+    }
+    if !squares::is_square(word, i, j) {
+        return 0;
+    }
+    rows::gather(h, rows, ends)
+}
+
+// Adds to the sets what the copies of at least one letter reach that begin at place i in the states of starts.
+fn copies_from(
+    list: &[u16],
+    first: &[u16; 65],
+    g: u64,
+    h: u64,
+    word: &[u8],
+    sets: &mut [u64; 256],
+    i: usize,
+    starts: u64,
+)
+    requires { ⌜ Good (now list) (now first) × (i ≤ length (now word)) × (length (now word) ≤ 255) × Fitting 256 (now sets) ⌝ }
+    ensures { λ r. ⌜ Copied (graph (now (list .entry)) (now (first .entry)) g h) (now (word .entry)) i starts (now (sets .entry)) (now (sets .exit)) ⌝ }
+{
+    let last = squares::last_square(word, i);
+    if last <= i {
+        return;
+    }
+    let mut s = images::close_set(list, first, g, h, Mode::Buffering, starts);
+    let mut rows = rows::start_rows(list, first, g, h);
+    let mut j = i;
+    while j < last {
+        if s == 0 {
+            return;
+        }
+        let x = word[j] as u16;
+        s = images::advance(list, first, g, h, Mode::Buffering, s, x);
+        rows = rows::step_rows(list, first, g, h, &rows, x);
+        j += 1;
+        let e = j + (j - i);
+        sets[e] = stateset::union(sets[e], turned(h, &rows, word, i, j, s));
+    }
+}
+
+// Completes the set of place i and adds what it reaches at later places.
+fn pass_place(
+    list: &[u16],
+    first: &[u16; 65],
+    g: u64,
+    h: u64,
+    word: &[u8],
+    sets: &mut [u64; 256],
+    i: usize,
+)
+    requires { ⌜ Good (now list) (now first) × (i ≤ length (now word)) × (length (now word) ≤ 255) × Fitting 256 (now sets) ⌝ }
+    ensures { λ r. ⌜ Passed (graph (now (list .entry)) (now (first .entry)) g h) (now (word .entry)) (now (sets .entry)) (now (sets .exit)) i ⌝ }
+{
+    let near = images::close_place(list, first, g, h, sets[i]);
+    sets[i] = near;
+    if near == 0 {
+        return;
+    }
+    if word.len() <= i {
+        return;
+    }
+    let x = word[i] as u16;
+    let read = images::read_set(list, first, g, h, Mode::Normal, near, x);
+    let k = i + 1;
+    sets[k] = stateset::union(sets[k], read);
+    let starts = stateset::intersection(near, g);
+    if starts == 0 {
+        return;
+    }
+    copies_from(list, first, g, h, word, sets, i, starts);
+}
+
+// The sets at the start of a word: the initial states at place 0.
+fn start_at(initial: u64) -> Reached
+    ensures { λ r. ⌜ ((G : Graph) (w : List ℕ) → Stage G w initial (r .sets) 0) ⌝ }
+{
+    let mut sets: [u64; 256] = [0; 256];
+    sets[0] = initial;
+    Reached { sets: sets }
+}
+
+// The sets of all places of a word, from those at its start.
+fn reach_all(
+    list: &[u16],
+    first: &[u16; 65],
+    g: u64,
+    h: u64,
+    word: &[u8],
+    start: Reached,
+) -> Reached
+    requires { ⌜ Good (now list) (now first) × (length (now word) ≤ 255) × Fitting 256 (start .sets) ⌝ }
+    ensures { λ r. ⌜ ((q : ℕ) → Stage (graph (now (list .entry)) (now (first .entry)) g h) (now (word .entry)) q (start .sets) 0
+        → Stage (graph (now (list .entry)) (now (first .entry)) g h) (now (word .entry)) q (r .sets) (length (now (word .entry)) + 1)) ⌝ }
+{
+    let mut r = start;
+    let mut i: usize = 0;
+    while i <= word.len() {
+        pass_place(list, first, g, h, word, &mut r.sets, i);
+        i += 1;
+    }
+    r
+}
+
+// Whether a machine accepts a word of at most 255 letters. The caller has tested that the record and its list obey the rules of a
+// table, and the word's length: this is a seam between crates.
+// Time: for a word of n letters at most n²/4 steps of the machine's buffering and emptying transitions by one letter. Memory: 4 KB.
+pub fn is_accepted(m: Machine, list: &[u16], word: &[u8]) -> bool
+    requires { ⌜ (wellFormed m (now list) ≡ true) × (length (now word) ≤ 255) ⌝ }
+    ensures { λ r. ⌜ r ≡ accepted m (now (list .entry)) (now (word .entry)) ⌝ }
+{
+    let initial = images::states_with(&m.marks, m.states, 0);
+    let finals = images::states_with(&m.marks, m.states, 1);
+    let g = images::states_with(&m.marks, m.states, 2);
+    let h = images::states_with(&m.marks, m.states, 3);
+    let a = adjacency::index(m, list);
+    let r = reach_all(list, &a.first, g, h, word, start_at(initial));
+    let n = word.len();
+    let ended = r.sets[n];
+    stateset::intersection(ended, finals) != 0
+}

@@ -1,0 +1,24 @@
+use mathlib.Core.Path.{ap}
+use Rattle.exports.specs.SheetAnswers.{asRead, readSheet}
+use borrow.Author.Needs.{needs}
+use Rattle.exports.proofs.sheets.zagvirk_read_sheet.Statement.{statement}
+use Rattle.exports.proofs.sheets.zagvirk_read_sheet.Tie as tie
+use Rattle.exports.proofs.sheets.zagvirk_read_sheet.Reads as reads
+use Rattle.exports.proofs.sheets.zagvirk_read_sheet.Lts as lts
+use Rattle.sheet.proofs.read.read_sheet.Reads as read-sheet-reads
+
+-- src/sheets.rt:43:9
+read-sheet-requires : tie.Need-read-sheet-requires
+read-sheet-requires c κs = search needs
+
+-- src/sheets.rt:39:1
+same-length : tie.Need-same-length
+same-length c = search needs
+
+-- src/sheets.rt:39:1
+returns : tie.Need-returns
+unfolding readSheet
+returns c = (ap asRead ((c .before .before .before .read-sheet .ensures) .0), (c .before .before .before .read-sheet .ensures) .1)
+
+pub zagvirk-read-sheet-spec : {M : Type 1} → statement M
+zagvirk-read-sheet-spec = tie.close (tie.spec read-sheet-requires same-length returns)

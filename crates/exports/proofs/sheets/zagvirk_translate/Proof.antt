@@ -1,0 +1,50 @@
+use mathlib.Core.Path.{ap, sym, _∙_}
+use Rattle.exports.specs.SheetAnswers.{asTranslation, translation}
+use borrow.Author.Needs.{needs}
+use Rattle.exports.proofs.sheets.zagvirk_translate.Statement.{statement}
+use Rattle.exports.proofs.sheets.zagvirk_translate.Tie as tie
+use Rattle.exports.proofs.sheets.zagvirk_translate.Reads as reads
+use Rattle.exports.proofs.sheets.zagvirk_translate.Lts as lts
+use Rattle.spelling.proofs.translate.Reads as translate-reads
+
+-- src/sheets.rt:77:9
+translate-requires : tie.Need-translate-requires
+translate-requires c κs = search needs
+
+-- src/sheets.rt:79:29
+enum-known-answer : tie.Need-enum-known-answer
+enum-known-answer c = search needs
+
+-- src/sheets.rt:84:29
+enum-known-answer-2 : tie.Need-enum-known-answer-2
+enum-known-answer-2 c = search needs
+
+-- src/sheets.rt:73:1
+same-length : tie.Need-same-length
+same-length c = search needs
+
+-- src/sheets.rt:73:1
+returns : tie.Need-returns
+unfolding translation
+returns c = (ap asTranslation (sym ((c .before .answer .given) .1)) ∙ ap asTranslation ((c .before .before .before .before .before .translate .ensures) .0), (c .before .before .before .before .before .translate .ensures) .1)
+
+-- src/sheets.rt:73:1
+same-length-2 : tie.Need-same-length-2
+same-length-2 c = search needs
+
+-- src/sheets.rt:73:1
+returns-2 : tie.Need-returns-2
+unfolding translation
+returns-2 c = (ap asTranslation (sym ((c .before .answer2 .given) .1)) ∙ ap asTranslation ((c .before .before .before .before .before .translate .ensures) .0), (c .before .before .before .before .before .translate .ensures) .1)
+
+pub zagvirk-translate-spec : {M : Type 1} → statement M
+zagvirk-translate-spec =
+    tie.close
+    (tie.spec
+    translate-requires
+    enum-known-answer
+    enum-known-answer-2
+    same-length
+    returns
+    same-length-2
+    returns-2)

@@ -1,0 +1,94 @@
+// Sheets and written words, for other languages. A field that does not apply is 0.
+ghost use mathlib.Core.Path.{_≡_};
+ghost use lib.ListN.{length};
+ghost use Rattle.sheet.specs.Reading.{readList};
+ghost use Rattle.sheet.specs.Writing.{writeSheet};
+ghost use Rattle.spelling.specs.Spelling.{translateWord};
+ghost use Rattle.exports.specs.SheetAnswers.{readSheet, sheetWritten, translation};
+use fsbm::machine::Machine;
+use sheet::read;
+use sheet::write;
+use sheet::write::Written;
+use spelling::Translated;
+
+// The answer of zagvirk_read_sheet.
+#[repr(C)]
+pub struct ReadSheet {
+    pub refusal: u8,
+    pub needed: usize,
+    pub machine: Machine,
+}
+
+// The answer of zagvirk_write_sheet.
+#[repr(C)]
+pub struct SheetWritten {
+    pub refusal: u8,
+    pub needed: usize,
+    pub bytes: usize,
+}
+
+// The answer of zagvirk_translate.
+#[repr(C)]
+pub struct Translation {
+    pub refusal: u8,
+    pub needed: usize,
+    pub letters: usize,
+}
+
+// sheet::read::read_sheet.
+#[no_mangle]
+pub extern "C" fn zagvirk_read_sheet(sheet: &[u8], list: &mut [u16]) -> ReadSheet
+    ensures { λ r. ⌜ (r ≡ readSheet (now (sheet .entry)) (length (now (list .entry)))) × (now (list .exit) ≡ readList (now (sheet .entry)) (now (list .entry))) ⌝ }
+{
+    let answer = read::read_sheet(sheet, list);
+    let machine = answer.machine;
+    ReadSheet {
+        refusal: answer.refusal.number,
+        needed: answer.refusal.needed,
+        machine,
+    }
+}
+
+// sheet::write::write_sheet.
+#[no_mangle]
+pub extern "C" fn zagvirk_write_sheet(
+    machine: Machine,
+    list: &[u16],
+    sheet: &mut [u8],
+) -> SheetWritten
+    ensures { λ r. ⌜ (r ≡ sheetWritten machine (now (list .entry)) (length (now (sheet .entry)))) × (now (sheet .exit) ≡ writeSheet machine (now (list .entry)) (now (sheet .entry))) ⌝ }
+{
+    let answer = write::write_sheet(machine, list, sheet);
+    match answer {
+        Written::Refused(refusal) => SheetWritten {
+            refusal: refusal.number,
+            needed: refusal.needed,
+            bytes: 0,
+        },
+        Written::Bytes(bytes) => SheetWritten {
+            refusal: 0,
+            needed: 0,
+            bytes,
+        },
+    }
+}
+
+// spelling::translate.
+#[no_mangle]
+pub extern "C" fn zagvirk_translate(bytes: &[u8], word: &mut [u8]) -> Translation
+    ensures { λ r. ⌜ (r ≡ translation (now (bytes .entry)) (length (now (word .entry)))) × (now (word .exit) ≡ translateWord (now (bytes .entry)) (now (word .entry))) ⌝ }
+{
+    let answer = spelling::translate(bytes, word);
+    match answer {
+        Translated::Refused(refusal) => Translation {
+            refusal: refusal.number,
+            needed: refusal.needed,
+            letters: 0,
+        },
+        Translated::Letters(letters) => Translation {
+            refusal: 0,
+            needed: 0,
+            letters,
+        },
+    }
+}

@@ -1,0 +1,3 @@
+pub mod FaultCases
+pub mod ReadCases
+pub mod WriteCases

@@ -1,0 +1,182 @@
+-- Lines put into a list one after the other.
+--
+-- line-two, line-three == columns and the byte 10, put one by one, are the line
+-- each-none, each-more == a loop that puts the lists of eachBelow
+use Prim.Native.Nat.{ℕ, zero, suc, _+_, _*_, _<_, _≤_}
+use mathlib.Core.Path.{_≡_, refl, sym, ap, _∙_, subst}
+use mathlib.Core.List.{List, [], _∷_, _++_, append-assoc, append-nil}
+use mathlib.Core.Bool.{Bool, true, false, cond, _&&_}
+use native.Mathlib.Omega.{arith}
+use lib.ListN.{length, take, drop, set, length-append, take-append-drop}
+use lib.Dec.{leb, eqb}
+use borrow.Author.Tests.{le-leb, lt-leb, leb-true}
+use Rattle.columns.specs.Column.{columnOf, put}
+use Rattle.columns.specs.Column.Laws.{column-length, put-length, put-put, put-one, put-zero}
+use Rattle.graphs.specs.Search.Laws.{and-true}
+use Rattle.fsbm.specs.Machine.{markOf, transitionAt, wellFormed}
+use Rattle.fsbm.specs.declared.machine.Machine.{Machine}
+use Rattle.fsbm.specs.declared.answer.Refusal.{Refusal}
+use Rattle.sheet.specs.Series.{eachBelow}
+use Rattle.sheet.specs.Series.Laws.{each-next, each-length}
+use Rattle.sheet.specs.declared.write.Written.{Written}
+use Rattle.sheet.specs.declared.write.Written.the-variants.{Refused, Bytes}
+use Rattle.sheet.specs.Format.{lineOf, headerLine, stateLine, transitionLine, sheetLength, sheetOf}
+use Rattle.sheet.specs.Writing.{writeRefusal, writeAnswer, writeSheet}
+
+-- b put right after a
+pub put-more : (l l1 l2 a b : List ℕ) (at next : ℕ) → l1 ≡ put at l a → l2 ≡ put next l1 b → next ≡ at + length a → at + length a + length b ≤ length l → l2 ≡ put at l (a ++ b)
+put-more l l1 l2 a b at next e f n h = f ∙ (ap (λ (x : List ℕ). put next x b) e ∙ put-put at next l a b n h)
+
+module _ (l l1 l2 : List ℕ) (at a b : ℕ) (first : l1 ≡ put at l (columnOf 5 a)) (second : l2 ≡ put (at + 5) l1 (columnOf 5 b)) where
+  two-columns : at + 10 ≤ length l → l2 ≡ put at l (columnOf 5 a ++ columnOf 5 b)
+  two-columns h =
+      let n = column-length 5 a in
+      let m = column-length 5 b in
+      put-more l l1 l2 (columnOf 5 a) (columnOf 5 b) at (at + 5) first second (omega arith) (omega arith)
+
+  two-length : length (columnOf 5 a ++ columnOf 5 b) ≡ 10
+  two-length =
+      let n = column-length 5 a in
+      let m = column-length 5 b in
+      omega (arith, length-append (columnOf 5 a) (columnOf 5 b))
+
+  pub line-two : at + 11 ≤ length l → set l2 (at + 10) 10 ≡ put at l (lineOf (a ∷ b ∷ []))
+  unfolding lineOf
+  line-two h =
+      let c = two-columns (omega arith) in
+      let n = two-length in
+      let k : length l2 ≡ length l = ap length c ∙ put-length at l (columnOf 5 a ++ columnOf 5 b) (omega arith) in
+      put-more l l2 (set l2 (at + 10) 10) (columnOf 5 a ++ columnOf 5 b) (10 ∷ []) at (at + 10) c (put-one l2 (at + 10) 10 (omega arith)) (omega arith) (omega arith)
+      ∙ ap (λ (x : List ℕ). put at l x) (append-assoc (columnOf 5 a) (columnOf 5 b) (10 ∷ []))
+
+  module _ (l3 : List ℕ) (d : ℕ) (third : l3 ≡ put (at + 10) l2 (columnOf 5 d)) where
+    pub line-three : at + 16 ≤ length l → set l3 (at + 15) 10 ≡ put at l (lineOf (a ∷ b ∷ d ∷ []))
+    unfolding lineOf
+    line-three h =
+        let c = two-columns (omega arith) in
+        let n = two-length in
+        let m = column-length 5 d in
+        let e : l3 ≡ put at l (ab ++ columnOf 5 d) = put-more l l2 l3 ab (columnOf 5 d) at (at + 10) c third (omega arith) (omega arith) in
+        let q : length (ab ++ columnOf 5 d) ≡ 15 = omega (arith, length-append ab (columnOf 5 d)) in
+        let k : length l3 ≡ length l = ap length e ∙ put-length at l (ab ++ columnOf 5 d) (omega arith) in
+        put-more l l3 (set l3 (at + 15) 10) (ab ++ columnOf 5 d) (10 ∷ []) at (at + 15) e (put-one l3 (at + 15) 10 (omega arith)) (omega arith) (omega arith)
+        ∙ ap (λ (x : List ℕ). put at l x) (append-assoc ab (columnOf 5 d) (10 ∷ []) ∙ append-assoc (columnOf 5 a) (columnOf 5 b) (columnOf 5 d ++ (10 ∷ [])))
+      where
+        ab : List ℕ
+        ab = columnOf 5 a ++ columnOf 5 b
+
+pub length-two : (a b : ℕ) → length (lineOf (a ∷ b ∷ [])) ≡ 11
+unfolding lineOf
+length-two a b =
+    let n = column-length 5 a in
+    let m = column-length 5 b in
+    omega (arith, length-append (columnOf 5 a) (columnOf 5 b ++ (10 ∷ [])), length-append (columnOf 5 b) (10 ∷ []))
+
+pub length-three : (a b d : ℕ) → length (lineOf (a ∷ b ∷ d ∷ [])) ≡ 16
+unfolding lineOf
+length-three a b d =
+    let n = column-length 5 a in
+    let m = column-length 5 b in
+    let o = column-length 5 d in
+    omega (arith, length-append (columnOf 5 a) (columnOf 5 b ++ (columnOf 5 d ++ (10 ∷ []))), length-append (columnOf 5 b) (columnOf 5 d ++ (10 ∷ [])), length-append (columnOf 5 d) (10 ∷ []))
+
+-- the loops
+
+pub each-none : (start : ℕ) (l : List ℕ) (f : ℕ → List ℕ) → l ≡ put start l (eachBelow 0 f)
+unfolding put eachBelow
+each-none start l f =
+    let e : start + 0 ≡ start = omega arith in
+    sym (take-append-drop start l)
+    ∙ (ap (λ (x : List ℕ). x ++ drop start l) (sym (append-nil (take start l))) ∙ ap (λ (n : ℕ). take start l ++ [] ++ drop n l) (sym e))
+
+pub each-more : (w start : ℕ) (f : ℕ → List ℕ) → ((k : ℕ) → length (f k) ≡ w) → (l l1 l2 piece : List ℕ) (k at : ℕ)
+    → l1 ≡ put start l (eachBelow k f) → l2 ≡ put at l1 piece → piece ≡ f k → at ≡ start + w * k → start + w * k + w ≤ length l
+    → l2 ≡ put start l (eachBelow (k + 1) f)
+each-more w start f wide l l1 l2 piece k at e g p a h =
+    let n = each-length w f wide k in
+    let m : length (f k) ≡ w = wide k in
+    put-more l l1 l2 (eachBelow k f) (f k) start at e (g ∙ ap (λ (x : List ℕ). put at l1 x) p) (omega arith) (omega arith)
+    ∙ ap (λ (x : List ℕ). put start l x) (sym (each-next k f))
+
+pub state-piece : (marks : List ℕ) (q v : ℕ) → v ≡ markOf marks q → lineOf (q ∷ v ∷ []) ≡ stateLine marks q
+unfolding stateLine
+state-piece marks q v e = ap (λ (x : ℕ). lineOf (q ∷ x ∷ [])) e
+
+pub state-wide : (marks : List ℕ) (q : ℕ) → length (stateLine marks q) ≡ 11
+unfolding stateLine
+state-wide marks q = length-two q (markOf marks q)
+
+pub transition-piece : (list : List ℕ) (k : ℕ) → lineOf (transitionAt list k .from ∷ transitionAt list k .letter ∷ transitionAt list k .to ∷ []) ≡ transitionLine list k
+unfolding transitionLine
+transition-piece list k = refl
+
+pub transition-wide : (list : List ℕ) (k : ℕ) → length (transitionLine list k) ≡ 16
+unfolding transitionLine
+transition-wide list k = length-three (transitionAt list k .from) (transitionAt list k .letter) (transitionAt list k .to)
+
+-- how long what was written is
+pub each-fits : (w start : ℕ) (f : ℕ → List ℕ) → ((k : ℕ) → length (f k) ≡ w) → (l : List ℕ) (k : ℕ) → start + w * k ≤ length l → length (put start l (eachBelow k f)) ≡ length l
+each-fits w start f wide l k h = let n = each-length w f wide k in put-length start l (eachBelow k f) (omega arith)
+
+pub each-done : (start : ℕ) (f : ℕ → List ℕ) (l l1 : List ℕ) (k n : ℕ) → k ≤ n → n ≤ k → l1 ≡ put start l (eachBelow k f) → l1 ≡ put start l (eachBelow n f)
+each-done start f l l1 k n h g e = let q : k ≡ n = omega arith in e ∙ ap (λ (j : ℕ). put start l (eachBelow j f)) q
+
+-- The answer
+
+module _ (m : Machine) (list sheet : List ℕ) where
+  pub write-ill : (b : Bool) → b ≡ wellFormed m list → b ≡ false
+      → (Refused (record { number = 16; needed = 0 }) ≡ writeAnswer m list (length sheet)) × (sheet ≡ writeSheet m list sheet)
+  unfolding writeAnswer writeSheet writeRefusal
+  write-ill b e f = let w : wellFormed m list ≡ false = sym e ∙ f in (simp w, simp w)
+
+  pub write-short : (b : Bool) (n : ℕ) → b ≡ wellFormed m list → b ≡ true → n ≡ sheetLength m → length sheet < n
+      → (Refused (record { number = 19; needed = n }) ≡ writeAnswer m list (length sheet)) × (sheet ≡ writeSheet m list sheet)
+  unfolding writeAnswer writeSheet writeRefusal
+  write-short b n e t q h =
+      let w : wellFormed m list ≡ true = sym e ∙ t in
+      let l : leb (sheetLength m) (length sheet) ≡ false = lt-leb _ _ (subst (λ (k : ℕ). length sheet < k) q h) in
+      (ap (λ (k : ℕ). Refused (record { number = 19; needed = k })) q ∙ simp (w, l), simp (w, l))
+
+  pub write-long : (b : Bool) (n : ℕ) (after : List ℕ) → b ≡ wellFormed m list → b ≡ true → n ≡ sheetLength m → n ≤ length sheet → after ≡ sheetOf m list ++ drop (sheetLength m) sheet
+      → (Bytes n ≡ writeAnswer m list (length sheet)) × (after ≡ writeSheet m list sheet)
+  unfolding writeAnswer writeSheet writeRefusal
+  write-long b n after e t q h a =
+      let w : wellFormed m list ≡ true = sym e ∙ t in
+      let l : leb (sheetLength m) (length sheet) ≡ true = le-leb _ _ (subst (λ (k : ℕ). k ≤ length sheet) q h) in
+      (ap (λ (k : ℕ). Bytes k) q ∙ simp (w, l), a ∙ simp (w, l))
+
+  -- the three parts of a sheet, put one after the other
+  pub sheet-put : (l1 l2 l3 : List ℕ) (start : ℕ) → l1 ≡ put 0 sheet (lineOf (m .states ∷ m .letters ∷ m .transitions ∷ []))
+      → l2 ≡ put 16 l1 (eachBelow (m .states) (stateLine (m .marks))) → l3 ≡ put start l2 (eachBelow (m .transitions) (transitionLine list))
+      → start ≡ 16 + 11 * m .states → start + 16 * m .transitions ≤ length sheet → l3 ≡ sheetOf m list ++ drop (sheetLength m) sheet
+  unfolding sheetOf headerLine
+  sheet-put l1 l2 l3 start e f g s h =
+      let a = length-three (m .states) (m .letters) (m .transitions) in
+      let b = each-length 11 (stateLine (m .marks)) (state-wide (m .marks)) (m .states) in
+      let d = each-length 16 (transitionLine list) (transition-wide list) (m .transitions) in
+      let n : length (A ++ B) ≡ 16 + 11 * m .states = omega (arith, length-append A B) in
+      let o : length ((A ++ B) ++ C) ≡ sheetLength m = omega (arith, length-append (A ++ B) C) in
+      let x : l2 ≡ put 0 sheet (A ++ B) = put-more sheet l1 l2 A B 0 16 e f (omega arith) (omega arith) in
+      put-more sheet l2 l3 (A ++ B) C 0 start x g (omega arith) (omega arith)
+      ∙ (put-zero sheet ((A ++ B) ++ C)
+      ∙ (ap (λ (k : ℕ). ((A ++ B) ++ C) ++ drop k sheet) o ∙ ap (λ (l : List ℕ). l ++ drop (sheetLength m) sheet) (append-assoc A B C)))
+    where
+      A : List ℕ
+      A = lineOf (m .states ∷ m .letters ∷ m .transitions ∷ [])
+
+      B : List ℕ
+      B = eachBelow (m .states) (stateLine (m .marks))
+
+      C : List ℕ
+      C = eachBelow (m .transitions) (transitionLine list)
+
+-- what a table that obeys the rules says of its counts
+pub well-formed-counts : (m : Machine) (list : List ℕ) (b : Bool) → b ≡ wellFormed m list → b ≡ true → (m .states ≤ 64) × (m .transitions ≤ 4000) × (m .transitions * 3 ≤ length list)
+unfolding wellFormed
+well-formed-counts m list b e t =
+    let a = and-true (leb 1 (m .states)) _ (sym e ∙ t) in
+    let c = and-true (leb (m .states) 64) _ (a .1) in
+    let d = and-true (leb (m .letters) 250) _ (c .1) in
+    let f = and-true (leb (m .transitions) 4000) _ (d .1) in
+    let g = and-true (leb (m .transitions * 3) (length list)) _ (f .1) in
+    (leb-true _ _ (c .0), leb-true _ _ (f .0), leb-true _ _ (g .0))

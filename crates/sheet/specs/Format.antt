@@ -1,0 +1,39 @@
+-- The sheet of a table (document 01, "The sheet").
+--
+-- lineOf numbers         == a line: each number in a column of five bytes, and byte 10
+-- stateStart q           == the byte where the line of state q starts
+-- transitionStart n k    == the byte where the line of transition k starts, with n states
+-- sheetLength m          == the length of the table's sheet
+-- sheetOf m list         == the sheet of a table
+use Prim.Native.Nat.{ℕ, _+_, _*_}
+use mathlib.Core.List.{List, [], _∷_, _++_}
+use Rattle.columns.specs.Column.{columnOf}
+use Rattle.fsbm.specs.Machine.{markOf, transitionAt}
+use Rattle.fsbm.specs.declared.machine.Machine.{Machine}
+use Rattle.sheet.specs.Series.{eachBelow}
+
+unfoldable pub lineOf : List ℕ → List ℕ
+lineOf [] = 10 ∷ []
+lineOf (n ∷ l) = columnOf 5 n ++ lineOf l
+
+-- line one has three columns and so 16 bytes, a state's line two and 11, a transition's line three and 16
+abbrev pub stateStart : ℕ → ℕ
+stateStart q = 16 + 11 * q
+
+abbrev pub transitionStart : ℕ → ℕ → ℕ
+transitionStart states k = 16 + 11 * states + 16 * k
+
+abbrev pub sheetLength : Machine → ℕ
+sheetLength m = transitionStart (m .states) (m .transitions)
+
+unfoldable pub headerLine : Machine → List ℕ
+headerLine m = lineOf (m .states ∷ m .letters ∷ m .transitions ∷ [])
+
+unfoldable pub stateLine : List ℕ → ℕ → List ℕ
+stateLine marks q = lineOf (q ∷ markOf marks q ∷ [])
+
+unfoldable pub transitionLine : List ℕ → ℕ → List ℕ
+transitionLine list k = lineOf (transitionAt list k .from ∷ transitionAt list k .letter ∷ transitionAt list k .to ∷ [])
+
+unfoldable pub sheetOf : Machine → List ℕ → List ℕ
+sheetOf m list = headerLine m ++ (eachBelow (m .states) (stateLine (m .marks)) ++ eachBelow (m .transitions) (transitionLine list))

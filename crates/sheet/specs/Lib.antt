@@ -1,0 +1,5 @@
+pub mod Examples
+pub mod Format
+pub mod Reading
+pub mod Series
+pub mod Writing

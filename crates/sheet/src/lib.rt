@@ -1,0 +1,8 @@
+// Table sheets: the reader and the writer.
+//
+// read    the public call read_sheet; Sheet, its answer
+// write   the public call write_sheet; Written, its answer
+// faults  the first fault of a sheet in reading order
+pub mod faults;
+pub mod read;
+pub mod write;

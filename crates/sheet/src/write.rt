@@ -1,0 +1,98 @@
+// The writer of sheets.
+ghost use Prim.Native.Nat.{ℕ, _+_, _*_, _≤_};
+ghost use mathlib.Core.Path.{_≡_};
+ghost use mathlib.Core.List.{[], _∷_};
+ghost use lib.ListN.{length};
+ghost use Rattle.columns.specs.Column.{put};
+ghost use Rattle.sheet.specs.Series.{eachBelow};
+ghost use Rattle.sheet.specs.Format.{lineOf, stateLine, transitionLine};
+ghost use Rattle.sheet.specs.Writing.{writeAnswer, writeSheet};
+use fsbm::answer::Refusal;
+use fsbm::machine;
+use fsbm::machine::Machine;
+
+// The answer of write_sheet: why it refused, or how many bytes it wrote.
+pub enum Written {
+    Refused(Refusal),
+    Bytes(usize),
+}
+
+// A line of two columns, written from byte at on.
+fn write_two(sheet: &mut [u8], at: usize, a: usize, b: usize)
+    requires { ⌜ at + 11 ≤ length (now sheet) ⌝ }
+    ensures { λ r. ⌜ now (sheet .exit) ≡ put at (now (sheet .entry)) (lineOf (a ∷ b ∷ [])) ⌝ }
+{
+    columns::write_number(sheet, at, a);
+    columns::write_number(sheet, at + 5, b);
+    sheet[at + 10] = 10;
+}
+
+// A line of three columns, written from byte at on.
+fn write_three(sheet: &mut [u8], at: usize, a: usize, b: usize, c: usize)
+    requires { ⌜ at + 16 ≤ length (now sheet) ⌝ }
+    ensures { λ r. ⌜ now (sheet .exit) ≡ put at (now (sheet .entry)) (lineOf (a ∷ b ∷ c ∷ [])) ⌝ }
+{
+    columns::write_number(sheet, at, a);
+    columns::write_number(sheet, at + 5, b);
+    columns::write_number(sheet, at + 10, c);
+    sheet[at + 15] = 10;
+}
+
+// The lines of the states, written after line one.
+fn write_states(sheet: &mut [u8], marks: &[u8; 64], states: usize)
+    requires { ⌜ (states ≤ 64) × (16 + 11 * states ≤ length (now sheet)) ⌝ }
+    ensures { λ r. ⌜ now (sheet .exit) ≡ put 16 (now (sheet .entry)) (eachBelow states (stateLine (now (marks .entry)))) ⌝ }
+{
+    let mut at: usize = 16;
+    let mut q: usize = 0;
+    while q < states {
+        write_two(sheet, at, q, machine::mark(marks, q) as usize);
+        at += 11;
+        q += 1;
+    }
+}
+
+// The lines of the transitions, written from byte start on.
+fn write_transitions(sheet: &mut [u8], list: &[u16], start: usize, transitions: usize)
+    requires { ⌜ (transitions * 3 ≤ length (now list)) × (start + 16 * transitions ≤ length (now sheet)) ⌝ }
+    ensures { λ r. ⌜ now (sheet .exit) ≡ put start (now (sheet .entry)) (eachBelow transitions (transitionLine (now (list .entry)))) ⌝ }
+{
+    let mut at: usize = start;
+    let mut k: usize = 0;
+    while k < transitions {
+        let i = k * 3;
+        write_three(
+            sheet,
+            at,
+            list[i] as usize,
+            list[i + 1] as usize,
+            list[i + 2] as usize,
+        );
+        at += 16;
+        k += 1;
+    }
+}
+
+// The public call that writes the sheet of a table to the front of the slice: how many bytes it took. It refuses 16 (the record and
+// its list break the rules of a table), 19 (the slice is too short) with the length needed, in this order. A refusal leaves the
+// slice as it was; what stands past the sheet stays.
+// Time: the table once to test it, once to write it. Memory: none beside its arguments.
+pub fn write_sheet(m: Machine, list: &[u16], sheet: &mut [u8]) -> Written
+    ensures { λ r. ⌜ (r ≡ writeAnswer m (now (list .entry)) (length (now (sheet .entry)))) × (now (sheet .exit) ≡ writeSheet m (now (list .entry)) (now (sheet .entry))) ⌝ }
+{
+    if !machine::is_well_formed(m, list) {
+        return Written::Refused(Refusal {
+            number: 16,
+            needed: 0,
+        });
+    }
+    let start = 16 + 11 * m.states;
+    let needed = start + 16 * m.transitions;
+    if sheet.len() < needed {
+        return Written::Refused(Refusal { number: 19, needed });
+    }
+    write_three(sheet, 0, m.states, m.letters, m.transitions);
+    write_states(sheet, &m.marks, m.states);
+    write_transitions(sheet, list, start, m.transitions);
+    Written::Bytes(needed)
+}

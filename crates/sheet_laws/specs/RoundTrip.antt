@@ -1,0 +1,612 @@
+-- The two round trips of sheets.
+--
+-- Table m list    == a table that obeys the rules: wellFormed, with a mark for each of 64 states (as every record in code has)
+-- written-sound   == the sheet of a table has no fault
+-- read-machine, read-transitions == read again, it is the same table
+-- sound-written   == a sheet without fault, read and written, is the same bytes
+-- sound-table     == what is read from a sheet without fault is a table
+-- accepted        == a byte string is accepted, if and only if it is the sheet of some table
+-- read-written, list-written == read_sheet on what write_sheet wrote: the machine, and its transitions at the front of the list
+-- write-read, sheet-read == write_sheet on what read_sheet read: the same bytes at the front of the slice
+use Prim.Native.Nat.{ℕ, zero, suc, _+_, _*_, _-_, _/_, _%_, _<_, _≤_}
+use mathlib.Core.Path.{_≡_, refl, sym, ap, _∙_, subst}
+use mathlib.Core.Logic.{_⊎_, inl, inr, _↔_}
+use mathlib.Core.List.{List, [], _∷_, _++_, append-assoc, append-nil}
+use mathlib.Core.Bool.{Bool, true, false, cond, not, _&&_, _||_}
+use native.Mathlib.Omega.{arith}
+use native.Mathlib.Decide.{decLt}
+use lib.ListN.{length, take, drop, getD, replicate, length-append, length-drop, length-replicate, getD-replicate, take-append-drop}
+use lib.Seq.{drop-append-add, take-add, take-all, getD-drop, getD-append-add, drop-drop, length-take-le}
+use lib.Dec.{leb, ltb, eqb}
+use borrow.Author.Tests.{lt-ltb, le-ltb, le-leb, leb-true, ltb-true, eq-eqb, eqb-true}
+use Rattle.graphs.specs.Search.{allBelow}
+use Rattle.graphs.specs.Search.Laws.{and-true, and-both-true, allBelow-true}
+use Rattle.columns.specs.Column.{noNumber}
+use Rattle.fsbm.specs.Machine.{markOf, transitionAt, goodMark, named, precedes, goodTransition, wellFormed, maxStates}
+use Rattle.fsbm.specs.Answers.{refusal}
+use Rattle.fsbm.specs.declared.machine.Machine.{Machine}
+use Rattle.fsbm.specs.declared.machine.Transition.{Transition}
+use Rattle.fsbm.specs.declared.answer.Refusal.{Refusal}
+use Rattle.sheet.specs.declared.read.Sheet.{Sheet}
+use Rattle.sheet.specs.declared.write.Written.{Written}
+use Rattle.sheet.specs.declared.write.Written.the-variants.{Refused, Bytes}
+use Rattle.sheet.specs.Series.{eachBelow}
+use Rattle.sheet.specs.Series.Laws.{each-length, each-same, each-drop, each-elem, each-parts}
+use Rattle.sheet.specs.Format.{lineOf, stateStart, transitionStart, sheetLength, headerLine, stateLine, transitionLine, sheetOf}
+use Rattle.sheet.specs.Reading.{columnAt, firstFault, stateFault, transitionFault, transitionIn, marksOf, machineOf, numbersIn, transitionsOf, noMachine}
+use Rattle.sheet.specs.Reading.{readRefusal, readAnswer, readList}
+use Rattle.sheet.specs.Reading.Laws.{GoodLine, Counts, Header, GoodState, GoodTransition, Sound, state-none, transition-none, no-fault, goodFlags}
+use Rattle.sheet.specs.Writing.{writeRefusal, writeAnswer, writeSheet}
+use Rattle.sheet_laws.specs.Lines.{line-length, line-number, line-good, line-written, three-part, each-getD, all-zero}
+
+pub record Table (m : Machine) (list : List ℕ) : Type 0 where
+  pub obeys : wellFormed m list ≡ true
+  pub marked : length (m .marks) ≡ 64
+
+-- what the rules say, one by one
+record Rules (m : Machine) (list : List ℕ) : Type 0 where
+  counts : Counts (m .states) (m .letters) (m .transitions)
+  long : m .transitions * 3 ≤ length list
+  marks : (q : ℕ) → q < 64 → goodMark m q ≡ true
+  transitions : (k : ℕ) → k < m .transitions → goodTransition (m .states) (m .letters) list k ≡ true
+
+rules : (m : Machine) (list : List ℕ) → (wellFormed m list ≡ true) ↔ Rules m list
+unfolding wellFormed
+rules m list = (to, from)
+  where
+    A : Bool
+    A = allBelow maxStates (goodMark m)
+
+    B : Bool
+    B = allBelow (m .transitions) (goodTransition (m .states) (m .letters) list)
+
+    to : (leb 1 (m .states) && (leb (m .states) 64 && (leb (m .letters) 250 && (leb (m .transitions) 4000 && (leb (m .transitions * 3) (length list) && (A && B)))))) ≡ true → Rules m list
+    to e =
+        let a = and-true (leb 1 (m .states)) _ e in
+        let b = and-true (leb (m .states) 64) _ (a .1) in
+        let c = and-true (leb (m .letters) 250) _ (b .1) in
+        let d = and-true (leb (m .transitions) 4000) _ (c .1) in
+        let f = and-true (leb (m .transitions * 3) (length list)) (A && B) (d .1) in
+        let g = and-true A B (f .1) in
+        record {
+          counts = record { some = leb-true _ _ (a .0); few-states = leb-true _ _ (b .0); few-letters = leb-true _ _ (c .0); few-transitions = leb-true _ _ (d .0) };
+          long = leb-true _ _ (f .0);
+          marks = allBelow-true (goodMark m) maxStates .0 (g .0);
+          transitions = allBelow-true (goodTransition (m .states) (m .letters) list) (m .transitions) .0 (g .1);
+        }
+
+    from : Rules m list → (leb 1 (m .states) && (leb (m .states) 64 && (leb (m .letters) 250 && (leb (m .transitions) 4000 && (leb (m .transitions * 3) (length list) && (A && B)))))) ≡ true
+    from r =
+        and-both-true (leb 1 (m .states)) _ (le-leb _ _ (r .counts .some))
+        (and-both-true (leb (m .states) 64) _ (le-leb _ _ (r .counts .few-states))
+        (and-both-true (leb (m .letters) 250) _ (le-leb _ _ (r .counts .few-letters))
+        (and-both-true (leb (m .transitions) 4000) _ (le-leb _ _ (r .counts .few-transitions))
+        (and-both-true (leb (m .transitions * 3) (length list)) _ (le-leb _ _ (r .long))
+        (and-both-true A B (allBelow-true (goodMark m) maxStates .1 (r .marks))
+        (allBelow-true (goodTransition (m .states) (m .letters) list) (m .transitions) .1 (r .transitions)))))))
+
+-- Written and read
+
+state-wide : (marks : List ℕ) (q : ℕ) → length (stateLine marks q) ≡ 11
+unfolding stateLine
+state-wide marks q = line-length (q ∷ markOf marks q ∷ [])
+
+transition-wide : (list : List ℕ) (k : ℕ) → length (transitionLine list k) ≡ 16
+unfolding transitionLine
+transition-wide list k = line-length (transitionAt list k .from ∷ transitionAt list k .letter ∷ transitionAt list k .to ∷ [])
+
+module _ (m : Machine) (list : List ℕ) (r : Rules m list) where
+  S : List ℕ
+  S = sheetOf m list
+
+  B : List ℕ
+  B = eachBelow (m .states) (stateLine (m .marks))
+
+  C : List ℕ
+  C = eachBelow (m .transitions) (transitionLine list)
+
+  header-length : length (headerLine m) ≡ 16
+  unfolding headerLine
+  header-length = line-length (m .states ∷ m .letters ∷ m .transitions ∷ [])
+
+  sheet-length : length S ≡ sheetLength m
+  unfolding S B C sheetOf
+  sheet-length =
+      let a = header-length in
+      let b = each-length 11 (stateLine (m .marks)) (state-wide (m .marks)) (m .states) in
+      let c = each-length 16 (transitionLine list) (transition-wide list) (m .transitions) in
+      omega (arith, length-append (headerLine m) (B ++ C), length-append B C)
+
+  -- where the lines stand
+  header-place : drop 0 S ≡ lineOf (m .states ∷ m .letters ∷ m .transitions ∷ []) ++ (B ++ C)
+  unfolding S B C sheetOf headerLine
+  header-place = refl
+
+  state-place : (q : ℕ) → q < m .states → (tail : List ℕ) × (drop (stateStart q) S ≡ lineOf (q ∷ markOf (m .marks) q ∷ []) ++ tail)
+  unfolding S B C sheetOf stateLine
+  state-place q h =
+      let d = each-drop 11 (stateLine (m .marks)) (state-wide (m .marks)) (m .states) q C h in
+      let n : stateStart q ≡ length (headerLine m) + 11 * q = let a = header-length in omega arith in
+      (d .0, ap (λ (k : ℕ). drop k (headerLine m ++ (B ++ C))) n ∙ (drop-append-add (headerLine m) (B ++ C) (11 * q) ∙ d .1))
+
+  transition-place : (k : ℕ) → k < m .transitions
+      → (tail : List ℕ) × (drop (transitionStart (m .states) k) S ≡ lineOf (transitionAt list k .from ∷ transitionAt list k .letter ∷ transitionAt list k .to ∷ []) ++ tail)
+  unfolding S B C sheetOf transitionLine
+  transition-place k h =
+      let d = each-drop 16 (transitionLine list) (transition-wide list) (m .transitions) k [] h in
+      let b = each-length 11 (stateLine (m .marks)) (state-wide (m .marks)) (m .states) in
+      let n : transitionStart (m .states) k ≡ length (headerLine m ++ B) + 16 * k = let a = header-length in omega (arith, length-append (headerLine m) B) in (
+        d .0,
+        ap (λ (l : List ℕ). drop (transitionStart (m .states) k) l) (sym (append-assoc (headerLine m) B C))
+            ∙ (ap (λ (j : ℕ). drop j ((headerLine m ++ B) ++ C)) n
+            ∙ (drop-append-add (headerLine m ++ B) C (16 * k) ∙ (ap (λ (l : List ℕ). drop (16 * k) l) (sym (append-nil C)) ∙ d .1))),
+      )
+
+  -- the numbers fit a column
+  two-small : (a b : ℕ) → a < 100000 → b < 100000 → (c : ℕ) → c < 2 → getD (a ∷ b ∷ []) c 0 < 100000
+  two-small a b x y zero h = x
+  two-small a b x y (suc zero) h = y
+  two-small a b x y (suc (suc c)) h = absurd (omega arith)
+
+  three-small : (a b d : ℕ) → a < 100000 → b < 100000 → d < 100000 → (c : ℕ) → c < 3 → getD (a ∷ b ∷ d ∷ []) c 0 < 100000
+  three-small a b d x y z zero h = x
+  three-small a b d x y z (suc zero) h = y
+  three-small a b d x y z (suc (suc zero)) h = z
+  three-small a b d x y z (suc (suc (suc c))) h = absurd (omega arith)
+
+  header-small : (c : ℕ) → c < 3 → getD (m .states ∷ m .letters ∷ m .transitions ∷ []) c 0 < 100000
+  header-small = let c = r .counts in three-small _ _ _ (omega (arith, c .few-states)) (omega (arith, c .few-letters)) (omega (arith, c .few-transitions))
+
+  mark-flags : (q : ℕ) → q < m .states → goodFlags (markOf (m .marks) q) ≡ true
+  mark-flags q h =
+      let c = r .counts in
+      sym (ap (λ (z : Bool). cond z (goodFlags (markOf (m .marks) q)) (eqb (markOf (m .marks) q) 0)) (lt-ltb q (m .states) h)) ∙ r .marks q (omega (arith, c .few-states))
+
+  mark-few : (q : ℕ) → q < m .states → markOf (m .marks) q ≤ 15
+  mark-few q h = leb-true _ _ (and-true (leb (markOf (m .marks) q) 15) _ (mark-flags q h) .0)
+
+  state-small : (q : ℕ) → q < m .states → (c : ℕ) → c < 2 → getD (q ∷ markOf (m .marks) q ∷ []) c 0 < 100000
+  state-small q h = let c = r .counts in two-small q (markOf (m .marks) q) (omega (arith, c .few-states)) (let n = mark-few q h in omega arith)
+
+  transition-named : (k : ℕ) → k < m .transitions → named (m .states) (m .letters) (transitionAt list k) ≡ true
+  transition-named k h = and-true (named (m .states) (m .letters) (transitionAt list k)) _ (r .transitions k h) .0
+
+  transition-small : (k : ℕ) → k < m .transitions → (c : ℕ) → c < 3 → getD (transitionAt list k .from ∷ transitionAt list k .letter ∷ transitionAt list k .to ∷ []) c 0 < 100000
+  transition-small k h =
+      let t : Transition = transitionAt list k in
+      let x = and-true (ltb (t .from) (m .states)) (leb (t .letter) (m .letters) && ltb (t .to) (m .states)) (transition-named k h) in
+      let y = and-true (leb (t .letter) (m .letters)) (ltb (t .to) (m .states)) (x .1) in
+      let a = ltb-true (t .from) (m .states) (x .0) in
+      let b = leb-true (t .letter) (m .letters) (y .0) in
+      let d = ltb-true (t .to) (m .states) (y .1) in
+      let c = r .counts in
+      three-small _ _ _ (omega (arith, c .few-states)) (omega (arith, c .few-letters)) (omega (arith, c .few-states))
+
+  -- what is read
+  read-states : columnAt S 0 ≡ m .states
+  read-states = line-number (m .states ∷ m .letters ∷ m .transitions ∷ []) S (B ++ C) 0 header-place header-small 0 (omega arith)
+
+  read-letters : columnAt S 5 ≡ m .letters
+  read-letters = line-number (m .states ∷ m .letters ∷ m .transitions ∷ []) S (B ++ C) 0 header-place header-small 1 (omega arith)
+
+  read-count : columnAt S 10 ≡ m .transitions
+  read-count = line-number (m .states ∷ m .letters ∷ m .transitions ∷ []) S (B ++ C) 0 header-place header-small 2 (omega arith)
+
+  module _ (q : ℕ) (h : q < m .states) where
+    read-number : columnAt S (stateStart q) ≡ q
+    read-number =
+        let p = state-place q h in
+        let z : stateStart q ≡ stateStart q + 0 * 5 = omega arith in
+        ap (λ (k : ℕ). columnAt S k) z ∙ line-number (q ∷ markOf (m .marks) q ∷ []) S (p .0) (stateStart q) (p .1) (state-small q h) 0 (omega arith)
+
+    read-mark : columnAt S (stateStart q + 5) ≡ markOf (m .marks) q
+    read-mark = let p = state-place q h in line-number (q ∷ markOf (m .marks) q ∷ []) S (p .0) (stateStart q) (p .1) (state-small q h) 1 (omega arith)
+
+    state-sound : stateFault S q ≡ 0
+    state-sound =
+        let p = state-place q h in
+        state-none S q .1
+        (record {
+          line = line-good (q ∷ markOf (m .marks) q ∷ []) S (p .0) (stateStart q) (p .1) (state-small q h);
+          number = read-number;
+          flags = ap goodFlags read-mark ∙ mark-flags q h;
+        })
+
+  module _ (k : ℕ) (h : k < m .transitions) where
+    numbers : List ℕ
+    numbers = transitionAt list k .from ∷ transitionAt list k .letter ∷ transitionAt list k .to ∷ []
+
+    read-column : (c : ℕ) → c < 3 → columnAt S (transitionStart (m .states) k + c * 5) ≡ getD (transitionAt list k .from ∷ transitionAt list k .letter ∷ transitionAt list k .to ∷ []) c 0
+    read-column =
+        let p = transition-place k h in
+        line-number (transitionAt list k .from ∷ transitionAt list k .letter ∷ transitionAt list k .to ∷ []) S (p .0) (transitionStart (m .states) k) (p .1) (transition-small k h)
+
+    read-from : columnAt S (transitionStart (m .states) k) ≡ transitionAt list k .from
+    read-from = let z : transitionStart (m .states) k ≡ transitionStart (m .states) k + 0 * 5 = omega arith in ap (λ (j : ℕ). columnAt S j) z ∙ read-column 0 (omega arith)
+
+    read-transition : transitionIn S (transitionStart (m .states) k) ≡ transitionAt list k
+    unfolding transitionIn
+    read-transition = λ j. record { from = read-from j; letter = read-column 1 (omega arith) j; to = read-column 2 (omega arith) j }
+
+    transition-line : GoodLine S 3 (transitionStart (m .states) k)
+    transition-line =
+        let p = transition-place k h in
+        line-good (transitionAt list k .from ∷ transitionAt list k .letter ∷ transitionAt list k .to ∷ []) S (p .0) (transitionStart (m .states) k) (p .1) (transition-small k h)
+
+    read-numbers : numbersIn S (transitionStart (m .states) k) ≡ take 3 (drop (0 + 3 * k) list)
+    unfolding numbersIn
+    read-numbers =
+        (λ j. read-from j ∷ read-column 1 (omega arith) j ∷ read-column 2 (omega arith) j ∷ [])
+        ∙ (three-part list (k * 3) (let l = r .long in omega arith) ∙ ap (λ (n : ℕ). take 3 (drop n list)) z)
+      where
+        z : k * 3 ≡ 0 + 3 * k
+        z = omega arith
+
+  transition-sound : (k : ℕ) → k < m .transitions → transitionFault S (m .states) (m .letters) k ≡ 0
+  transition-sound k h =
+      transition-none S (m .states) (m .letters) k .1
+      (record {
+        line = transition-line k h;
+        names = ap (λ (t : Transition). named (m .states) (m .letters) t) (read-transition k h) ∙ transition-named k h;
+        rises = order (ℕ-zero k);
+      })
+    where
+      before : Transition
+      before = transitionAt list (k - 1)
+
+      ℕ-zero : (n : ℕ) → (n ≡ 0) ⊎ (0 < n)
+      ℕ-zero zero = inl refl
+      ℕ-zero (suc n) = inr (omega arith)
+
+      given : (eqb k 0 || precedes before (transitionAt list k)) ≡ true
+      given = and-true (named (m .states) (m .letters) (transitionAt list k)) (eqb k 0 || precedes before (transitionAt list k)) (r .transitions k h) .1
+
+      order : (k ≡ 0) ⊎ (0 < k) → (eqb k 0 || precedes (transitionIn S (transitionStart (m .states) (k - 1))) (transitionIn S (transitionStart (m .states) k))) ≡ true
+      order (inl e) = ap (λ (z : Bool). z || precedes (transitionIn S (transitionStart (m .states) (k - 1))) (transitionIn S (transitionStart (m .states) k))) (eq-eqb k 0 e)
+      order (inr l) =
+          ap (λ (t : Transition). eqb k 0 || precedes t (transitionIn S (transitionStart (m .states) k))) (read-transition (k - 1) (omega arith))
+          ∙ (ap (λ (t : Transition). eqb k 0 || precedes before t) (read-transition k h) ∙ given)
+
+  sheet-sound : Sound S
+  sheet-sound =
+      record {
+        header = record { line = line-good (m .states ∷ m .letters ∷ m .transitions ∷ []) S (B ++ C) 0 header-place header-small; counts = counts };
+        states = λ q h. state-sound q (subst (λ (n : ℕ). q < n) read-states h);
+        transitions = λ k h. transition k (subst (λ (n : ℕ). k < n) read-count h);
+        ends = let a = sheet-length in let b = read-states in let c = read-count in omega arith;
+      }
+    where
+      counts : Counts (columnAt S 0) (columnAt S 5) (columnAt S 10)
+      counts =
+          let c = r .counts in
+          record {
+            some = rw read-states (c .some);
+            few-states = rw read-states (c .few-states);
+            few-letters = rw read-letters (c .few-letters);
+            few-transitions = rw read-count (c .few-transitions);
+          }
+
+      transition : (k : ℕ) → k < m .transitions → transitionFault S (columnAt S 0) (columnAt S 5) k ≡ 0
+      transition k h =
+          ap (λ (n : ℕ). transitionFault S n (columnAt S 5) k) read-states
+          ∙ (ap (λ (n : ℕ). transitionFault S (m .states) n k) read-letters ∙ transition-sound k h)
+
+  sheet-transitions : transitionsOf S ≡ take (m .transitions * 3) list
+  unfolding transitionsOf
+  sheet-transitions =
+      let z : 3 * m .transitions ≡ m .transitions * 3 = omega arith in
+      ap (λ (n : ℕ). eachBelow n (λ k. numbersIn S (transitionStart (columnAt S 0) k))) read-count
+      ∙ (ap (λ (n : ℕ). eachBelow (m .transitions) (λ k. numbersIn S (transitionStart n k))) read-states
+      ∙ (each-parts 3 0 list (λ k. numbersIn S (transitionStart (m .states) k)) (m .transitions) read-numbers
+      ∙ ap (λ (n : ℕ). take n list) z))
+
+  sheet-marks : length (m .marks) ≡ 64 → marksOf S (columnAt S 0) ≡ m .marks
+  unfolding marksOf
+  sheet-marks w =
+      ap (λ (n : ℕ). eachBelow n (λ q. columnAt S (stateStart q + 5) ∷ []) ++ replicate (64 - n) 0) read-states
+      ∙ (ap (λ (l : List ℕ). l ++ replicate (64 - m .states) 0) front
+      ∙ (ap (λ (l : List ℕ). take (m .states) (m .marks) ++ l) (sym back) ∙ take-append-drop (m .states) (m .marks)))
+    where
+      few : m .states ≤ 64
+      few = r .counts .few-states
+
+      mark-is : (q : ℕ) → q < 64 → markOf (m .marks) q ≡ getD (m .marks) q 0
+      mark-is q h = ap (λ (z : Bool). cond z (getD (m .marks) q 0) 0) (lt-ltb q 64 h)
+
+      front : eachBelow (m .states) (λ q. columnAt S (stateStart q + 5) ∷ []) ≡ take (m .states) (m .marks)
+      front =
+          each-same (m .states) (λ q. columnAt S (stateStart q + 5) ∷ []) (λ q. getD (m .marks) q 0 ∷ [])
+          (λ q h. ap (λ (v : ℕ). v ∷ []) (read-mark q h ∙ mark-is q (omega arith)))
+          ∙ each-getD (m .marks) (m .states) (omega arith)
+
+      -- past the last state
+      past : (q : ℕ) → q < 64 - m .states → getD (drop (m .states) (m .marks)) q 0 ≡ 0
+      past q h =
+          let n : m .states + q < 64 = omega arith in
+          getD-drop (m .states) (m .marks) q 0
+          ∙ (sym (mark-is (m .states + q) n)
+          ∙ eqb-true _ _ (sym (ap (λ (z : Bool). cond z (goodFlags (markOf (m .marks) (m .states + q))) (eqb (markOf (m .marks) (m .states + q)) 0)) (le-ltb (m .states + q) (m .states) (omega arith))) ∙ r .marks (m .states + q) n))
+
+      back : drop (m .states) (m .marks) ≡ replicate (64 - m .states) 0
+      back = all-zero (drop (m .states) (m .marks)) (64 - m .states) (length-drop (m .states) (m .marks) ∙ ap (λ (n : ℕ). n - m .states) w) past
+
+module _ (m : Machine) (list : List ℕ) (t : Table m list) where
+  ruled : Rules m list
+  ruled = rules m list .0 (t .obeys)
+
+  pub written-sound : firstFault (sheetOf m list) ≡ 0
+  unfolding S
+  written-sound = no-fault (sheetOf m list) .1 (sheet-sound m list ruled)
+
+  pub read-machine : machineOf (sheetOf m list) ≡ m
+  unfolding S machineOf
+  read-machine = λ j. record { states = read-states m list ruled j; letters = read-letters m list ruled j; transitions = read-count m list ruled j; marks = sheet-marks m list ruled (t .marked) j }
+
+  pub read-transitions : transitionsOf (sheetOf m list) ≡ take (m .transitions * 3) list
+  unfolding S
+  read-transitions = sheet-transitions m list ruled
+
+-- Read and written
+
+parts : (s : List ℕ) (i : ℕ) → GoodLine s 3 i → (c : ℕ) → c < 3
+    → (columnAt s (i + c * 5) ≡ getD (transitionIn s i .from ∷ transitionIn s i .letter ∷ transitionIn s i .to ∷ []) c 0) × (columnAt s (i + c * 5) ≡ noNumber → ⊥)
+unfolding transitionIn
+parts s i g zero h = let z : i + 0 * 5 ≡ i = omega arith in (ap (λ (k : ℕ). columnAt s k) z, g .numbers 0 h)
+parts s i g (suc zero) h = (refl, g .numbers 1 h)
+parts s i g (suc (suc zero)) h = (refl, g .numbers 2 h)
+parts s i g (suc (suc (suc c))) h = absurd (omega arith)
+
+module _ (s rest : List ℕ) (sound : Sound s) where
+  n : ℕ
+  n = columnAt s 0
+
+  t : ℕ
+  t = columnAt s 10
+
+  list : List ℕ
+  list = transitionsOf s ++ rest
+
+  counted : Counts n (columnAt s 5) t
+  unfolding n t
+  counted = sound .header .counts
+
+  sheet-is-long : length s ≡ transitionStart n t
+  unfolding n t
+  sheet-is-long = at (columnAt s 10) refl
+    where
+      at : (k : ℕ) → columnAt s 10 ≡ k → length s ≡ transitionStart (columnAt s 0) (columnAt s 10)
+      at zero e = last-state (columnAt s 0) refl
+        where
+          last-state : (q : ℕ) → columnAt s 0 ≡ q → length s ≡ transitionStart (columnAt s 0) (columnAt s 10)
+          last-state zero d = let c = sound .header .counts .some in absurd (omega arith)
+          last-state (suc q) d =
+              let g = state-none s q .0 (sound .states q (omega arith)) .line .long in
+              let h = sound .ends in
+              omega arith
+      at (suc k) e =
+          let g = transition-none s (columnAt s 0) (columnAt s 5) k .0 (sound .transitions k (omega arith)) .line .long in
+          let h = sound .ends in
+          omega arith
+
+  state-good : (q : ℕ) → q < n → GoodState s q
+  unfolding n
+  state-good q h = state-none s q .0 (sound .states q h)
+
+  transition-good : (k : ℕ) → k < t → GoodTransition s n (columnAt s 5) k
+  unfolding n t
+  transition-good k h = transition-none s (columnAt s 0) (columnAt s 5) k .0 (sound .transitions k h)
+
+  -- the marks and the transitions that were read
+  mark-read : (q : ℕ) → q < n → markOf (marksOf s n) q ≡ columnAt s (stateStart q + 5)
+  unfolding marksOf
+  mark-read q h =
+      let c = counted .few-states in
+      let z : q ≡ 1 * q + 0 = omega arith in
+      ap (λ (b : Bool). cond b (getD (marksOf s n) q 0) 0) (lt-ltb q 64 (omega arith))
+      ∙ (ap (λ (k : ℕ). getD (marksOf s n) k 0) z
+      ∙ each-elem 1 (λ k. columnAt s (stateStart k + 5) ∷ []) (λ k. refl) n q 0 (replicate (64 - n) 0) h (omega arith))
+
+  mark-past : (q : ℕ) → q < 64 → n ≤ q → markOf (marksOf s n) q ≡ 0
+  unfolding marksOf
+  mark-past q h g =
+      let l = each-length 1 (λ k. columnAt s (stateStart k + 5) ∷ []) (λ k. refl) n in
+      let z : q ≡ length (eachBelow n (λ k. columnAt s (stateStart k + 5) ∷ [])) + (q - n) = omega arith in
+      ap (λ (b : Bool). cond b (getD (marksOf s n) q 0) 0) (lt-ltb q 64 h)
+      ∙ (ap (λ (k : ℕ). getD (marksOf s n) k 0) z
+      ∙ (getD-append-add (eachBelow n (λ k. columnAt s (stateStart k + 5) ∷ [])) (replicate (64 - n) 0) (q - n) 0 ∙ getD-replicate (64 - n) (q - n) 0 0 (omega arith)))
+
+  numbers-wide : (k : ℕ) → length (numbersIn s (transitionStart (columnAt s 0) k)) ≡ 3
+  unfolding numbersIn
+  numbers-wide k = refl
+
+  list-number : (k j : ℕ) → k < t → j < 3 → getD list (3 * k + j) 0 ≡ getD (numbersIn s (transitionStart (columnAt s 0) k)) j 0
+  unfolding list transitionsOf t
+  list-number k j h b = each-elem 3 (λ i. numbersIn s (transitionStart (columnAt s 0) i)) numbers-wide (columnAt s 10) k j rest h b
+
+  transition-at : (k : ℕ) → k < t → transitionAt list k ≡ transitionIn s (transitionStart n k)
+  unfolding transitionIn numbersIn n
+  transition-at k h =
+      λ j. record {
+        from = (ap (λ (i : ℕ). getD list i 0) z0 ∙ list-number k 0 h (omega arith)) j;
+        letter = (ap (λ (i : ℕ). getD list i 0) z1 ∙ list-number k 1 h (omega arith)) j;
+        to = (ap (λ (i : ℕ). getD list i 0) z2 ∙ list-number k 2 h (omega arith)) j;
+      }
+    where
+      z0 : k * 3 ≡ 3 * k + 0
+      z0 = omega arith
+
+      z1 : k * 3 + 1 ≡ 3 * k + 1
+      z1 = omega arith
+
+      z2 : k * 3 + 2 ≡ 3 * k + 2
+      z2 = omega arith
+
+  -- the three parts of the sheet
+  header-part : headerLine (machineOf s) ≡ take 16 (drop 0 s)
+  unfolding headerLine machineOf
+  header-part = line-written (columnAt s 0 ∷ columnAt s 5 ∷ columnAt s 10 ∷ []) s 0 (sound .header .line .long) each (sound .header .line .ends)
+    where
+      each : (c : ℕ) → c < 3 → (columnAt s (0 + c * 5) ≡ getD (columnAt s 0 ∷ columnAt s 5 ∷ columnAt s 10 ∷ []) c 0) × (columnAt s (0 + c * 5) ≡ noNumber → ⊥)
+      each zero h = (refl, sound .header .line .numbers 0 h)
+      each (suc zero) h = (refl, sound .header .line .numbers 1 h)
+      each (suc (suc zero)) h = (refl, sound .header .line .numbers 2 h)
+      each (suc (suc (suc c))) h = absurd (omega arith)
+
+  state-part : (q : ℕ) → q < n → stateLine (marksOf s n) q ≡ take 11 (drop (16 + 11 * q) s)
+  unfolding stateLine
+  state-part q h =
+      line-written (q ∷ markOf (marksOf s n) q ∷ []) s (stateStart q) (state-good q h .line .long) each (state-good q h .line .ends)
+    where
+      each : (c : ℕ) → c < 2 → (columnAt s (stateStart q + c * 5) ≡ getD (q ∷ markOf (marksOf s n) q ∷ []) c 0) × (columnAt s (stateStart q + c * 5) ≡ noNumber → ⊥)
+      each zero b =
+          let z : stateStart q + 0 * 5 ≡ stateStart q = omega arith in
+          (ap (λ (k : ℕ). columnAt s k) z ∙ state-good q h .number, state-good q h .line .numbers 0 b)
+      each (suc zero) b = (sym (mark-read q h), state-good q h .line .numbers 1 b)
+      each (suc (suc c)) b = absurd (omega arith)
+
+  transition-part : (k : ℕ) → k < t → transitionLine list k ≡ take 16 (drop (16 + 11 * n + 16 * k) s)
+  unfolding transitionLine
+  transition-part k h =
+      ap (λ (u : Transition). lineOf (u .from ∷ u .letter ∷ u .to ∷ [])) (transition-at k h)
+      ∙ line-written (u .from ∷ u .letter ∷ u .to ∷ []) s (transitionStart n k) (transition-good k h .line .long) (λ c b. each c b) (transition-good k h .line .ends)
+    where
+      u : Transition
+      u = transitionIn s (transitionStart n k)
+
+      each : (c : ℕ) → c < 3 → (columnAt s (transitionStart n k + c * 5) ≡ getD (u .from ∷ u .letter ∷ u .to ∷ []) c 0) × (columnAt s (transitionStart n k + c * 5) ≡ noNumber → ⊥)
+      each = parts s (transitionStart n k) (transition-good k h .line)
+
+  sheet-same : sheetOf (machineOf s) list ≡ s
+  unfolding sheetOf machineOf n t
+  sheet-same =
+      ap (λ (x : List ℕ). x ++ (bs ++ cs)) header-part
+      ∙ (ap (λ (x : List ℕ). take 16 s ++ (x ++ cs)) (each-parts 11 16 s (stateLine (marksOf s (columnAt s 0))) (columnAt s 0) state-part)
+      ∙ (ap (λ (x : List ℕ). take 16 s ++ (take (11 * columnAt s 0) (drop 16 s) ++ x)) (each-parts 16 (16 + 11 * columnAt s 0) s (transitionLine list) (columnAt s 10) transition-part)
+      ∙ (sym (append-assoc (take 16 s) (take (11 * columnAt s 0) (drop 16 s)) (take (16 * columnAt s 10) (drop (16 + 11 * columnAt s 0) s)))
+      ∙ (ap (λ (x : List ℕ). x ++ take (16 * columnAt s 10) (drop (16 + 11 * columnAt s 0) s)) (sym (take-add 16 (11 * columnAt s 0) s))
+      ∙ (sym (take-add (16 + 11 * columnAt s 0) (16 * columnAt s 10) s)
+      ∙ take-all (16 + 11 * columnAt s 0 + 16 * columnAt s 10) s (sound .ends))))))
+    where
+      bs : List ℕ
+      bs = eachBelow (columnAt s 0) (stateLine (marksOf s (columnAt s 0)))
+
+      cs : List ℕ
+      cs = eachBelow (columnAt s 10) (transitionLine list)
+
+  -- the table that was read obeys the rules
+  marks-wide : length (marksOf s n) ≡ 64
+  unfolding marksOf
+  marks-wide =
+      let l = each-length 1 (λ k. columnAt s (stateStart k + 5) ∷ []) (λ k. refl) n in
+      let c = counted .few-states in
+      omega (arith, length-append (eachBelow n (λ k. columnAt s (stateStart k + 5) ∷ [])) (replicate (64 - n) 0), length-replicate {A = ℕ} (64 - n) 0)
+
+  sheet-rules : Rules (machineOf s) list
+  unfolding machineOf n t list transitionsOf
+  sheet-rules =
+      record {
+        counts = counted;
+        long =
+            let l = each-length 3 (λ i. numbersIn s (transitionStart (columnAt s 0) i)) numbers-wide (columnAt s 10) in
+            omega (arith, length-append (eachBelow (columnAt s 10) (λ i. numbersIn s (transitionStart (columnAt s 0) i))) rest);
+        marks = λ q h. mark q h (decLt q (columnAt s 0));
+        transitions = transition;
+      }
+    where
+      M : List ℕ
+      M = marksOf s (columnAt s 0)
+
+      mark : (q : ℕ) → q < 64 → Dec (q < columnAt s 0) → goodMark (machineOf s) q ≡ true
+      mark q h (yes l) =
+          ap (λ (z : Bool). cond z (goodFlags (markOf M q)) (eqb (markOf M q) 0)) (lt-ltb q (columnAt s 0) l)
+          ∙ (ap goodFlags (mark-read q l) ∙ state-good q l .flags)
+      mark q h (no d) =
+          let g : columnAt s 0 ≤ q = omega arith in
+          ap (λ (z : Bool). cond z (goodFlags (markOf M q)) (eqb (markOf M q) 0)) (le-ltb q (columnAt s 0) g)
+          ∙ eq-eqb _ _ (mark-past q h g)
+
+      transition : (k : ℕ) → k < columnAt s 10 → goodTransition (columnAt s 0) (columnAt s 5) list k ≡ true
+      transition k h =
+          and-both-true (named (columnAt s 0) (columnAt s 5) (transitionAt list k)) (eqb k 0 || precedes (transitionAt list (k - 1)) (transitionAt list k))
+          (ap (λ (u : Transition). named (columnAt s 0) (columnAt s 5) u) (transition-at k h) ∙ transition-good k h .names)
+          (order (ℕ-zero k))
+        where
+          ℕ-zero : (j : ℕ) → (j ≡ 0) ⊎ (0 < j)
+          ℕ-zero zero = inl refl
+          ℕ-zero (suc j) = inr (omega arith)
+
+          order : (k ≡ 0) ⊎ (0 < k) → (eqb k 0 || precedes (transitionAt list (k - 1)) (transitionAt list k)) ≡ true
+          order (inl e) = ap (λ (z : Bool). z || precedes (transitionAt list (k - 1)) (transitionAt list k)) (eq-eqb k 0 e)
+          order (inr l) =
+              ap (λ (u : Transition). eqb k 0 || precedes u (transitionAt list k)) (transition-at (k - 1) (omega arith))
+              ∙ (ap (λ (u : Transition). eqb k 0 || precedes (transitionIn s (transitionStart (columnAt s 0) (k - 1))) u) (transition-at k h) ∙ transition-good k h .rises)
+
+-- Public laws
+
+module _ (s : List ℕ) (none : firstFault s ≡ 0) (rest : List ℕ) where
+  pub sound-written : sheetOf (machineOf s) (transitionsOf s ++ rest) ≡ s
+  unfolding list
+  sound-written = sheet-same s rest (no-fault s .0 none)
+
+  pub sound-table : Table (machineOf s) (transitionsOf s ++ rest)
+  unfolding list n machineOf
+  sound-table = record { obeys = rules (machineOf s) (transitionsOf s ++ rest) .1 (sheet-rules s rest (no-fault s .0 none)); marked = marks-wide s rest (no-fault s .0 none) }
+
+-- a byte string is accepted exactly if it is the sheet of some table
+pub accepted : (s : List ℕ) → (firstFault s ≡ 0) ↔ ((m : Machine) × (list : List ℕ) × Table m list × (s ≡ sheetOf m list))
+accepted s = (
+  λ none. (machineOf s, transitionsOf s ++ [], sound-table s none [], sym (sound-written s none [])),
+  λ w. ap firstFault (w .3) ∙ written-sound (w .0) (w .1) (w .2),
+)
+
+-- The calls
+
+module _ (m : Machine) (list : List ℕ) (t : Table m list) (entry : List ℕ) (long : m .transitions * 3 ≤ length entry) where
+  no-refusal : readRefusal (sheetOf m list) (length entry) ≡ refusal 0
+  unfolding readRefusal
+  no-refusal =
+      let c : columnAt (sheetOf m list) 10 ≡ m .transitions = unfold S in read-count m list (ruled m list t) in
+      ap (λ (b : Bool). cond b (cond (leb (columnAt (sheetOf m list) 10 * 3) (length entry)) (refusal 0) (record { number = 15; needed = columnAt (sheetOf m list) 10 * 3 })) (refusal (firstFault (sheetOf m list))))
+      (eq-eqb _ _ (written-sound m list t))
+      ∙ ap (λ (b : Bool). cond b (refusal 0) (record { number = 15; needed = columnAt (sheetOf m list) 10 * 3 }))
+      (le-leb (columnAt (sheetOf m list) 10 * 3) (length entry) (omega arith))
+
+  -- what read_sheet answers to the sheet of a table, and what it leaves in the list
+  pub read-written : readAnswer (sheetOf m list) (length entry) ≡ record { refusal = refusal 0; machine = m }
+  unfolding readAnswer
+  read-written =
+      ap (λ (x : Refusal). record { refusal = x; machine = cond (eqb (x .number) 0) (machineOf (sheetOf m list)) noMachine }) no-refusal
+      ∙ ap (λ (x : Machine). record { refusal = refusal 0; machine = x }) (read-machine m list t)
+
+  pub list-written : readList (sheetOf m list) entry ≡ take (m .transitions * 3) list ++ drop (m .transitions * 3) entry
+  unfolding readList
+  list-written =
+      let c : columnAt (sheetOf m list) 10 ≡ m .transitions = unfold S in read-count m list (ruled m list t) in
+      ap (λ (x : Refusal). cond (eqb (x .number) 0) (transitionsOf (sheetOf m list) ++ drop (columnAt (sheetOf m list) 10 * 3) entry) entry) no-refusal
+      ∙ (ap (λ (l : List ℕ). l ++ drop (columnAt (sheetOf m list) 10 * 3) entry) (read-transitions m list t)
+      ∙ ap (λ (k : ℕ). take (m .transitions * 3) list ++ drop (k * 3) entry) c)
+
+module _ (s : List ℕ) (none : firstFault s ≡ 0) (rest entry : List ℕ) (long : length s ≤ length entry) where
+  length-is : sheetLength (machineOf s) ≡ length s
+  unfolding machineOf n t
+  length-is = sym (sheet-is-long s rest (no-fault s .0 none))
+
+  fits : writeRefusal (machineOf s) (transitionsOf s ++ rest) (length entry) ≡ refusal 0
+  unfolding writeRefusal
+  fits =
+      ap (λ (b : Bool). cond b (cond (leb (sheetLength (machineOf s)) (length entry)) (refusal 0) (record { number = 19; needed = sheetLength (machineOf s) })) (refusal 16))
+      (sound-table s none rest .obeys)
+      ∙ ap (λ (b : Bool). cond b (refusal 0) (record { number = 19; needed = sheetLength (machineOf s) }))
+      (le-leb (sheetLength (machineOf s)) (length entry) (subst (λ (k : ℕ). k ≤ length entry) (sym length-is) long))
+
+  -- what write_sheet answers to the table of a sheet without fault, and what it leaves in the slice
+  pub write-read : writeAnswer (machineOf s) (transitionsOf s ++ rest) (length entry) ≡ Bytes (length s)
+  unfolding writeAnswer
+  write-read =
+      ap (λ (x : Refusal). cond (eqb (x .number) 0) (Bytes (sheetLength (machineOf s))) (Refused x)) fits ∙ ap (λ (k : ℕ). Bytes k) length-is
+
+  pub sheet-read : writeSheet (machineOf s) (transitionsOf s ++ rest) entry ≡ s ++ drop (length s) entry
+  unfolding writeSheet
+  sheet-read =
+      ap (λ (x : Refusal). cond (eqb (x .number) 0) (sheetOf (machineOf s) (transitionsOf s ++ rest) ++ drop (sheetLength (machineOf s)) entry) entry) fits
+      ∙ (ap (λ (l : List ℕ). l ++ drop (sheetLength (machineOf s)) entry) (sound-written s none rest) ∙ ap (λ (k : ℕ). s ++ drop k entry) length-is)

@@ -1,0 +1,1 @@
+// The laws of sheets: the two round trips. There is no code here, only specs/.
