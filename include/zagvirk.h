@@ -5,6 +5,9 @@
  *   zagvirk_read_sheet   a machine from its sheet
  *   zagvirk_write_sheet  a machine's sheet
  *   zagvirk_translate    a written word to letters
+ *   zagvirk_join         the product of a machine with a plain machine
+ *   zagvirk_list_copies  the copies of an accepting run
+ *   zagvirk_recognize    whether a machine accepts a word, with a run
  *
  * A machine has states numbered from 0 (1 to 64), letters numbered from 1 (0 to 250) and transitions numbered from 0
  * (0 to 4,000). Letter 0 in a transition is epsilon: nothing is read. A word is an array of bytes, one letter each.
@@ -179,6 +182,68 @@ typedef struct {
  * Time: one pass over the bytes. Memory: constant.
  */
 zagvirk_translated zagvirk_translate(const uint8_t *bytes, size_t bytes_len, uint8_t *word, size_t word_len);
+
+/* Products. */
+
+/* The result of zagvirk_join. After a refusal every field of machine is 0. */
+typedef struct {
+  uint8_t refusal; /* 0, 16, 10 to 13 or 15 */
+  size_t needed;
+  zagvirk_machine machine;
+} zagvirk_joined;
+
+/* The product of a machine with a plain machine, which accepts the words that both accept; its transitions are written
+ * to the front of list, three elements each. A plain machine has no buffering or matching state and no epsilon.
+ *
+ * A state is a pair, numbered first x (states of second) + second. It is initial or final if both are; it is buffering
+ * or matching if the first is. A letter moves both, epsilon moves the first alone.
+ *
+ * Refuses, in this order: 16 (first machine, then second), 10, 11, 12, 13, 15.
+ *
+ * Time: in proportion to the machines and the product. Memory: constant.
+ */
+zagvirk_joined zagvirk_join(zagvirk_machine first, const uint16_t *first_list, size_t first_len, zagvirk_machine second,
+                            const uint16_t *second_list, size_t second_len, uint16_t *list, size_t list_len);
+
+/* Copies. */
+
+/* The result of zagvirk_list_copies: the number of copies and the number of letters stored in all, both 0 after a
+ * refusal. */
+typedef struct {
+  uint8_t refusal; /* 0, 16, 9, 8, 14 or 20 */
+  size_t needed;
+  size_t copies;
+  size_t total;
+} zagvirk_copies_listed;
+
+/* Writes for each entry 65,534 of an accepting run, in order, the position where buffering began and the number of
+ * letters stored, two elements, to the front of copies.
+ *
+ * Refuses, in this order: 16, 9 over 255 letters, 8, 14, 20.
+ *
+ * Time: in proportion to the machine, the word and the run. Memory: constant.
+ */
+zagvirk_copies_listed zagvirk_list_copies(zagvirk_machine machine, const uint16_t *list, size_t list_len,
+                                          const uint8_t *word, size_t word_len, const uint16_t *run, size_t run_len,
+                                          uint16_t *copies, size_t copies_len);
+
+/* Recognition. */
+
+/* The result of zagvirk_recognize. entries is the number of entries of the run, 0 if accepted is 0. */
+typedef struct {
+  uint8_t refusal; /* 0, 16, 9, 8 or 17 */
+  size_t needed;
+  uint8_t accepted; /* 0 or 1 */
+  size_t entries;
+} zagvirk_recognized;
+
+/* Whether the machine accepts the word; if so, an accepting run is written to the front of run. Which one is left open.
+ *
+ * Refuses, in this order: 16, 9 over 255 letters, 8, 17 if run has fewer than 3 x states x (word_len + 1) elements,
+ * whatever the answer would be.
+ */
+zagvirk_recognized zagvirk_recognize(zagvirk_machine machine, const uint16_t *list, size_t list_len,
+                                     const uint8_t *word, size_t word_len, uint16_t *run, size_t run_len);
 
 #ifdef __cplusplus
 }

@@ -3,10 +3,12 @@
 -- pass-byte      == the pass from byte i on is the pass from byte i + 1 on after the byte at i
 -- pass-end       == past the end nothing is left
 -- pass-broken    == a pass that is broken stays so
--- from-..        == the answer of a pass whose next byte is no digit
--- blank-..       == the same where nothing but spaces was read
--- power-fits, power-more == numbers of few digits
--- column-five    == five bytes stored one by one are a column put there
+-- goes-on, breaks, nought-last, nought-more == the answer of a pass by what its next byte makes of it
+-- digits-.., blank-..      == what the next byte makes of a pass that has digits, of one that has only spaces
+-- digits-end, blank-end    == the answer of a pass at the column's end
+-- column-start             == the pass of a whole column
+-- power-fits, power-more, first-fits == numbers of few digits
+-- five-put, space, digit-of, column-five == five bytes stored one by one are a column put there
 use Prim.Native.Nat.{ℕ, zero, suc, _+_, _*_, _-_, _/_, _%_, _<_, _≤_, _^_}
 use mathlib.Core.Path.{_≡_, refl, sym, ap, _∙_, subst}
 use mathlib.Core.List.{List, [], _∷_, _++_}
@@ -118,12 +120,26 @@ power-more at i v d h l m =
 
 -- five stores
 
-pub column-five : (l : List ℕ) (at n a b c d : ℕ) → at + 5 ≤ length l
-    → a ≡ digitOr (n / 10 / 10 / 10 / 10) → b ≡ digitOr (n / 10 / 10 / 10) → c ≡ digitOr (n / 10 / 10) → d ≡ digitOr (n / 10)
-    → set (set (set (set (set l at a) (at + 1) b) (at + 2) c) (at + 3) d) (at + 4) (48 + n % 10) ≡ put at l (columnOf 5 n)
-unfolding put columnOf padded
-column-five l at n a b c d h ea eb ec ed =
-    simp (add-one at, add-two at, add-three at, add-four at, ea, eb, ec, ed) (sets-eq (columnOf 5 n) l at h)
+pub five-put : (l : List ℕ) (at a b c d e : ℕ) → at + 5 ≤ length l
+    → set (set (set (set (set l at a) (at + 1) b) (at + 2) c) (at + 3) d) (at + 4) e ≡ put at l (a ∷ b ∷ c ∷ d ∷ e ∷ [])
+unfolding put
+five-put l at a b c d e h = simp (add-one at, add-two at, add-three at, add-four at) (sets-eq (a ∷ b ∷ c ∷ d ∷ e ∷ []) l at h)
+
+-- the byte of q: a space where q is 0, and else its last digit
+pub space : (q : ℕ) → q ≡ 0 → 32 ≡ digitOr q
+unfolding digitOr
+space q h = ap (λ (z : Bool). cond z 32 (48 + q % 10)) (sym (eq-eqb q 0 h))
+
+pub digit-of : (q v : ℕ) → 0 < q → v ≡ 48 + q % 10 → v ≡ digitOr q
+unfolding digitOr
+digit-of q v h e = e ∙ ap (λ (z : Bool). cond z 32 (48 + q % 10)) (sym (ne-eqb q 0 (λ (x : q ≡ 0). omega arith)))
+
+-- five bytes that are the column of n
+pub column-five : (l after : List ℕ) (at n a b c d e : ℕ) → after ≡ put at l (a ∷ b ∷ c ∷ d ∷ e ∷ [])
+    → a ≡ digitOr (n / 10 / 10 / 10 / 10) → b ≡ digitOr (n / 10 / 10 / 10) → c ≡ digitOr (n / 10 / 10) → d ≡ digitOr (n / 10) → e ≡ 48 + n % 10
+    → after ≡ put at l (columnOf 5 n)
+unfolding columnOf padded
+column-five l after at n a b c d e h ea eb ec ed ee = h ∙ λ j. put at l (ea j ∷ eb j ∷ ec j ∷ ed j ∷ ee j ∷ [])
 
 pub first-fits : (at v : ℕ) → v < 10 → v < 10 ^ (at - at + 1)
 first-fits at v h = let e : at - at + 1 ≡ 1 = omega arith in subst (λ (n : ℕ). v < 10 ^ n) (sym e) h

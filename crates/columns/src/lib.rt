@@ -2,10 +2,11 @@
 //
 // number        the number in a column
 // write_number  a number written as a column of five bytes
-ghost use Prim.Native.Nat.{ℕ, _+_, _-_, _<_, _≤_};
+ghost use Prim.Native.Nat.{ℕ, _+_, _-_, _%_, _<_, _≤_};
+ghost use mathlib.Core.List.{[], _∷_};
 ghost use mathlib.Core.Path.{_≡_};
 ghost use lib.ListN.{length, take, drop};
-ghost use Rattle.columns.specs.Column.{digits, passFrom, found, columnNumber, digitOr, columnOf, put};
+ghost use Rattle.columns.specs.Column.{digits, passFrom, found, columnNumber, columnOf, put};
 
 // The answer of number where there is none: more than any column of ten bytes holds.
 pub const NO_NUMBER: usize = 10000000000;
@@ -60,27 +61,64 @@ pub fn number(bytes: &[u8], at: usize, width: usize) -> usize
     NO_NUMBER
 }
 
-// The last digit of q as a byte, or a space where q is 0.
-fn digit_or_space(q: usize) -> u8
-    ensures { λ r. ⌜ r ≡ digitOr q ⌝ }
+// Five bytes, stored from byte at on.
+fn store(bytes: &mut [u8], at: usize, a: u8, b: u8, c: u8, d: u8, e: u8)
+    requires { ⌜ at + 5 ≤ length (now bytes) ⌝ }
+    ensures { λ r. ⌜ now (bytes .exit) ≡ put at (now (bytes .entry)) (a ∷ b ∷ c ∷ d ∷ e ∷ []) ⌝ }
 {
-    if q == 0 {
-        return 32;
-    }
-    48 + (q % 10) as u8
+    bytes[at] = a;
+    bytes[at + 1] = b;
+    bytes[at + 2] = c;
+    bytes[at + 3] = d;
+    bytes[at + 4] = e;
 }
 
-// n as a column of five bytes, written from byte at on.
+// The last digit of n as a byte.
+fn digit(n: usize) -> u8
+    ensures { λ r. ⌜ r ≡ 48 + n % 10 ⌝ }
+{
+    48 + (n % 10) as u8
+}
+
+// n as a column of five bytes, written from byte at on. Of a larger number the last five digits are written.
 pub fn write_number(bytes: &mut [u8], at: usize, n: usize)
     requires { ⌜ at + 5 ≤ length (now bytes) ⌝ }
     ensures { λ r. ⌜ now (bytes .exit) ≡ put at (now (bytes .entry)) (columnOf 5 n) ⌝ }
 {
+    if n < 10 {
+        store(bytes, at, 32, 32, 32, 32, digit(n));
+        return;
+    }
     let tens = n / 10;
+    if tens < 10 {
+        store(bytes, at, 32, 32, 32, digit(tens), digit(n));
+        return;
+    }
     let hundreds = tens / 10;
+    if hundreds < 10 {
+        store(bytes, at, 32, 32, digit(hundreds), digit(tens), digit(n));
+        return;
+    }
     let thousands = hundreds / 10;
-    bytes[at] = digit_or_space(thousands / 10);
-    bytes[at + 1] = digit_or_space(thousands);
-    bytes[at + 2] = digit_or_space(hundreds);
-    bytes[at + 3] = digit_or_space(tens);
-    bytes[at + 4] = 48 + (n % 10) as u8;
+    if thousands < 10 {
+        store(
+            bytes,
+            at,
+            32,
+            digit(thousands),
+            digit(hundreds),
+            digit(tens),
+            digit(n),
+        );
+        return;
+    }
+    store(
+        bytes,
+        at,
+        digit(thousands / 10),
+        digit(thousands),
+        digit(hundreds),
+        digit(tens),
+        digit(n),
+    );
 }

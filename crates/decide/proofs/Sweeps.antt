@@ -11,8 +11,8 @@ use native.Mathlib.Omega.{arith}
 use native.Mathlib.Decide.{ℕ-discrete}
 use lib.Bits.{bitOr}
 use lib.Count.{ones}
-use Rattle.stateset.specs.Set.{width, In, removed, SetIs, Lowest}
-use Rattle.stateset.specs.Set.Laws.{in?, empty-in, ones-mono, union-grows}
+use Rattle.stateset.specs.Set.{width, In, SetIs, Size}
+use Rattle.stateset.specs.Set.Laws.{in?, ones-mono, ones-same, union-grows}
 use Rattle.decide.specs.Graph.{Members, From, Star, here, more}
 use Rattle.decide.proofs.SetCases.{members-is, members-as, members-none, none-in, some-member}
 
@@ -164,6 +164,13 @@ module _ (A B : ℕ → ℕ → Type 0) (set : ℕ) where
             let z = by .members q .0 h in
             let y = near-sound (z .0) (z .1) in
             (y .0, y .1, more (y .2) (inr (z .2)))
+
+    -- the sizes say whether anything came new
+    pub same-size : (n k : ℕ) → Size u n → Size near k → n ≡ k → u ≡ near
+    same-size n k su sn e = sym (ones-same near u (λ q h. union .members q .1 (inl h)) (sym (sn .value) ∙ (sym e ∙ su .value)))
+
+    pub other-size : (n k : ℕ) → Size u n → Size near k → (n ≡ k → ⊥) → u ≡ near → ⊥
+    other-size n k su sn d e = d (su .value ∙ (ap ones e ∙ sym (sn .value)))
 
     pub placing-less : {P : ℕ → Type 0} → SetIs u (bitOr near c) P → (u ≡ near → ⊥) → width - ones u < width - ones all
     placing-less value n =

@@ -204,7 +204,8 @@ fn empty_copies(list: &[u16], first: &[u16; 65], g: u64, h: u64, set: u64) -> u6
     )
 }
 
-// The states that a set reaches at one place in normal mode: by epsilon moves and copies of nothing, as often as wanted.
+// The states that a set reaches at one place in normal mode: by epsilon moves and copies of nothing, as often as wanted. No set
+// shrinks, so the end is reached when the size stays.
 pub fn close_place(list: &[u16], first: &[u16; 65], g: u64, h: u64, set: u64) -> u64
     requires { ⌜ Good (now list) (now first) ⌝ }
     ensures { λ r. ⌜ Members r (From set (Star (Turn (graph (now (list .entry)) (now (first .entry)) g h)))) ⌝ }
@@ -213,7 +214,7 @@ pub fn close_place(list: &[u16], first: &[u16; 65], g: u64, h: u64, set: u64) ->
     loop {
         let near = close_set(list, first, g, h, Mode::Normal, all);
         let copied = stateset::union(near, empty_copies(list, first, g, h, near));
-        if copied == near {
+        if stateset::size(copied) == stateset::size(near) {
             return near;
         }
         all = copied;

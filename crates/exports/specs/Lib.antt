@@ -1,2 +1,4 @@
+pub mod Products
+pub mod Recognize
 pub mod Run
 pub mod SheetAnswers

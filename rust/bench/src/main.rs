@@ -1,16 +1,22 @@
 //! Times of the proved calls beside plain Rust, on the same input in the same run.
 //!
-//! Each section prints its own table. With names after `--`, only the sections named run: `checking`, `sheet`.
-//! A further call is measured by a function like [`checking::section`] and one more line in `main`.
+//! Each section prints its own table. With names after `--`, only the sections named run: `checking`, `sheet`,
+//! `recognize`. A further call is measured by a function like [`checking::section`] and one more line in `main`.
 
 mod checking;
 mod measure;
 mod plain;
+mod plain_recognize;
 mod plain_sheet;
+mod recognize;
 mod sheet;
 
 fn main() {
-    let sections: [(&str, fn()); 2] = [("checking", checking::section), ("sheet", sheet::section)];
+    let sections: [(&str, fn()); 3] = [
+        ("checking", checking::section),
+        ("sheet", sheet::section),
+        ("recognize", recognize::section),
+    ];
     let wanted: Vec<String> = std::env::args().skip(1).collect();
     for (name, section) in sections {
         if wanted.is_empty() || wanted.iter().any(|wanted| wanted == name) {

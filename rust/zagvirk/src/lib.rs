@@ -7,6 +7,9 @@
 //! - [`check_run`]: whether a run accepts a word.
 //! - [`sheet`]: reading and writing of sheets, the text form of a machine.
 //! - [`spelling`]: written words to letters.
+//! - [`product`]: the product of a machine with a plain machine.
+//! - [`copies`]: the copy list of an accepting run.
+//! - [`recognize`]: whether a machine accepts a word, with a run.
 //! - [`Refusal`]: why a call turned its input down.
 //! - [`records`]: `step` and `check_run` with the records as they cross the boundary, for any mode byte.
 //!
@@ -29,6 +32,9 @@
 //! each entry; [`check_run`] does so once for a whole run. No call allocates. A call that writes does so only to the
 //! slice it takes as `&mut`: on success at its front, on a refusal nowhere.
 
+pub mod copies;
+pub mod product;
+pub mod recognize;
 pub mod records;
 mod refusal;
 pub mod sheet;

@@ -30,7 +30,7 @@ add-sheet c = search needs
 
 -- src/write.rt:27:5
 slice-write-sheet : tie.Need-slice-write-sheet
-slice-write-sheet c = search needs
+slice-write-sheet c = omega (arith, (c .before .before .before .before .before .before .before .before .before .pre), (c .before .before .before .before .before .before .write-number .kept) .0, (c .before .before .write-number2 .kept) .0)
 
 -- src/write.rt:21:1
 same-length : tie.Need-same-length

@@ -1,0 +1,91 @@
+-- The copy list of an accepting run (document 01, "How a run moves"). The laws stand in specs/Copies/Laws.antt.
+--
+-- Copy                    == a copy: the position where buffering began, and the number of letters stored
+-- copiesOf m list w run   == the copies of an accepting run, one for each entry 65,534, in order
+-- pairs ks                == the copies as they are written, two numbers each
+-- totalStored ks          == the total of the letters stored
+-- plainLetters m list w run == the letters that the run reads in normal mode
+-- copiesRefusal           == the first refusal of list_copies, number 0 where there is none
+-- copiesAnswer, copiesAfter == what list_copies answers, and what the caller's slice holds afterwards
+use Prim.Native.Nat.{ℕ, _+_, _*_, _-_}
+use mathlib.Core.List.{List, [], _∷_, _++_}
+use mathlib.Core.Bool.{Bool, true, false, cond}
+use lib.ListN.{length, drop}
+use lib.Dec.{leb, eqb}
+use Rattle.fsbm.specs.Moves.{move, startAt, isNormal, accepting, beginEmptying}
+use Rattle.fsbm.specs.Answers.{tableAndWord, refusal}
+use Rattle.fsbm.specs.declared.machine.Machine.{Machine}
+use Rattle.fsbm.specs.declared.config.Config.{Config}
+use Rattle.fsbm.specs.declared.answer.Refusal.{Refusal}
+use Rattle.copies.specs.declared.Copied.{Copied}
+use Rattle.copies.specs.declared.Copied.the-variants.{Refused, Listed}
+pub mod Laws
+
+-- the longest word that copies are listed of
+abbrev pub longestCopied : ℕ
+longestCopied = 255
+
+pub record Copy : Type 0 where
+  pub start : ℕ
+  pub stored : ℕ
+
+-- the copy whose buffer is complete in c, where an entry 65,534 follows
+abbrev pub copyAt : Config → Copy
+copyAt c = record { start = c .start; stored = c .end - c .start }
+
+-- the copies that the entries es make from c
+unfoldable pub copiesFrom : Machine → List ℕ → List ℕ → Config → List ℕ → List Copy
+copiesFrom m list w c [] = []
+copiesFrom m list w c (e ∷ es) =
+    let rest = copiesFrom m list w (move m list w c e .config) es in
+    cond (eqb e beginEmptying) (copyAt c ∷ rest) rest
+
+unfoldable pub copiesOf : Machine → List ℕ → List ℕ → List ℕ → List Copy
+copiesOf m list w [] = []
+copiesOf m list w (q ∷ es) = copiesFrom m list w (startAt q) es
+
+unfoldable pub pairs : List Copy → List ℕ
+pairs [] = []
+pairs (k ∷ ks) = k .start ∷ k .stored ∷ pairs ks
+
+unfoldable pub totalStored : List Copy → ℕ
+totalStored [] = 0
+totalStored (k ∷ ks) = k .stored + totalStored ks
+
+-- a move in normal mode reads the letters between the two positions
+abbrev pub plainAt : Config → Config → ℕ
+plainAt c next = cond (isNormal (c .mode)) (next .position - c .position) 0
+
+unfoldable pub plainFrom : Machine → List ℕ → List ℕ → Config → List ℕ → ℕ
+plainFrom m list w c [] = 0
+plainFrom m list w c (e ∷ es) = plainAt c (move m list w c e .config) + plainFrom m list w (move m list w c e .config) es
+
+unfoldable pub plainLetters : Machine → List ℕ → List ℕ → List ℕ → ℕ
+plainLetters m list w [] = 0
+plainLetters m list w (q ∷ es) = plainFrom m list w (startAt q) es
+
+-- how long a slice the copies need
+unfoldable pub copiesNeed : Machine → List ℕ → List ℕ → List ℕ → ℕ
+copiesNeed m list w run = length (copiesOf m list w run) * 2
+
+-- 16, 9 and 8; 14 the run does not accept; 20 the slice of this length is too short
+unfoldable pub copiesRefusal : Machine → List ℕ → List ℕ → List ℕ → ℕ → Refusal
+copiesRefusal m list w run room =
+    cond (eqb (tableAndWord longestCopied m list w) 0)
+    (cond (accepting m list w run)
+    (cond (leb (copiesNeed m list w run) room) (refusal 0) (record { number = 20; needed = copiesNeed m list w run }))
+    (refusal 14))
+    (refusal (tableAndWord longestCopied m list w))
+
+unfoldable pub copiesAnswer : Machine → List ℕ → List ℕ → List ℕ → ℕ → Copied
+copiesAnswer m list w run room =
+    cond (eqb (copiesRefusal m list w run room .number) 0)
+    (Listed (length (copiesOf m list w run)) (totalStored (copiesOf m list w run)))
+    (Refused (copiesRefusal m list w run room))
+
+-- the slice as it was, or the copies at its front
+unfoldable pub copiesAfter : Machine → List ℕ → List ℕ → List ℕ → List ℕ → List ℕ
+copiesAfter m list w run slice =
+    cond (eqb (copiesRefusal m list w run (length slice) .number) 0)
+    (pairs (copiesOf m list w run) ++ drop (copiesNeed m list w run) slice)
+    slice

@@ -1,0 +1,23 @@
+use mathlib.Core.Path.{_≡_, refl, sym, ap, _∙_}
+use Rattle.exports.specs.Products.{joinedOf}
+use borrow.Author.Needs.{needs}
+use Rattle.exports.proofs.products.zagvirk_join.Statement.{statement}
+use Rattle.exports.proofs.products.zagvirk_join.Tie as tie
+use Rattle.exports.proofs.products.zagvirk_join.Reads as reads
+use Rattle.exports.proofs.products.zagvirk_join.Lts as lts
+use Rattle.product.proofs.join.Reads as join-reads
+
+-- src/products.rt:39:9
+join-requires : tie.Need-join-requires
+join-requires c κs = search needs
+
+-- src/products.rt:28:1
+same-length : tie.Need-same-length
+same-length c = search needs
+
+-- src/products.rt:28:1
+returns : tie.Need-returns
+returns c = (ap joinedOf ((c .before .before .before .before .join .ensures) .0), (c .before .before .before .before .join .ensures) .1)
+
+pub zagvirk-join-spec : {M : Type 1} → statement M
+zagvirk-join-spec = tie.close (tie.spec join-requires same-length returns)

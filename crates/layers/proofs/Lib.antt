@@ -1,0 +1,2 @@
+pub mod RowCases
+pub mod LayerCases

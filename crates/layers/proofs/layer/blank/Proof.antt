@@ -1,0 +1,13 @@
+use mathlib.Core.Path.{refl}
+use Rattle.layers.proofs.LayerCases.{blank-is}
+use Rattle.layers.proofs.layer.blank.Statement.{statement}
+use Rattle.layers.proofs.layer.blank.Tie as tie
+use Rattle.layers.proofs.layer.blank.Reads as reads
+use Rattle.layers.proofs.layer.blank.Lts as lts
+
+-- src/layer.rt:20:1
+returns : tie.Need-returns
+returns c = blank-is
+
+pub blank-spec : {M : Type 1} → statement M
+blank-spec = tie.close (tie.spec returns)

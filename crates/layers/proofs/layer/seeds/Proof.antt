@@ -1,0 +1,71 @@
+use Prim.Native.Nat.{_≤_, _<_, _-_, _+_}
+use mathlib.Core.Logic.{⊎-elim}
+use mathlib.Core.Path.{_≡_, refl, sym, ap, _∙_, subst}
+use native.Mathlib.Omega.{arith}
+use borrow.Author.Needs.{needs}
+use Rattle.layers.specs.Layers.{Seeded}
+use Rattle.layers.proofs.LayerCases.{seed-start, seed-joined, seed-end}
+use Rattle.layers.proofs.layer.seeds.Statement.{statement}
+use Rattle.layers.proofs.layer.seeds.Tie as tie
+use Rattle.layers.proofs.layer.seeds.Reads as reads
+use Rattle.layers.proofs.layer.seeds.Lts as lts
+use Rattle.fsbm.proofs.machine.is_final.Reads as is-final-reads
+use Rattle.layers.proofs.layer.blank.Reads as blank-reads
+
+abbrev Inv-loop : tie.InvT-loop
+Inv-loop m row₀ q₀ row q = (q ≤ m .states) × Seeded m q row
+
+abbrev μ-loop : tie.MeasureT-loop
+μ-loop m row₀ q₀ row q = m .states - q
+
+-- src/layer.rt:31:19
+blank-requires : tie.Need-blank-requires Inv-loop μ-loop
+blank-requires c κs = search needs
+
+-- src/layer.rt:33:5
+loop-holds : tie.Need-loop-holds Inv-loop μ-loop
+loop-holds c = (omega arith, seed-start _ _ (c .blank .ensures))
+
+-- src/layer.rt:34:12
+is-final-requires : tie.Need-is-final-requires Inv-loop μ-loop
+is-final-requires c κs = search needs
+
+-- src/layer.rt:35:13
+mul-row : tie.Need-mul-row Inv-loop μ-loop
+mul-row c = omega (arith, (c .before .before .before .before .loop-test .taken), (c .before .before .before .before .before .before .before .pre))
+
+-- src/layer.rt:35:13
+array-write-row : tie.Need-array-write-row Inv-loop μ-loop
+array-write-row c = omega (arith, (c .before .before .before .before .loop-test .taken), (c .before .before .before .before .before .before .before .pre))
+
+-- src/layer.rt:37:9
+add-q : tie.Need-add-q Inv-loop μ-loop
+add-q c = omega (arith, (c .before .before .before .before .loop-test .taken), (c .before .before .before .before .before .before .before .pre))
+
+-- src/layer.rt:33:5
+loop-less : tie.Need-loop-less Inv-loop μ-loop
+loop-less c = omega (arith, (c .before .before .before .before .loop-test .taken))
+
+-- src/layer.rt:33:5
+loop-again : tie.Need-loop-again Inv-loop μ-loop
+loop-again c = (omega (arith, (c .before .before .before .before .loop-test .taken)), ⊎-elim (λ z. seed-joined _ _ _ (omega (arith, (c .before .before .before .before .loop-test .taken), (c .before .before .before .before .before .before .before .pre))) ((c .before .before .before .before .before .loop .inv) .1) _ (c .before .is-final .ensures) .0 (z .0 .taken) _ (z .1)) (λ z. seed-joined _ _ _ (omega (arith, (c .before .before .before .before .loop-test .taken), (c .before .before .before .before .before .before .before .pre))) ((c .before .before .before .before .before .loop .inv) .1) _ (c .before .is-final .ensures) .1 (z .0 .left) _ (z .1)) (c .if1 .came))
+
+-- src/layer.rt:27:1
+returns : tie.Need-returns Inv-loop μ-loop
+returns c = seed-end _ _ _ ((c .before .loop .inv) .0) (c .loop-test .left) ((c .before .loop .inv) .1)
+
+pub seeds-spec : {M : Type 1} → statement M
+seeds-spec =
+    tie.close
+    (tie.spec
+    Inv-loop
+    μ-loop
+    blank-requires
+    loop-holds
+    is-final-requires
+    mul-row
+    array-write-row
+    add-q
+    loop-less
+    loop-again
+    returns)

@@ -1,0 +1,195 @@
+-- The laws of specs/Costs.antt.
+--
+-- Cases D D′         == the kinds of moves, each with what it says of D and D′
+-- yields-cases       == every published move is one of them
+-- silent-yields, normal-yields, buffer-yields, empty-yields == a transition that leads is a published move
+-- go-step            == a move, then a way to acceptance
+-- layer-least        == a relation between configurations and numbers that no move would lower has least numbers
+-- Fit D, go-fit      == what a configuration with a way to acceptance has: an emptied buffer stands at the front of the input,
+--                       a stored one is no longer than the input
+-- best-none          == where there is no way, none is Best
+use Prim.Native.Nat.{ℕ, zero, suc, _+_, _≤_, _<_}
+use mathlib.Core.Path.{_≡_, refl, sym, ap, _∙_, subst, subst₂}
+use mathlib.Core.Logic.{_⊎_, inl, inr}
+use mathlib.Core.Bool.{Bool, true, false, not, _&&_}
+use mathlib.Core.List.{List, [], _∷_, _++_, append-nil}
+use native.Mathlib.Omega.{arith}
+use lib.ListN.{length, length-append}
+use Rattle.graphs.specs.Search.Laws.{and-true, and-both-true}
+use Rattle.graphs.specs.Paths.{Path, here, step}
+use Rattle.fsbm.specs.Machine.{transitionAt, buffering, matching, bothMatching}
+use Rattle.fsbm.specs.Published.{Listed, fsbmOf, Configuration, config, Yields, normal, buffer, empty, begin-buffering, begin-emptying, back-to-normal}
+use Rattle.fsbm.specs.declared.machine.Machine.{Machine}
+use Rattle.fsbm.specs.declared.config.Mode.{Mode}
+use Rattle.fsbm.specs.declared.config.Mode.the-variants.{Normal, Buffering, Emptying}
+use Rattle.language.specs.Bools.{not-says, says-not, not-and-says, says-not-and}
+use Rattle.language.specs.NoWord.{passable}
+use Rattle.layers.specs.Costs.{none, Go, Best, Leads}
+
+unfoldable pub Fits : List ℕ → List ℕ → Mode → Type 0
+Fits u v Normal = v ≡ []
+Fits u v Buffering = length v ≤ length u
+Fits u v Emptying = (rest : List ℕ) × (u ≡ v ++ rest)
+
+abbrev pub Fit : Configuration → Type 0
+Fit D = Fits (D .input) (D .buffer) (D .mode)
+
+module _ (m : Machine) (list : List ℕ) where
+  pub data Cases (D D′ : Configuration) : Type 0 where
+    silent : (k : ℕ) → Leads m list (m .transitions) (D .mode) 0 k → transitionAt list k .from ≡ D .state
+        → D′ ≡ config (D .input) (transitionAt list k .to) (D .buffer) (D .mode) → Cases D D′
+    normal-letter : (k x : ℕ) (u : List ℕ) → Leads m list (m .transitions) Normal (suc x) k → transitionAt list k .from ≡ D .state → D .mode ≡ Normal → D .input ≡ suc x ∷ u
+        → D′ ≡ config u (transitionAt list k .to) [] Normal → Cases D D′
+    buffer-letter : (k x : ℕ) (u : List ℕ) → Leads m list (m .transitions) Buffering (suc x) k → transitionAt list k .from ≡ D .state → D .mode ≡ Buffering → D .input ≡ suc x ∷ u
+        → D′ ≡ config u (transitionAt list k .to) (D .buffer ++ (suc x ∷ [])) Buffering → Cases D D′
+    empty-letter : (k x : ℕ) (u v : List ℕ) → Leads m list (m .transitions) Emptying (suc x) k → transitionAt list k .from ≡ D .state → D .mode ≡ Emptying → D .input ≡ suc x ∷ u
+        → D .buffer ≡ suc x ∷ v → D′ ≡ config u (transitionAt list k .to) v Emptying → Cases D D′
+    to-buffering : D .mode ≡ Normal → buffering (m .marks) (D .state) ≡ true → D′ ≡ config (D .input) (D .state) [] Buffering → Cases D D′
+    to-emptying : D .mode ≡ Buffering → matching (m .marks) (D .state) ≡ true → D′ ≡ config (D .input) (D .state) (D .buffer) Emptying → Cases D D′
+    to-normal : D .mode ≡ Emptying → D .buffer ≡ [] → matching (m .marks) (D .state) ≡ true → D′ ≡ config (D .input) (D .state) [] Normal → Cases D D′
+
+  mark-at : {y z : ℕ} → y ≡ z → (test : List ℕ → ℕ → Bool) → test (m .marks) y ≡ true → test (m .marks) z ≡ true
+  mark-at e test h = subst (λ (n : ℕ). test (m .marks) n ≡ true) e h
+
+  -- a listed transition that the marks let be taken
+  normal-leads : {p x q : ℕ} (δ : Listed list (m .transitions) p x q) → ((matching (m .marks) p ≡ true) × (matching (m .marks) q ≡ true) → ⊥) → (buffering (m .marks) p ≡ true → ⊥)
+      → Leads m list (m .transitions) Normal x (δ .number)
+  normal-leads δ apart not-from =
+      let tr = transitionAt list (δ .number) in
+      record {
+        listed = δ .listed;
+        letter = δ .letter;
+        passes = and-both-true (not (bothMatching (m .marks) tr)) (not (buffering (m .marks) (tr .from)))
+            (says-not-and (matching (m .marks) (tr .from)) (matching (m .marks) (tr .to)) (λ z. apart (mark-at (δ .from) matching (z .0), mark-at (δ .to) matching (z .1))))
+            (says-not (buffering (m .marks) (tr .from)) (λ z. not-from (mark-at (δ .from) buffering z)));
+      }
+
+  buffer-leads : {p x q : ℕ} (δ : Listed list (m .transitions) p x q) → ((matching (m .marks) p ≡ true) × (matching (m .marks) q ≡ true) → ⊥) → (buffering (m .marks) q ≡ true → ⊥)
+      → Leads m list (m .transitions) Buffering x (δ .number)
+  buffer-leads δ apart not-to =
+      let tr = transitionAt list (δ .number) in
+      record {
+        listed = δ .listed;
+        letter = δ .letter;
+        passes = and-both-true (not (bothMatching (m .marks) tr)) (not (buffering (m .marks) (tr .to)))
+            (says-not-and (matching (m .marks) (tr .from)) (matching (m .marks) (tr .to)) (λ z. apart (mark-at (δ .from) matching (z .0), mark-at (δ .to) matching (z .1))))
+            (says-not (buffering (m .marks) (tr .to)) (λ z. not-to (mark-at (δ .to) buffering z)));
+      }
+
+  empty-leads : {p x q : ℕ} (δ : Listed list (m .transitions) p x q) → matching (m .marks) p ≡ true → matching (m .marks) q ≡ true
+      → Leads m list (m .transitions) Emptying x (δ .number)
+  empty-leads δ a b =
+      let tr = transitionAt list (δ .number) in
+      record {
+        listed = δ .listed;
+        letter = δ .letter;
+        passes = and-both-true (matching (m .marks) (tr .from)) (matching (m .marks) (tr .to)) (mark-at (sym (δ .from)) matching a) (mark-at (sym (δ .to)) matching b);
+      }
+
+  same : {u u′ : List ℕ} {q q′ : ℕ} {v v′ : List ℕ} {t : Mode} → u ≡ u′ → q ≡ q′ → v ≡ v′ → config u q v t ≡ config u′ q′ v′ t
+  same {t = t} a b c = λ i. record { input = a i; state = b i; buffer = c i; mode = t }
+
+  pub yields-cases : {D D′ : Configuration} → Yields (fsbmOf m list) D D′ → Cases D D′
+  yields-cases (normal {x = zero} δ apart n) = silent (δ .number) (normal-leads δ apart n) (δ .from) (same refl (sym (δ .to)) refl)
+  yields-cases (normal {x = suc x} {u = u} δ apart n) = normal-letter (δ .number) x u (normal-leads δ apart n) (δ .from) refl refl (same refl (sym (δ .to)) refl)
+  yields-cases (buffer {x = zero} {v = v} δ apart n) = silent (δ .number) (buffer-leads δ apart n) (δ .from) (same refl (sym (δ .to)) (append-nil v))
+  yields-cases (buffer {x = suc x} {u = u} δ apart n) = buffer-letter (δ .number) x u (buffer-leads δ apart n) (δ .from) refl refl (same refl (sym (δ .to)) refl)
+  yields-cases (empty {x = zero} δ a b) = silent (δ .number) (empty-leads δ a b) (δ .from) (same refl (sym (δ .to)) refl)
+  yields-cases (empty {x = suc x} {u = u} {v = v} δ a b) = empty-letter (δ .number) x u v (empty-leads δ a b) (δ .from) refl refl refl (same refl (sym (δ .to)) refl)
+  yields-cases (begin-buffering is) = to-buffering refl is refl
+  yields-cases (begin-emptying is) = to-emptying refl is refl
+  yields-cases (back-to-normal is) = to-normal refl refl is refl
+
+  -- From a transition that leads to a move
+
+  the-listed : {t : Mode} {x k : ℕ} → Leads m list (m .transitions) t x k → Listed list (m .transitions) (transitionAt list k .from) x (transitionAt list k .to)
+  the-listed {k = k} l = record { number = k; listed = l .listed; from = refl; letter = l .letter; to = refl }
+
+  normal-apart : {x k : ℕ} → Leads m list (m .transitions) Normal x k
+      → ((matching (m .marks) (transitionAt list k .from) ≡ true) × (matching (m .marks) (transitionAt list k .to) ≡ true) → ⊥) × (buffering (m .marks) (transitionAt list k .from) ≡ true → ⊥)
+  normal-apart {k = k} l =
+      let tr = transitionAt list k in
+      let (a, b) = and-true (not (bothMatching (m .marks) tr)) (not (buffering (m .marks) (tr .from))) (l .passes) in
+      (not-and-says (matching (m .marks) (tr .from)) (matching (m .marks) (tr .to)) a, not-says (buffering (m .marks) (tr .from)) b)
+
+  buffer-apart : {x k : ℕ} → Leads m list (m .transitions) Buffering x k
+      → ((matching (m .marks) (transitionAt list k .from) ≡ true) × (matching (m .marks) (transitionAt list k .to) ≡ true) → ⊥) × (buffering (m .marks) (transitionAt list k .to) ≡ true → ⊥)
+  buffer-apart {k = k} l =
+      let tr = transitionAt list k in
+      let (a, b) = and-true (not (bothMatching (m .marks) tr)) (not (buffering (m .marks) (tr .to))) (l .passes) in
+      (not-and-says (matching (m .marks) (tr .from)) (matching (m .marks) (tr .to)) a, not-says (buffering (m .marks) (tr .to)) b)
+
+  pub normal-yields : {x k : ℕ} (u : List ℕ) → Leads m list (m .transitions) Normal (suc x) k
+      → Yields (fsbmOf m list) (config (suc x ∷ u) (transitionAt list k .from) [] Normal) (config u (transitionAt list k .to) [] Normal)
+  normal-yields u l = let (a, b) = normal-apart l in normal (the-listed l) a b
+
+  pub buffer-yields : {x k : ℕ} (u v : List ℕ) → Leads m list (m .transitions) Buffering (suc x) k
+      → Yields (fsbmOf m list) (config (suc x ∷ u) (transitionAt list k .from) v Buffering) (config u (transitionAt list k .to) (v ++ (suc x ∷ [])) Buffering)
+  buffer-yields u v l = let (a, b) = buffer-apart l in buffer (the-listed l) a b
+
+  pub empty-yields : {x k : ℕ} (u v : List ℕ) → Leads m list (m .transitions) Emptying (suc x) k
+      → Yields (fsbmOf m list) (config (suc x ∷ u) (transitionAt list k .from) (suc x ∷ v) Emptying) (config u (transitionAt list k .to) v Emptying)
+  empty-yields {k = k} u v l =
+      let tr = transitionAt list k in
+      let (a, b) = and-true (matching (m .marks) (tr .from)) (matching (m .marks) (tr .to)) (l .passes) in
+      empty (the-listed l) a b
+
+  -- in normal mode the buffer is empty
+  pub silent-yields : (t : Mode) {k : ℕ} (u v : List ℕ) → (t ≡ Normal → v ≡ []) → Leads m list (m .transitions) t 0 k
+      → Yields (fsbmOf m list) (config u (transitionAt list k .from) v t) (config u (transitionAt list k .to) v t)
+  silent-yields Normal {k} u v z l =
+      let (a, b) = normal-apart l in
+      subst (λ (s : List ℕ). Yields (fsbmOf m list) (config u (transitionAt list k .from) s Normal) (config u (transitionAt list k .to) s Normal)) (sym (z refl))
+      (normal (the-listed l) a b)
+  silent-yields Buffering {k} u v z l =
+      let (a, b) = buffer-apart l in
+      subst (λ (s : List ℕ). Yields (fsbmOf m list) (config u (transitionAt list k .from) v Buffering) (config u (transitionAt list k .to) s Buffering)) (append-nil v)
+      (buffer (the-listed l) a b)
+  silent-yields Emptying {k} u v z l =
+      let tr = transitionAt list k in
+      let (a, b) = and-true (matching (m .marks) (tr .from)) (matching (m .marks) (tr .to)) (l .passes) in
+      empty (the-listed l) a b
+
+  pub go-step : {C C′ : Configuration} {n : ℕ} → Yields (fsbmOf m list) C C′ → Go m list C′ n → Go m list C (suc n)
+  go-step y g = record { last = g .last; last-final = g .last-final; path = step y (g .path) }
+
+  -- Least numbers
+
+  module _ (L : Configuration → ℕ → Type 0) (goal : (q d : ℕ) → fsbmOf m list .F q → L (config [] q [] Normal) d → d ≡ 0)
+      (edge : (C C′ : Configuration) (d n : ℕ) → L C d → Cases C C′ → Go m list C′ n → ((d′ : ℕ) × L C′ d′ × (d ≤ suc d′)) ⊎ (d ≤ suc n)) where
+    path-least : {C E : Configuration} {n : ℕ} → Path Configuration (Yields (fsbmOf m list)) C E n → (q : ℕ) → fsbmOf m list .F q → E ≡ config [] q [] Normal → (d : ℕ) → L C d → d ≤ n
+    path-least here q f e d l = let z = goal q d f (subst (λ (C : Configuration). L C d) e l) in omega arith
+    path-least (step {u = C} {v = C′} {n = n} y p) q f e d l =
+        on (edge C C′ d n l (yields-cases y) (record { last = q; last-final = f; path = subst (λ (E : Configuration). Path Configuration (Yields (fsbmOf m list)) C′ E n) e p }))
+        (λ d′ l′. path-least p q f e d′ l′)
+      where
+        on : ((d′ : ℕ) × L C′ d′ × (d ≤ suc d′)) ⊎ (d ≤ suc n) → ((d′ : ℕ) → L C′ d′ → d′ ≤ n) → d ≤ suc n
+        on (inl z) h = let k = h (z .0) (z .1) in let b = z .2 in omega arith
+        on (inr z) h = z
+
+    pub layer-least : {C : Configuration} {n : ℕ} → Go m list C n → (d : ℕ) → L C d → d ≤ n
+    layer-least g d l = path-least (g .path) (g .last) (g .last-final) refl d l
+
+  -- Where there is no way
+
+  fit-step : {D D′ : Configuration} → Yields (fsbmOf m list) D D′ → Fit D′ → Fit D
+  unfolding Fits
+  fit-step (normal δ apart n) h = refl
+  fit-step (buffer {x = zero} {v = v} δ apart n) h = rw append-nil at h
+  fit-step (buffer {x = suc x} {u = u} {v = v} δ apart n) h = let l = length-append v (suc x ∷ []) in omega arith
+  fit-step (empty {x = zero} δ a b) h = h
+  fit-step (empty {x = suc x} δ a b) h = (h .0, ap (λ (s : List ℕ). suc x ∷ s) (h .1))
+  fit-step (begin-buffering is) h = refl
+  fit-step (begin-emptying {u = u} {v = v} is) h = let l = length-append v (h .0) in let e = ap length (h .1) in omega arith
+  fit-step (back-to-normal {u = u} is) h = (u, refl)
+
+  fit-path : {C E : Configuration} {n : ℕ} → Path Configuration (Yields (fsbmOf m list)) C E n → Fit E → Fit C
+  fit-path here h = h
+  fit-path (step y p) h = fit-step y (fit-path p h)
+
+  pub go-fit : {C : Configuration} {n : ℕ} → Go m list C n → Fit C
+  unfolding Fits
+  go-fit g = fit-path (g .path) refl
+
+  pub best-none : {C : Configuration} → ((n : ℕ) → Go m list C n → ⊥) → Best m list C none
+  best-none never = record { realised = λ (l : none < none). absurd (omega arith); least = λ n g. absurd (never n g) }

@@ -1,0 +1,168 @@
+// Whole layers: rows of least numbers, from the rows of the layers after them.
+ghost use Prim.Native.Nat.{ℕ, _+_, _≤_, _<_};
+ghost use mathlib.Core.Path.{_≡_};
+ghost use mathlib.Core.Bool.{Bool, true, false};
+ghost use Rattle.fsbm.specs.Machine.{wellFormed};
+ghost use Rattle.layers.specs.Layers.{blankRow, Seeded, FirstRow, EmptyingLayer, BufferingLayer, Round, ClosedPlace, PlaceLayer};
+use crate::row;
+use fsbm::config::Mode;
+use fsbm::machine;
+use fsbm::machine::Machine;
+
+// The three rows of a place, the buffer empty.
+pub struct Place {
+    pub normal: [u16; 64],
+    pub buffering: [u16; 64],
+    pub emptying: [u16; 64],
+}
+
+// A row that says none everywhere.
+pub fn blank() -> [u16; 64]
+    ensures { λ r. ⌜ r ≡ blankRow ⌝ }
+{
+    [65535; 64]
+}
+
+// The row of the end of the word, in normal mode: 0 at the final states, none elsewhere.
+fn seeds(m: Machine) -> [u16; 64]
+    requires { ⌜ m .states ≤ 64 ⌝ }
+    ensures { λ r. ⌜ Seeded m (m .states) r ⌝ }
+{
+    let mut row = blank();
+    let mut q: usize = 0;
+    while q < m.states {
+        if machine::is_final(&m.marks, q) {
+            row[q] = 0;
+        }
+        q += 1;
+    }
+    row
+}
+
+// The row of emptying mode where x is the first letter of both the input and the buffer, from the row after it is read.
+pub fn emptying_layer(m: Machine, list: &[u16], x: u16, next: &[u16; 64]) -> [u16; 64]
+    requires { ⌜ wellFormed m (now list) ≡ true ⌝ }
+    ensures { λ r. ⌜ EmptyingLayer m (now (list .entry)) x (now (next .entry)) r ⌝ }
+{
+    let mut row = blank();
+    if x == 0 {
+        row::close(m, list, Mode::Emptying, &mut row);
+        return row;
+    }
+    row::pass(m, list, Mode::Emptying, x, next, &mut row);
+    row::close(m, list, Mode::Emptying, &mut row);
+    row
+}
+
+// The row of buffering mode where x is the first letter of the input (0: there is none), from the row after it is read and the row
+// after the mode is changed.
+pub fn buffering_layer(
+    m: Machine,
+    list: &[u16],
+    x: u16,
+    next: &[u16; 64],
+    emptied: &[u16; 64],
+) -> [u16; 64]
+    requires { ⌜ wellFormed m (now list) ≡ true ⌝ }
+    ensures { λ r. ⌜ BufferingLayer m (now (list .entry)) x (now (next .entry)) (now (emptied .entry)) r ⌝ }
+{
+    let mut row = blank();
+    row::change(m, 8, emptied, &mut row);
+    if x == 0 {
+        row::close(m, list, Mode::Buffering, &mut row);
+        return row;
+    }
+    row::pass(m, list, Mode::Buffering, x, next, &mut row);
+    row::close(m, list, Mode::Buffering, &mut row);
+    row
+}
+
+// One round over the rows of a place: the moves that read nothing, then the changes of mode. It says whether a change lowered
+// anything.
+fn round(
+    m: Machine,
+    list: &[u16],
+    normal: &mut [u16; 64],
+    buffering: &mut [u16; 64],
+    emptying: &mut [u16; 64],
+) -> bool
+    requires { ⌜ wellFormed m (now list) ≡ true ⌝ }
+    ensures { λ r. ⌜ Round m (now (list .entry)) (now (normal .entry)) (now (buffering .entry)) (now (emptying .entry)) (now (normal .exit)) (now (buffering .exit)) (now (emptying .exit)) r ⌝ }
+{
+    row::close(m, list, Mode::Normal, normal);
+    row::close(m, list, Mode::Buffering, buffering);
+    row::close(m, list, Mode::Emptying, emptying);
+    let a = row::change(m, 4, &*buffering, normal);
+    let b = row::change(m, 8, &*emptying, buffering);
+    let c = row::change(m, 8, &*normal, emptying);
+    if a {
+        return true;
+    }
+    if b {
+        return true;
+    }
+    c
+}
+
+// Lowers the three rows of a place along the moves that read nothing until none of them would lower a number.
+fn close_place(
+    m: Machine,
+    list: &[u16],
+    normal: &mut [u16; 64],
+    buffering: &mut [u16; 64],
+    emptying: &mut [u16; 64],
+)
+    requires { ⌜ wellFormed m (now list) ≡ true ⌝ }
+    ensures { λ r. ⌜ ClosedPlace m (now (list .entry)) (now (normal .entry)) (now (buffering .entry)) (now (emptying .entry)) (now (normal .exit)) (now (buffering .exit)) (now (emptying .exit)) ⌝ }
+{
+    loop {
+        if !round(m, list, normal, buffering, emptying) {
+            return;
+        }
+    }
+}
+
+// The row that normal mode starts from: 0 at the final states where the word is read to its end, else none.
+fn first_row(m: Machine, last: bool) -> [u16; 64]
+    requires { ⌜ m .states ≤ 64 ⌝ }
+    ensures { λ r. ⌜ FirstRow m last r ⌝ }
+{
+    if last {
+        return seeds(m);
+    }
+    blank()
+}
+
+// The three rows of a place where x is the first letter of the input (0: there is none), from the rows after it is read. `last` says
+// that the word is read to its end.
+pub fn place_layer(
+    m: Machine,
+    list: &[u16],
+    last: bool,
+    x: u16,
+    onward: &[u16; 64],
+    storing: &[u16; 64],
+) -> Place
+    requires { ⌜ wellFormed m (now list) ≡ true ⌝ }
+    ensures { λ r. ⌜ PlaceLayer m (now (list .entry)) last x (now (onward .entry)) (now (storing .entry)) (r .normal) (r .buffering) (r .emptying) ⌝ }
+{
+    let mut normal = first_row(m, last);
+    let mut buffering = blank();
+    let mut emptying = blank();
+    if x == 0 {
+        close_place(m, list, &mut normal, &mut buffering, &mut emptying);
+        return Place {
+            normal,
+            buffering,
+            emptying,
+        };
+    }
+    row::pass(m, list, Mode::Normal, x, onward, &mut normal);
+    row::pass(m, list, Mode::Buffering, x, storing, &mut buffering);
+    close_place(m, list, &mut normal, &mut buffering, &mut emptying);
+    Place {
+        normal,
+        buffering,
+        emptying,
+    }
+}

@@ -1,0 +1,3 @@
+pub mod FaultCases
+pub mod JoinCases
+pub mod WriteCases

@@ -1,0 +1,30 @@
+use mathlib.Core.Path.{_≡_, refl, sym, ap, _∙_}
+use mathlib.Core.Bool.{Bool, not}
+use Rattle.graphs.specs.Search.Loops.{pass, stop}
+use borrow.Author.Needs.{needs}
+use Rattle.product.proofs.fault.plain_state.Statement.{statement}
+use Rattle.product.proofs.fault.plain_state.Tie as tie
+use Rattle.product.proofs.fault.plain_state.Reads as reads
+use Rattle.product.proofs.fault.plain_state.Lts as lts
+use Rattle.fsbm.proofs.machine.is_buffering.Reads as is-buffering-reads
+use Rattle.fsbm.proofs.machine.is_matching.Reads as is-matching-reads
+
+-- src/fault.rt:15:8
+is-buffering-requires : tie.Need-is-buffering-requires
+is-buffering-requires c κs = search needs
+
+-- src/fault.rt:16:9
+returns : tie.Need-returns
+returns c = stop _ (ap not (sym (c .before .is-buffering .ensures) ∙ (c .if1 .taken)))
+
+-- src/fault.rt:18:6
+is-matching-requires : tie.Need-is-matching-requires
+is-matching-requires c κs = search needs
+
+-- src/fault.rt:12:1
+returns-2 : tie.Need-returns-2
+returns-2 c = pass (ap not (sym (c .before .before .is-buffering .ensures) ∙ (c .before .if1 .left))) (ap not (c .is-matching .ensures))
+
+pub plain-state-spec : {M : Type 1} → statement M
+plain-state-spec =
+    tie.close (tie.spec is-buffering-requires returns is-matching-requires returns-2)

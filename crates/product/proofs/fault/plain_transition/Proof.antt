@@ -1,0 +1,22 @@
+use Prim.Native.Nat.{ℕ}
+use mathlib.Core.Path.{_≡_, refl, sym, ap, _∙_}
+use mathlib.Core.Bool.{Bool, not}
+use lib.Dec.{eqb}
+use Rattle.fsbm.specs.declared.machine.Transition.{Transition}
+use borrow.Author.Needs.{needs}
+use Rattle.product.proofs.fault.plain_transition.Statement.{statement}
+use Rattle.product.proofs.fault.plain_transition.Tie as tie
+use Rattle.product.proofs.fault.plain_transition.Reads as reads
+use Rattle.product.proofs.fault.plain_transition.Lts as lts
+use Rattle.fsbm.proofs.machine.transition_at.Reads as transition-at-reads
+
+-- src/fault.rt:38:9
+transition-at-requires : tie.Need-transition-at-requires
+transition-at-requires c κs = search needs
+
+-- src/fault.rt:35:1
+returns : tie.Need-returns
+returns c = ap (λ (z : Transition). not (eqb (z .letter) 0)) (c .before .transition-at .ensures)
+
+pub plain-transition-spec : {M : Type 1} → statement M
+plain-transition-spec = tie.close (tie.spec transition-at-requires returns)

@@ -1,0 +1,14 @@
+use mathlib.Core.Path.{refl}
+use Rattle.product.specs.Each.{zerosOf}
+use Rattle.product.proofs.marks.zeros.Statement.{statement}
+use Rattle.product.proofs.marks.zeros.Tie as tie
+use Rattle.product.proofs.marks.zeros.Reads as reads
+use Rattle.product.proofs.marks.zeros.Lts as lts
+
+-- src/marks.rt:54:1
+returns : tie.Need-returns
+unfolding zerosOf
+returns c = refl
+
+pub zeros-spec : {M : Type 1} → statement M
+zeros-spec = tie.close (tie.spec returns)

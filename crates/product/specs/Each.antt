@@ -1,0 +1,26 @@
+-- A list made of parts, one for each number of a range. Generic; the laws stand in specs/Each/Laws.antt.
+--
+-- each i n f          == f i, f (i + 1), .. , n parts in a row
+-- sumOver i n f       == f i + f (i + 1) + .. , n numbers
+-- zerosOf n           == n zeros
+-- put l k s           == the list l with s in the place of its elements from k on
+use Prim.Native.Nat.{ℕ, zero, suc, _+_}
+use mathlib.Core.List.{List, [], _++_}
+use lib.ListN.{length, take, drop, replicate}
+pub mod Laws
+pub mod Sums
+
+module _ {A : Type 0} where
+  unfoldable pub each : ℕ → ℕ → (ℕ → List A) → List A
+  each i zero f = []
+  each i (suc n) f = f i ++ each (suc i) n f
+
+  unfoldable pub put : List A → ℕ → List A → List A
+  put l k s = take k l ++ s ++ drop (k + length s) l
+
+unfoldable pub sumOver : ℕ → ℕ → (ℕ → ℕ) → ℕ
+sumOver i zero f = 0
+sumOver i (suc n) f = f i + sumOver (suc i) n f
+
+unfoldable pub zerosOf : ℕ → List ℕ
+zerosOf n = replicate n 0

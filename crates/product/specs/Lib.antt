@@ -1,0 +1,10 @@
+pub mod Common
+pub mod Count
+pub mod Each
+pub mod Examples
+pub mod Order
+pub mod Product
+pub mod Rise
+pub mod Steps
+pub mod Tables
+pub mod WellFormed

@@ -1,0 +1,200 @@
+-- What the rules of a table and the absence of refusals say, part by part, and the arithmetic of pairs.
+--
+-- order t                 == transition t by from, letter and to, as one number
+-- Table m list            == what the laws use of wellFormed
+-- table                   == wellFormed says it
+-- Joinable ..             == what the laws use of joinFault ≡ 0
+-- joinable                == joinFault ≡ 0 says it
+-- pair-below, pair-before, pair-same == the number of a pair: below the product of the state counts, rising, its parts
+use Prim.Native.Nat.{ℕ, zero, suc, _+_, _*_, _-_, _/_, _%_, _≤_, _<_}
+use mathlib.Core.Path.{_≡_, refl, sym, ap, _∙_}
+use mathlib.Core.Logic.{_⊎_, inl, inr}
+use mathlib.Core.Bool.{Bool, true, false, cond, not, _&&_, _||_, false≢true}
+use mathlib.Core.List.{List}
+use native.Mathlib.Omega.{arith}
+use native.Mathlib.Numerals.{sub-one}
+use native.Mathlib.Decide.{ℕ-discrete}
+use native.Mathlib.Nat.{mul-le-mul-right, suc-mul, mul-add-div-right, div-eq-of-lt}
+use lib.ListN.{length}
+use lib.Dec.{leb, ltb, eqb, eqb·suc-zero}
+use borrow.Author.Tests.{leb-true, ltb-true, eqb-true, eqb-false, not-true}
+use Rattle.graphs.specs.Search.{allBelow}
+use Rattle.graphs.specs.Search.Laws.{and-true, true-or-false, allBelow-true}
+use Rattle.fsbm.specs.Machine.{maxStates, maxLetters, maxTransitions, buffering, matching, transitionAt, goodMark, named, precedes, goodTransition, wellFormed}
+use Rattle.fsbm.specs.declared.machine.Machine.{Machine}
+use Rattle.fsbm.specs.declared.machine.Transition.{Transition}
+use Rattle.language.specs.Bools.{cond-elim}
+use Rattle.product.specs.Product.{plainState, plainTransition, plain, joinedCount, joinFault}
+
+abbrev pub order : Transition → ℕ
+order t = (t .from * 256 + t .letter) * 64 + t .to
+
+pub record Table (m : Machine) (list : List ℕ) : Type 0 where
+  pub some-state : 1 ≤ m .states
+  pub states-fit : m .states ≤ 64
+  pub letters-fit : m .letters ≤ 250
+  pub transitions-fit : m .transitions ≤ 4000
+  pub listed : m .transitions * 3 ≤ length list
+  pub marks-good : (q : ℕ) → q < 64 → goodMark m q ≡ true
+  pub from-below : (k : ℕ) → k < m .transitions → transitionAt list k .from < m .states
+  pub letter-below : (k : ℕ) → k < m .transitions → transitionAt list k .letter ≤ m .letters
+  pub to-below : (k : ℕ) → k < m .transitions → transitionAt list k .to < m .states
+  pub rising : (i k : ℕ) → i < k → k < m .transitions → order (transitionAt list i) < order (transitionAt list k)
+
+-- Rise
+
+precedes-order : (s t : Transition) → s .letter < 256 → s .to < 64 → precedes s t ≡ true → order s < order t
+precedes-order s t ls ts =
+    cond-elim Rises (eqb (s .from) (t .from)) _ (ltb (s .from) (t .from))
+    (λ e. cond-elim Rises (eqb (s .letter) (t .letter)) (ltb (s .to) (t .to)) (ltb (s .letter) (t .letter))
+    (λ f h. let a = eqb-true (s .from) (t .from) e in let b = eqb-true (s .letter) (t .letter) f in let l = ltb-true (s .to) (t .to) h in omega arith)
+    (λ f h. let a = eqb-true (s .from) (t .from) e in let l = ltb-true (s .letter) (t .letter) h in omega arith))
+    (λ e h. let l = ltb-true (s .from) (t .from) h in omega arith)
+  where
+    Rises : Bool → Type 0
+    Rises b = b ≡ true → order s < order t
+
+record Named (m : Machine) (t : Transition) : Type 0 where
+  from : t .from < m .states
+  letter : t .letter ≤ m .letters
+  to : t .to < m .states
+
+named-says : (m : Machine) (t : Transition) → named (m .states) (m .letters) t ≡ true → Named m t
+named-says m t n =
+    let (from, rest) = and-true (ltb (t .from) (m .states)) (leb (t .letter) (m .letters) && ltb (t .to) (m .states)) n in
+    let (letter, to) = and-true (leb (t .letter) (m .letters)) (ltb (t .to) (m .states)) rest in
+    record { from = ltb-true (t .from) (m .states) from; letter = leb-true (t .letter) (m .letters) letter; to = ltb-true (t .to) (m .states) to }
+
+module _ (m : Machine) (list : List ℕ) (few-states : m .states ≤ 64) (few-letters : m .letters ≤ 250)
+    (each-good : (k : ℕ) → k < m .transitions → goodTransition (m .states) (m .letters) list k ≡ true) where
+  good-named : (k : ℕ) → k < m .transitions → Named m (transitionAt list k)
+  good-named k lt =
+      named-says m (transitionAt list k)
+      (and-true (named (m .states) (m .letters) (transitionAt list k)) (eqb k 0 || precedes (transitionAt list (k - 1)) (transitionAt list k)) (each-good k lt) .0)
+
+  good-next : (k : ℕ) → suc k < m .transitions → order (transitionAt list k) < order (transitionAt list (suc k))
+  good-next k lt =
+      let here = good-named k (omega arith) in
+      let next = and-true (named (m .states) (m .letters) (transitionAt list (suc k))) (eqb (suc k) 0 || precedes (transitionAt list (suc k - 1)) (transitionAt list (suc k))) (each-good (suc k) lt) .1 in
+      precedes-order (transitionAt list k) (transitionAt list (suc k)) (omega (arith, here .letter)) (omega (arith, here .to)) (rw (eqb·suc-zero, sub-one) at next)
+
+  good-rising : (i k : ℕ) → i < k → k < m .transitions → order (transitionAt list i) < order (transitionAt list k)
+  good-rising i zero h lt = absurd (omega arith)
+  good-rising i (suc k) h lt = at (ℕ-discrete i k) (good-rising i k) (good-next k lt)
+    where
+      at : Dec (i ≡ k) → (i < k → k < m .transitions → order (transitionAt list i) < order (transitionAt list k))
+          → order (transitionAt list k) < order (transitionAt list (suc k)) → order (transitionAt list i) < order (transitionAt list (suc k))
+      at (yes e) before next = rw e next
+      at (no d) before next = let b = before (omega arith) (omega arith) in omega arith
+
+pub table : (m : Machine) (list : List ℕ) → wellFormed m list ≡ true → Table m list
+unfolding wellFormed
+table m list h =
+    let good = goodTransition (m .states) (m .letters) list in
+    let all = allBelow maxStates (goodMark m) && allBelow (m .transitions) good in
+    let enough = leb (m .transitions * 3) (length list) in
+    let few = leb (m .transitions) maxTransitions in
+    let letters = leb (m .letters) maxLetters in
+    let (a, r₁) = and-true (leb 1 (m .states)) (leb (m .states) maxStates && (letters && (few && (enough && all)))) h in
+    let (b, r₂) = and-true (leb (m .states) maxStates) (letters && (few && (enough && all))) r₁ in
+    let (c, r₃) = and-true letters (few && (enough && all)) r₂ in
+    let (d, r₄) = and-true few (enough && all) r₃ in
+    let (e, r₅) = and-true enough all r₄ in
+    let (marks, moves) = and-true (allBelow maxStates (goodMark m)) (allBelow (m .transitions) good) r₅ in
+    let sb = leb-true (m .states) maxStates b in
+    let sl = leb-true (m .letters) maxLetters c in
+    let each = allBelow-true good (m .transitions) .0 moves in
+    record {
+      some-state = leb-true 1 (m .states) a;
+      states-fit = sb;
+      letters-fit = sl;
+      transitions-fit = leb-true (m .transitions) maxTransitions d;
+      listed = leb-true (m .transitions * 3) (length list) e;
+      marks-good = allBelow-true (goodMark m) maxStates .0 marks;
+      from-below = λ k lt. good-named m list sb sl each k lt .from;
+      letter-below = λ k lt. good-named m list sb sl each k lt .letter;
+      to-below = λ k lt. good-named m list sb sl each k lt .to;
+      rising = good-rising m list sb sl each;
+    }
+
+-- No refusal
+
+pub record Joinable (m₁ : Machine) (l₁ : List ℕ) (m₂ : Machine) (l₂ : List ℕ) : Type 0 where
+  pub good₁ : wellFormed m₁ l₁ ≡ true
+  pub good₂ : wellFormed m₂ l₂ ≡ true
+  pub first : Table m₁ l₁
+  pub second : Table m₂ l₂
+  pub not-buffering : (q : ℕ) → q < m₂ .states → buffering (m₂ .marks) q ≡ false
+  pub not-matching : (q : ℕ) → q < m₂ .states → matching (m₂ .marks) q ≡ false
+  pub not-epsilon : (k : ℕ) → k < m₂ .transitions → transitionAt l₂ k .letter ≡ 0 → ⊥
+  pub same-letters : m₁ .letters ≡ m₂ .letters
+  pub few-states : m₁ .states * m₂ .states ≤ 64
+  pub few-transitions : joinedCount m₁ l₁ m₂ l₂ ≤ 4000
+
+module _ (m₁ : Machine) (l₁ : List ℕ) (m₂ : Machine) (l₂ : List ℕ) where
+  plain-says : plain m₂ l₂ ≡ true → ((q : ℕ) → q < m₂ .states → plainState (m₂ .marks) q ≡ true) × ((k : ℕ) → k < m₂ .transitions → plainTransition l₂ k ≡ true)
+  unfolding plain
+  plain-says h =
+      let (states, moves) = and-true (allBelow (m₂ .states) (plainState (m₂ .marks))) (allBelow (m₂ .transitions) (plainTransition l₂)) h in
+      (allBelow-true (plainState (m₂ .marks)) (m₂ .states) .0 states, allBelow-true (plainTransition l₂) (m₂ .transitions) .0 moves)
+
+  pub joinable : joinFault m₁ l₁ m₂ l₂ ≡ 0 → Joinable m₁ l₁ m₂ l₂
+  unfolding joinFault
+  joinable =
+      cond-elim Fine (wellFormed m₁ l₁) _ 16
+      (λ a. cond-elim Fine (wellFormed m₂ l₂) _ 16
+      (λ b. cond-elim Fine (plain m₂ l₂) _ 10
+      (λ c. cond-elim Fine (eqb (m₁ .letters) (m₂ .letters)) _ 11
+      (λ d. cond-elim Fine (leb (m₁ .states * m₂ .states) maxStates) _ 12
+      (λ e. cond-elim Fine (leb (joinedCount m₁ l₁ m₂ l₂) maxTransitions) 0 13
+      (λ f z. fine a b c (eqb-true (m₁ .letters) (m₂ .letters) d) (leb-true (m₁ .states * m₂ .states) maxStates e) (leb-true (joinedCount m₁ l₁ m₂ l₂) maxTransitions f))
+      (λ f (z : _≡_ {A = ℕ} 13 0). absurd (omega arith)))
+      (λ f (z : _≡_ {A = ℕ} 12 0). absurd (omega arith)))
+      (λ f (z : _≡_ {A = ℕ} 11 0). absurd (omega arith)))
+      (λ f (z : _≡_ {A = ℕ} 10 0). absurd (omega arith)))
+      (λ f (z : _≡_ {A = ℕ} 16 0). absurd (omega arith)))
+      (λ f (z : _≡_ {A = ℕ} 16 0). absurd (omega arith))
+    where
+      Fine : ℕ → Type 0
+      Fine z = z ≡ 0 → Joinable m₁ l₁ m₂ l₂
+
+      fine : wellFormed m₁ l₁ ≡ true → wellFormed m₂ l₂ ≡ true → plain m₂ l₂ ≡ true → m₁ .letters ≡ m₂ .letters → m₁ .states * m₂ .states ≤ 64 → joinedCount m₁ l₁ m₂ l₂ ≤ 4000
+          → Joinable m₁ l₁ m₂ l₂
+      fine a b c d e f =
+          let (states, moves) = plain-says c in
+          record {
+            good₁ = a;
+            good₂ = b;
+            first = table m₁ l₁ a;
+            second = table m₂ l₂ b;
+            not-buffering = λ q lt. not-true (buffering (m₂ .marks) q) (and-true (not (buffering (m₂ .marks) q)) (not (matching (m₂ .marks) q)) (states q lt) .0);
+            not-matching = λ q lt. not-true (matching (m₂ .marks) q) (and-true (not (buffering (m₂ .marks) q)) (not (matching (m₂ .marks) q)) (states q lt) .1);
+            not-epsilon = λ k lt. eqb-false (transitionAt l₂ k .letter) 0 (not-true (eqb (transitionAt l₂ k .letter) 0) (moves k lt));
+            same-letters = d;
+            few-states = e;
+            few-transitions = f;
+          }
+
+-- Pairs
+
+pub pair-before : (n p r q s : ℕ) → p < q → r < n → p * n + r < q * n + s
+pair-before n p r q s lt lr =
+    let rows = mul-le-mul-right n lt in
+    let row = suc-mul p n in
+    omega arith
+
+pub pair-below : (a n p r : ℕ) → p < a → r < n → p * n + r < a * n
+pair-below a n p r lt lr =
+    let rows = mul-le-mul-right n lt in
+    let row = suc-mul p n in
+    omega arith
+
+pub pair-same : (n p r q s : ℕ) → r < n → s < n → p * n + r ≡ q * n + s → (p ≡ q) × (r ≡ s)
+pair-same n p r q s lr ls e =
+    let pos : 0 < n = omega arith in
+    let quotients = sym (mul-add-div-right pos p r) ∙ ap (λ (z : ℕ). z / n) e ∙ mul-add-div-right pos q s in
+    let dr = div-eq-of-lt lr in
+    let ds = div-eq-of-lt ls in
+    let same : p ≡ q = omega arith in
+    let rows = ap (λ (z : ℕ). z * n) same in
+    (same, omega arith)

@@ -1,0 +1,2 @@
+pub mod TableCases
+pub mod WalkCases

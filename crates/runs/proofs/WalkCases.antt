@@ -1,0 +1,208 @@
+-- The ways through the functions of src/walk.rt.
+--
+-- leads-next, leads-not, leads-said == leads: the tables are ready for the next configuration; its returns
+-- scan-found, scan-more, scan-none == the loop of scan
+-- entry-found, entry-change        == the returns of entry
+-- refresh-kept .. refresh-normal   == the returns of refresh
+-- start-begin, start-skip, start-first, start-less, start-more == the loop of start
+use Prim.Native.Nat.{ℕ, zero, suc, _+_, _-_, _*_, _≤_, _<_}
+use mathlib.Core.Path.{_≡_, refl, sym, ap, _∙_, subst}
+use mathlib.Core.Logic.{_⊎_, inl, inr}
+use mathlib.Core.Bool.{Bool, true, false, false≢true}
+use mathlib.Core.List.{List, [], _∷_}
+use native.Mathlib.Omega.{arith}
+use native.Mathlib.Decide.{ℕ-discrete, decLt}
+use native.Mathlib.Numerals.{add-one}
+use lib.ListN.{length}
+use lib.Seq.{slice}
+use lib.Dec.{eqb}
+use borrow.Author.Tests.{eqb-true, eqb-false}
+use Rattle.graphs.specs.Search.Laws.{not-both}
+use Rattle.fsbm.specs.Machine.{wellFormed, initial, transitionAt}
+use Rattle.fsbm.specs.Moves.{wellPlaced, move, beginBuffering, beginEmptying, backToNormal}
+use Rattle.fsbm.specs.Published.{Configuration}
+use Rattle.fsbm.specs.declared.machine.Machine.{Machine}
+use Rattle.fsbm.specs.declared.machine.Transition.{Transition}
+use Rattle.fsbm.specs.declared.config.Config.{Config}
+use Rattle.fsbm.specs.declared.config.Move.{Move}
+use Rattle.fsbm.specs.declared.config.Mode.{Mode}
+use Rattle.fsbm.specs.declared.config.Mode.the-variants.{Normal, Buffering, Emptying}
+use Rattle.language.specs.Rules.{placed}
+use Rattle.language.specs.Agreement.{published, move-placed}
+use Rattle.layers.specs.Costs.{none, at, Best}
+use Rattle.runs.specs.Tables.{rowAt, PlaceRows, EmptyRow, BufferRow, EmptyingRows, BufferingRows, Sized}
+use Rattle.runs.specs.Walk.{endOf, Second, Ready, changeEntry, Tried, Scanned, Entered, Fresh, Refreshed, Started}
+use Rattle.runs.specs.Walk.Laws.{move-from, ready-step, change-must, Walking, walk-fresh}
+
+pub best-at : {m : Machine} {list : List ℕ} {C : Configuration} (d e : ℕ) → e ≡ d → Best m list C d → Best m list C e
+best-at {m} {list} {C} d e z best = subst (Best m list C) (sym z) best
+
+module _ (m : Machine) (list w : List ℕ) (c : Config) (k : ℕ) (v : Move) (is : v ≡ move m list w c k) where
+  pub leads-next : (t emptied stored : List (List ℕ)) → wellFormed m list ≡ true → wellPlaced (m .states) (length w) c ≡ true → Ready m list w t emptied stored c → k < m .transitions → v .allowed ≡ true
+      → (wellPlaced (m .states) (length w) (v .config) ≡ true) × Ready m list w t emptied stored (v .config)
+  leads-next t emptied stored good p ready lt h =
+      let h′ : move m list w c k .allowed ≡ true = sym (ap (λ (z : Move). z .allowed) is) ∙ h in
+      let same : move m list w c k .config ≡ v .config = ap (λ (z : Move). z .config) (sym is) in (
+        subst (λ (x : Config). wellPlaced (m .states) (length w) x ≡ true) same (move-placed m list w good c k h′),
+        subst (Ready m list w t emptied stored) same (ready-step m list w t emptied stored c k lt ready (placed m w c p) h′),
+      )
+
+  pub leads-not : (d : ℕ) → v .allowed ≡ false → Tried m list w c d k false
+  leads-not d f = record { good = λ z. absurd (false≢true z); bad = λ z h. absurd (not-both h (sym (ap (λ (z : Move). z .allowed) is) ∙ f)) }
+
+  pub leads-said : (d g : ℕ) → v .allowed ≡ true → Best m list (published w (v .config)) g → Tried m list w c d k (eqb g d)
+  leads-said d g h best =
+      let h′ : move m list w c k .allowed ≡ true = sym (ap (λ (z : Move). z .allowed) is) ∙ h in
+      let best′ : Best m list (published w (move m list w c k .config)) g = subst (λ (x : Config). Best m list (published w x) g) (ap (λ (z : Move). z .config) is) best in
+      record {
+        good = λ z. (h′, subst (Best m list (published w (move m list w c k .config))) (eqb-true g d z) best′);
+        bad = λ z a. (g, best′, eqb-false g d z);
+      }
+
+pub leads-elsewhere : (m : Machine) (list w : List ℕ) (c : Config) (d k : ℕ) → k < m .transitions → (s : Transition) → s ≡ transitionAt list k → (s .from ≡ c .state → ⊥) → Tried m list w c d k false
+leads-elsewhere m list w c d k lt s is other =
+    record { good = λ z. absurd (false≢true z); bad = λ z h. absurd (other (ap (λ (x : Transition). x .from) is ∙ move-from m list w c k lt h)) }
+
+-- no transition below k leads there
+pub Passed : Machine → List ℕ → List ℕ → Config → ℕ → ℕ → Type 0
+Passed m list w c d k = (j : ℕ) → j < k → move m list w c j .allowed ≡ true → (g : ℕ) × Best m list (published w (move m list w c j .config)) g × (g ≡ d → ⊥)
+
+module _ (m : Machine) (list w : List ℕ) (c : Config) (d : ℕ) where
+  pub scan-start : Passed m list w c d 0
+  unfolding Passed
+  scan-start j l = absurd (omega arith)
+
+  pub scan-found : (k : ℕ) (b : Bool) → k < m .transitions → Passed m list w c d k → Tried m list w c d k b → b ≡ true → Scanned m list w c d k
+  unfolding Passed
+  scan-found k b lt f t h = record { within = omega arith; found = λ l. t .good h; before = f }
+
+  pub scan-more : (k : ℕ) (b : Bool) → Passed m list w c d k → Tried m list w c d k b → b ≡ false → Passed m list w c d (k + 1)
+  unfolding Passed
+  scan-more k b f t h j l a = on (ℕ-discrete j k) a
+    where
+      on : Dec (j ≡ k) → move m list w c j .allowed ≡ true → (g : ℕ) × Best m list (published w (move m list w c j .config)) g × (g ≡ d → ⊥)
+      on (yes z) = subst (λ (i : ℕ). move m list w c i .allowed ≡ true → (g : ℕ) × Best m list (published w (move m list w c i .config)) g × (g ≡ d → ⊥)) (sym z) (t .bad h)
+      on (no z) = f j (omega arith)
+
+  pub scan-none : (k : ℕ) → k ≤ m .transitions → m .transitions ≤ k → Passed m list w c d k → Scanned m list w c d k
+  unfolding Passed
+  scan-none k a b f = record { within = a; found = λ (l : k < m .transitions). absurd (omega arith); before = f }
+
+  pub entry-found : (k : ℕ) → Scanned m list w c d k → k < m .transitions → Entered m list w c d k
+  entry-found k s l = let f = s .found l in record { allowed = f .0; best = f .1 }
+
+  pub entry-change : (k : ℕ) → Scanned m list w c d k → m .transitions ≤ k → wellFormed m list ≡ true → wellPlaced (m .states) (length w) c ≡ true → Best m list (published w c) (d + 1) → d + 1 < none
+      → (e : ℕ) → e ≡ changeEntry (c .mode) → Entered m list w c d e
+  entry-change k s ge good p best small e is =
+      let z = add-one d in
+      subst (Entered m list w c d) (sym is) (change-must m list w good c p d (rw add-one at best) (omega arith) (λ j l. s .before j (omega arith)))
+
+-- Refreshed tables
+
+module _ (m : Machine) (list w : List ℕ) (t emptied stored : List (List ℕ)) (c : Config) (e : ℕ) (f : Fresh m list w t emptied stored c e) where
+  pub refresh-kept : e < beginBuffering → Refreshed m list w t emptied emptied stored stored c
+  refresh-kept l = record { emptied-size = refl; stored-size = refl; ready = f .kept l }
+
+  pub refresh-buffering : (emptied′ stored′ : List (List ℕ)) (row : List ℕ) → e ≡ beginBuffering → BufferingRows m list w (c .start) stored stored′ emptied emptied′ row
+      → Refreshed m list w t emptied emptied′ stored stored′ c
+  refresh-buffering emptied′ stored′ row z g =
+      let mode = f .storing z in
+      record {
+        emptied-size = g .other-size;
+        stored-size = g .size;
+        ready = record {
+          places = f .places;
+          sized = record { places = f .sized .places; emptied-rows = omega (arith, f .sized .emptied-rows, g .other-size); stored-rows = omega (arith, f .sized .stored-rows, g .size) };
+          storing = λ b d pos le. g .each d pos le;
+          matching = λ b. let d : _≡_ {A = ℕ} 0 1 = cc in absurd (omega arith);
+        };
+      }
+
+  pub refresh-end : e ≡ beginBuffering → length w ≤ c .start → Refreshed m list w t emptied emptied stored stored c
+  refresh-end z past =
+      let mode = f .storing z in
+      record {
+        emptied-size = refl;
+        stored-size = refl;
+        ready = record {
+          places = f .places;
+          sized = f .sized;
+          storing = λ b d (pos : 0 < d) (le : c .start + d + d ≤ length w). absurd (omega arith);
+          matching = λ b. let d : _≡_ {A = ℕ} 0 1 = cc in absurd (omega arith);
+        };
+      }
+
+  pub refresh-emptying : (emptied′ : List (List ℕ)) → e ≡ beginEmptying → EmptyingRows m list w (endOf c) (c .end - c .start) emptied emptied′ → Refreshed m list w t emptied emptied′ stored stored c
+  refresh-emptying emptied′ z g =
+      let (mode, inside, equal) = f .matching z in
+      record {
+        emptied-size = g .size;
+        stored-size = refl;
+        ready = record {
+          places = f .places;
+          sized = record { places = f .sized .places; emptied-rows = omega (arith, f .sized .emptied-rows, g .size); stored-rows = f .sized .stored-rows };
+          storing = λ b. let d : _≡_ {A = ℕ} 0 1 = cc in absurd (omega arith);
+          matching = λ b. record { inside = inside; equal = equal; rows = g .each };
+        };
+      }
+
+  pub refresh-normal : e ≡ backToNormal → Refreshed m list w t emptied emptied stored stored c
+  refresh-normal z =
+      let mode = f .normal z in
+      record {
+        emptied-size = refl;
+        stored-size = refl;
+        ready = record {
+          places = f .places;
+          sized = f .sized;
+          storing = λ b. let d : _≡_ {A = ℕ} 0 1 = cc in absurd (omega arith);
+          matching = λ b. let d : _≡_ {A = ℕ} 0 1 = cc in absurd (omega arith);
+        };
+      }
+
+-- The start state
+
+module _ (m : Machine) (row : List ℕ) where
+  pub start-begin : Started m row 0 (m .states)
+  start-begin = record { is-initial = λ (l : m .states < m .states). absurd (omega arith); least = λ (p : ℕ) (l : p < 0). absurd (omega arith) }
+
+  module _ (k b : ℕ) (s : Started m row k b) where
+    pub start-skip : (i : Bool) → i ≡ initial (m .marks) k → i ≡ false → Started m row (k + 1) b
+    start-skip i is f = record { is-initial = s .is-initial; least = λ p l h. on p l h (ℕ-discrete p k) }
+      where
+        on : (p : ℕ) → p < k + 1 → initial (m .marks) p ≡ true → Dec (p ≡ k) → (b < m .states) × (at row b ≤ at row p)
+        on p l h (yes z) = absurd (not-both (subst (λ (n : ℕ). initial (m .marks) n ≡ true) z h) (sym is ∙ f))
+        on p l h (no z) = s .least p (omega arith) h
+
+    -- state k is the first, or has less than b
+    pub start-takes : (i : Bool) → i ≡ initial (m .marks) k → i ≡ true → k < m .states → (b < m .states → at row k ≤ at row b) → Started m row (k + 1) k
+    start-takes i is t lt less = record { is-initial = λ l. sym is ∙ t; least = λ p l h. on p l h (ℕ-discrete p k) }
+      where
+        on : (p : ℕ) → p < k + 1 → initial (m .marks) p ≡ true → Dec (p ≡ k) → (k < m .states) × (at row k ≤ at row p)
+        on p l h (yes z) = let e : at row p ≡ at row k = ap (at row) z in (lt, omega arith)
+        on p l h (no z) = let g = s .least p (omega arith) h in (lt, omega (arith, less (g .0), g .1))
+
+    pub start-keeps : b < m .states → at row b ≤ at row k → Started m row (k + 1) b
+    start-keeps lt le = record { is-initial = s .is-initial; least = λ p l h. on p l h (ℕ-discrete p k) }
+      where
+        on : (p : ℕ) → p < k + 1 → initial (m .marks) p ≡ true → Dec (p ≡ k) → (b < m .states) × (at row b ≤ at row p)
+        on p l h (yes z) = let e : at row p ≡ at row k = ap (at row) z in (lt, omega arith)
+        on p l h (no z) = s .least p (omega arith) h
+
+  pub start-end : (k b : ℕ) → m .states ≤ k → Started m row k b → Started m row (m .states) b
+  start-end k b ge s = record { is-initial = s .is-initial; least = λ p l h. s .least p (omega arith) h }
+
+-- The walk
+
+back-one : (d : ℕ) → 0 < d → d ≡ d - 1 + 1
+back-one d pos = omega arith
+
+pub walk-entry : (m : Machine) (list w : List ℕ) (t emptied stored : List (List ℕ)) (run₀ run : List ℕ) (c : Config) (d k : ℕ) → 0 < d → Walking m list w t emptied stored run₀ run c d k
+    → Best m list (published w c) (d - 1 + 1) × (d - 1 + 1 < none)
+walk-entry m list w t emptied stored run₀ run c d k pos f = (subst (Best m list (published w c)) (back-one d pos) (f .best), omega (arith, f .small))
+
+pub walk-refresh : (m : Machine) (list w : List ℕ) → wellFormed m list ≡ true → (t emptied stored : List (List ℕ)) (run₀ run : List ℕ) (c : Config) (d k : ℕ) → Walking m list w t emptied stored run₀ run c d k
+    → {e : ℕ} → Entered m list w c (d - 1) e → (v : Move) → v ≡ move m list w c e → Fresh m list w t emptied stored (v .config) e
+walk-refresh m list w good t emptied stored run₀ run c d k f {e} entered v is =
+    subst (λ (x : Config). Fresh m list w t emptied stored x e) (ap (λ (z : Move). z .config) (sym is))
+    (walk-fresh m list w good t emptied stored c (d - 1) e (f .placed-there) (f .ready) (omega (arith, f .small)) entered)

@@ -1,0 +1,61 @@
+use borrow.Author.Needs.{needs}
+use Rattle.runs.proofs.table.put_place.Statement.{statement}
+use Rattle.runs.proofs.table.put_place.Tie as tie
+use Rattle.runs.proofs.table.put_place.Reads as reads
+use Rattle.runs.proofs.table.put_place.Lts as lts
+use Rattle.runs.proofs.table.save.Reads as save-reads
+
+-- src/table.rt:104:13
+mul-save : tie.Need-mul-save
+mul-save c = search needs
+
+-- src/table.rt:104:5
+save-requires : tie.Need-save-requires
+save-requires c κs = search needs
+
+-- src/table.rt:105:13
+mul-save-2 : tie.Need-mul-save-2
+mul-save-2 c = search needs
+
+-- src/table.rt:105:13
+add-save : tie.Need-add-save
+add-save c = search needs
+
+-- src/table.rt:105:5
+save-requires-2 : tie.Need-save-requires-2
+save-requires-2 c κs = search needs
+
+-- src/table.rt:106:13
+mul-save-3 : tie.Need-mul-save-3
+mul-save-3 c = search needs
+
+-- src/table.rt:106:13
+add-save-2 : tie.Need-add-save-2
+add-save-2 c = search needs
+
+-- src/table.rt:106:5
+save-requires-3 : tie.Need-save-requires-3
+save-requires-3 c κs = search needs
+
+-- src/table.rt:97:1
+same-length : tie.Need-same-length
+same-length c = search needs
+
+-- src/table.rt:97:1
+returns : tie.Need-returns
+returns c = cc ((c .before .before .before .before .before .before .before .save .ensures), (c .before .before .before .before .save2 .ensures), (c .before .save3 .ensures))
+
+pub put-place-spec : {M : Type 1} → statement M
+put-place-spec =
+    tie.close
+    (tie.spec
+    mul-save
+    save-requires
+    mul-save-2
+    add-save
+    save-requires-2
+    mul-save-3
+    add-save-2
+    save-requires-3
+    same-length
+    returns)

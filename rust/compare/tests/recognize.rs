@@ -1,0 +1,715 @@
+//! Recognition: the answer, the refusal and the whole run slice of each call are compared with the reference. Every run
+//! goes through the proved checker and through the reference's own.
+
+use compare::{break_a_rule, filled, random_machine, random_word, record_of, Rng};
+use reference::common::next_word;
+use reference::{folder, moves, published, shortest, Machine, Record};
+use zagvirk::recognize::{recognize, recognize_record, run_length, RecognizedRecord};
+
+/// What was compared.
+#[derive(Default)]
+struct Counts {
+    words: u64,
+    yes: u64,
+    with_copies: u64,
+    longer: u64,
+    not_first: u64,
+    most_entries: usize,
+    longest_word: usize,
+}
+
+impl Counts {
+    fn report(&self, name: &str) {
+        println!(
+            "recognize, {name}: {} words, {} accepted, {} of them with copies; \
+             longest accepted word {} letters, longest run {} entries; \
+             runs not shortest: {}, not the first of the shortest: {}",
+            self.words,
+            self.yes,
+            self.with_copies,
+            self.longest_word,
+            self.most_entries,
+            self.longer,
+            self.not_first
+        );
+    }
+}
+
+/// A machine ready for many words.
+struct Ready<'a> {
+    machine: &'a Machine,
+    record: Record,
+    list: Vec<u16>,
+    proved: zagvirk::Machine,
+}
+
+impl<'a> Ready<'a> {
+    fn new(machine: &'a Machine) -> Ready<'a> {
+        let (record, list) = machine.record();
+        let proved = record_of(&record);
+        Ready {
+            machine,
+            record,
+            list,
+            proved,
+        }
+    }
+
+    fn input(&self, word: &[u8]) -> String {
+        format!("{:?}\nword {word:?}", self.machine)
+    }
+
+    /// Compares the answer for a word that meets no refusal, with a run slice that has `more` elements than it needs.
+    /// Returns the answer.
+    fn word(&self, word: &[u8], more: usize, c: &mut Counts) -> bool {
+        let expected = shortest::find_run(self.machine, word);
+        let needed = 3 * self.record.states * (word.len() + 1);
+        assert_eq!(run_length(&self.proved, word.len()), needed);
+        let before = filled(needed + more);
+        let mut run = before.clone();
+        let kept = word.to_vec();
+        let found = recognize_record(&self.proved, &self.list, word, &mut run);
+        let answer = RecognizedRecord {
+            refusal: 0,
+            needed: 0,
+            accepted: u8::from(expected.is_some()),
+            entries: found.entries,
+        };
+        assert!(
+            found == answer,
+            "recognize differs\n{}\nreference {expected:?}\nproved {found:?}",
+            self.input(word)
+        );
+        assert!(kept == word, "the word changed");
+        c.words += 1;
+        let Some(first) = expected else {
+            assert!(
+                found.entries == 0 && run == before,
+                "no with a change\n{}",
+                self.input(word)
+            );
+            return false;
+        };
+        assert!(
+            found.entries <= needed,
+            "{} entries\n{}",
+            found.entries,
+            self.input(word)
+        );
+        let (front, rest) = run.split_at(found.entries);
+        assert!(
+            moves::accepting(self.machine, word, front),
+            "the run does not accept\n{}\nrun {front:?}",
+            self.input(word)
+        );
+        let checked = zagvirk::check_run(&self.proved, &self.list, word, front);
+        assert_eq!(checked, Ok(true), "{}\nrun {front:?}", self.input(word));
+        assert!(
+            *rest == before[found.entries..],
+            "the slice changed past the run\n{}",
+            self.input(word)
+        );
+        c.yes += 1;
+        c.with_copies += u64::from(front.contains(&reference::BEGIN_EMPTYING));
+        c.longer += u64::from(front.len() > first.len());
+        c.not_first += u64::from(front.len() == first.len() && front != first);
+        c.most_entries = c.most_entries.max(front.len());
+        c.longest_word = c.longest_word.max(word.len());
+        true
+    }
+
+    /// Compares every word of at most `longest` letters.
+    fn every_word(&self, longest: usize, c: &mut Counts) {
+        for length in 0..=longest {
+            if length > 0 && self.machine.letters == 0 {
+                return;
+            }
+            let mut word = vec![1; length];
+            loop {
+                self.word(&word, length % 3, c);
+                if !next_word(&mut word, self.machine.letters as u8) {
+                    break;
+                }
+            }
+        }
+    }
+}
+
+/// Compares a call that is refused. Returns the refusal and the length needed.
+fn refused(record: &Record, list: &[u16], word: &[u8], length: usize) -> (u8, usize) {
+    let kept = (list.to_vec(), word.to_vec());
+    let mut untouched = filled(length);
+    let refusal = published::recognize(record, list, word, &mut untouched).unwrap_err();
+    let expected = RecognizedRecord {
+        refusal: refusal.number,
+        needed: refusal.needed,
+        accepted: 0,
+        entries: 0,
+    };
+    let mut run = filled(length);
+    let proved = record_of(record);
+    let found = recognize_record(&proved, list, word, &mut run);
+    assert!(
+        found == expected && run == filled(length),
+        "recognize differs, run slice of {length} elements, the same after the call: {}\n{record:?}\n\
+         list {list:?}\nword {word:?}\nreference {expected:?}\nproved {found:?}",
+        run == filled(length)
+    );
+    assert!(kept.0 == list && kept.1 == word, "a slice changed");
+    let typed = recognize(&proved, list, word, &mut run).unwrap_err();
+    assert_eq!(
+        (typed.number(), typed.needed()),
+        (refusal.number, refusal.needed)
+    );
+    (refusal.number, refusal.needed)
+}
+
+/// All machines of `states` states over one letter.
+fn every_machine(states: usize, mut found: impl FnMut(&Machine)) {
+    let mut all = Vec::new();
+    for from in 0..states {
+        for letter in 0..2 {
+            for to in 0..states {
+                all.push((from, letter, to));
+            }
+        }
+    }
+    let good: Vec<u8> = (0..16).filter(|mark| mark & 12 != 12).collect();
+    for subset in 0..1usize << all.len() {
+        let chosen: Vec<_> = (0..all.len())
+            .filter(|bit| subset >> bit & 1 == 1)
+            .map(|bit| all[bit])
+            .collect();
+        for number in 0..good.len().pow(states as u32) {
+            let marks: Vec<u8> = (0..states as u32)
+                .map(|state| good[number / good.len().pow(state) % good.len()])
+                .collect();
+            found(&Machine::new(1, &marks, &chosen));
+        }
+    }
+}
+
+#[test]
+fn one_and_two_states() {
+    for states in [1, 2] {
+        let mut counts = Counts::default();
+        let mut machines = 0;
+        every_machine(states, |machine| {
+            Ready::new(machine).every_word(4, &mut counts);
+            machines += 1;
+        });
+        counts.report(&format!(
+            "all {machines} machines of {states} states over 1 letter, all words to 4 letters"
+        ));
+    }
+}
+
+#[test]
+fn random_machines_every_word() {
+    let mut rng = Rng::new(20_240_012);
+    let mut counts = Counts::default();
+    let machines = 24_000;
+    for number in 0..machines {
+        let letters = if number % 12 == 0 { 3 } else { 2 };
+        let machine = random_machine(&mut rng, 5, letters);
+        let ready = Ready::new(&machine);
+        ready.every_word(6, &mut counts);
+        // The definition itself on some words.
+        for _ in 0..3 {
+            let word = random_word(&mut rng, machine.letters, 6);
+            let brute = published::find_run(&machine, &word).is_some();
+            assert_eq!(ready.word(&word, 0, &mut counts), brute);
+        }
+    }
+    counts.report(&format!(
+        "{machines} random machines, all words to 6 letters"
+    ));
+    assert!(counts.with_copies > 10_000);
+}
+
+#[test]
+fn folders() {
+    let mut counts = Counts::default();
+    let mut machines = 0;
+    for folder in folder::all() {
+        let ready = Ready::new(&folder.machine);
+        for (word, expected) in &folder.words {
+            let answer = ready.word(word, 2, &mut counts);
+            assert_eq!(answer, *expected, "{} {word:?}", folder.name);
+        }
+        machines += 1;
+    }
+    counts.report(&format!("{machines} machines of data/machines"));
+}
+
+/// A machine of several parts one after another, the last one final. Each part is a copy zone or plain; a copy zone
+/// stores and matches in loops over some letters. Epsilon cycles and a few other transitions are put in.
+fn zones(rng: &mut Rng, states: usize, letters: usize) -> Machine {
+    let mut marks: Vec<u8> = Vec::new();
+    let mut transitions = Vec::new();
+    let mut last: Option<usize> = None;
+    while marks.len() + 4 <= states {
+        let begins = marks.len();
+        let copies = rng.below(4) > 0;
+        let ends;
+        if copies {
+            marks.extend([4, 0, 8]);
+            transitions.extend([(begins, 0, begins + 1), (begins + 1, 0, begins + 2)]);
+            ends = begins + 2;
+            if rng.once_in(3) {
+                // A second matching state, with an epsilon cycle between the two.
+                marks.push(8);
+                transitions.extend([(ends, 0, ends + 1), (ends + 1, 0, ends)]);
+                transitions.push((ends + 1, 1 + rng.below(letters), ends));
+            }
+        } else {
+            marks.extend([0, 0]);
+            transitions.extend([(begins, 0, begins + 1), (begins + 1, 0, begins)]);
+            ends = begins;
+        }
+        for letter in 1..=letters {
+            if rng.below(8) > 0 {
+                transitions.push((begins + 1, letter, begins + 1));
+            }
+            if rng.below(8) > 0 {
+                transitions.push((ends, letter, ends));
+            }
+        }
+        if let Some(last) = last {
+            let letter = rng.pick(&[0, 0, 1]);
+            transitions.push((last, letter, begins));
+            if rng.once_in(3) {
+                transitions.push((ends, 0, last));
+            }
+            if rng.once_in(4) {
+                // Back to the first part.
+                transitions.push((ends, 0, 0));
+            }
+        }
+        last = Some(ends);
+    }
+    let ends = last.expect("a part");
+    marks[0] |= 1;
+    marks[ends] |= 2;
+    while marks.len() < states {
+        marks.push(rng.pick(&[0, 1, 2, 8, 4]));
+    }
+    for _ in 0..rng.pick(&[0, 2, states]) {
+        transitions.push((rng.below(states), rng.below(letters + 1), rng.below(states)));
+    }
+    Machine::new(letters, &marks, &transitions)
+}
+
+/// A word of squares, near-squares and single letters.
+fn long_word(rng: &mut Rng, letters: usize, length: usize) -> Vec<u8> {
+    let mut word: Vec<u8> = Vec::new();
+    let few = 1 + rng.below(letters);
+    while word.len() < length {
+        let half = match rng.below(4) {
+            0 => rng.below(3),
+            1 => length / 2,
+            _ => 1 + rng.below(40),
+        };
+        let part: Vec<u8> = match rng.below(3) {
+            0 => vec![1 + rng.below(letters) as u8; half],
+            1 => {
+                let period = 1 + rng.below(4);
+                let piece: Vec<u8> = (0..period).map(|_| 1 + rng.below(few) as u8).collect();
+                (0..half).map(|i| piece[i % period]).collect()
+            }
+            _ => (0..half).map(|_| 1 + rng.below(few) as u8).collect(),
+        };
+        word.extend(&part);
+        let copied = word.len();
+        if rng.below(5) > 0 {
+            word.extend(&part);
+            if half > 0 && rng.once_in(6) {
+                // Not quite the same.
+                word[copied + rng.below(half)] = 1 + rng.below(letters) as u8;
+            }
+        }
+    }
+    word.truncate(length);
+    word
+}
+
+#[test]
+fn long_words() {
+    let mut rng = Rng::new(20_240_013);
+    let mut counts = Counts::default();
+    let machines = 36;
+    for number in 0..machines {
+        let states = [4, 7, 12, 30, 63, 64][number % 6];
+        let letters = 1 + rng.below(4);
+        let machine = zones(&mut rng, states, letters);
+        let ready = Ready::new(&machine);
+        for length in [rng.below(256), rng.below(120), 254, 255] {
+            let word = long_word(&mut rng, letters, length);
+            ready.word(&word, rng.below(3), &mut counts);
+        }
+    }
+    counts.report(&format!(
+        "{machines} machines of zones to 64 states, words to 255 letters"
+    ));
+    assert!(counts.with_copies > 50 && counts.longest_word == 255);
+}
+
+#[test]
+fn long_words_random_machines() {
+    let mut rng = Rng::new(20_240_014);
+    let mut counts = Counts::default();
+    let machines = 80;
+    for _ in 0..machines {
+        let states = 1 + rng.below(64);
+        let letters = rng.pick(&[1, 2, 3, 20, 250]);
+        let marks: Vec<u8> = (0..states)
+            .map(|_| rng.pick(&[0, 0, 4, 8, 8]) | rng.pick(&[0, 0, 1, 2]))
+            .collect();
+        let mut transitions = Vec::new();
+        for _ in 0..rng.pick(&[1, 2, 5]) * states * letters.min(12) {
+            let letter = if rng.once_in(6) {
+                0
+            } else {
+                rng.below(letters + 1)
+            };
+            transitions.push((rng.below(states), letter, rng.below(states)));
+        }
+        transitions.truncate(4000);
+        let machine = Machine::new(letters, &marks, &transitions);
+        let ready = Ready::new(&machine);
+        for longest in [12, 40, 100] {
+            let length = rng.below(longest);
+            let word = long_word(&mut rng, letters, length);
+            ready.word(&word, 1, &mut counts);
+        }
+    }
+    counts.report(&format!("{machines} random machines to 64 states"));
+}
+
+/// One letter, 64 states, 4,000 transitions, and doubled words repeated: the largest searches.
+#[test]
+fn largest() {
+    let mut counts = Counts::default();
+    let mut transitions = Vec::new();
+    for number in 0..4000 {
+        transitions.push((number % 64, usize::from(number >= 1000), number / 64));
+    }
+    for marks in [[5, 0, 10, 8], [1, 4, 8, 10], [5, 0, 8, 0]] {
+        let all: Vec<u8> = (0..64).map(|state| marks[state % 4]).collect();
+        let machine = Machine::new(1, &all, &transitions);
+        assert_eq!(machine.transitions.len(), 4000);
+        let ready = Ready::new(&machine);
+        for length in [0, 1, 30, 60] {
+            ready.word(&vec![1; length], 0, &mut counts);
+        }
+    }
+    // No epsilon moves and no way out: the search goes to the end.
+    let mut chain: Vec<(usize, usize, usize)> =
+        (0..63).map(|state| (state, 1, state + 1)).collect();
+    chain.push((63, 1, 0));
+    let marks: Vec<u8> = (0..64).map(|state| [5, 0, 8, 8][state % 4]).collect();
+    let machine = Machine::new(1, &marks, &chain);
+    Ready::new(&machine).word(&[1; 255], 0, &mut counts);
+    // Words of 255 letters that pass, and the counts of letters at their limit.
+    let machine = Machine::new(250, &[3], &[(0, 250, 0)]);
+    assert!(Ready::new(&machine).word(&[250; 255], 0, &mut counts));
+    let mut repeated = vec![(0, 0, 1), (1, 0, 2), (2, 0, 0)];
+    for letter in 1..3 {
+        repeated.extend([(1, letter, 1), (2, letter, 2)]);
+    }
+    let machine = Machine::new(2, &[5, 0, 10], &repeated);
+    let ready = Ready::new(&machine);
+    for length in [253, 254, 255] {
+        assert_eq!(
+            ready.word(&vec![1; length], 0, &mut counts),
+            length % 2 == 0
+        );
+        let alternate: Vec<u8> = (0..length).map(|i| 1 + (i % 2) as u8).collect();
+        ready.word(&alternate, 0, &mut counts);
+        let mut near = [alternate[..127].to_vec(), alternate[..127].to_vec()].concat();
+        near.truncate(length);
+        ready.word(&near, 0, &mut counts);
+        near[200] ^= 3;
+        ready.word(&near, 0, &mut counts);
+    }
+    counts.report("the largest machines and words");
+}
+
+#[test]
+fn refusals() {
+    let mut cases = 0;
+    let mut gives = |record: &Record, list: &[u16], word: &[u8], length, refusal| {
+        assert_eq!(refused(record, list, word, length), refusal);
+        cases += 1;
+    };
+    // Every slice too short, whatever the answer would be.
+    for folder in folder::all() {
+        let (record, list) = folder.machine.record();
+        for (word, _) in folder.words.iter().take(12).chain(folder.words.last()) {
+            let needed = 3 * record.states * (word.len() + 1);
+            for length in 0..needed {
+                gives(&record, &list, word, length, (17, needed));
+            }
+        }
+    }
+    let (record, list) = folder::load("table-t").machine.record();
+    for word in [&[1, 2, 1, 2], &[1, 2, 2, 1]] {
+        for length in 0..45 {
+            gives(&record, &list, word, length, (17, 45));
+        }
+    }
+    let (large, large_list) = Machine::new(1, &[3; 64], &[]).record();
+    for length in [0, 1, 49_151] {
+        gives(&large, &large_list, &[1; 255], length, (17, 49_152));
+    }
+    // 16, 9, 8, 17.
+    let mut broken = record.clone();
+    broken.marks[1] = 12;
+    for length in [0, 60_000] {
+        for word in [&[1; 256][..], &[0; 256], &[3; 1000], &[1; 1_048_577]] {
+            gives(&record, &list, word, length, (9, 0));
+            gives(&broken, &list, word, length, (16, 0));
+            gives(&record, &list[..17], word, length, (16, 0));
+        }
+        for bad in [0, 3, 255] {
+            for at in [0, 100, 254] {
+                let mut word = [1; 255];
+                word[at] = bad;
+                gives(&record, &list, &word, length, (8, 0));
+                gives(&broken, &list, &word, length, (16, 0));
+            }
+            gives(&record, &list, &[bad], length, (8, 0));
+        }
+    }
+    // No letters: every word but the empty one is refused.
+    let (none, none_list) = Machine::new(0, &[3], &[]).record();
+    for letter in 0..=255 {
+        gives(&none, &none_list, &[letter], 100, (8, 0));
+    }
+    gives(&none, &none_list, &[], 2, (17, 3));
+    // Machines that break a rule.
+    let mut rng = Rng::new(20_240_015);
+    let mut rules = 0;
+    for _ in 0..40_000 {
+        let machine = random_machine(&mut rng, 6, 3);
+        let (record, list) = break_a_rule(&mut rng, &machine);
+        let word = random_word(&mut rng, 4, 5);
+        if record.machine(&list).is_err() {
+            let length = rng.below(200);
+            gives(&record, &list, &word, length, (16, 0));
+            rules += 1;
+        }
+    }
+    println!("recognize, refusals: {cases} cases, {rules} of them machines that break a rule");
+}
+
+/// Rubbish in the list past the count is not looked at.
+#[test]
+fn rubbish_past_the_count() {
+    let mut counts = Counts::default();
+    for folder in folder::all() {
+        let mut ready = Ready::new(&folder.machine);
+        ready.list.extend([0, 0, 0, 65_535, 1, 1]);
+        for (word, expected) in folder.words.iter().take(20) {
+            assert_eq!(ready.word(word, 1, &mut counts), *expected);
+        }
+    }
+    counts.report("rubbish past the count");
+}
+
+/// The machine with its states renumbered: state q becomes state `to[q]`.
+fn renumbered(machine: &Machine, to: &[usize]) -> Machine {
+    let mut marks = vec![0; machine.states()];
+    for (state, &mark) in machine.marks.iter().enumerate() {
+        marks[to[state]] = mark;
+    }
+    let transitions: Vec<_> = machine
+        .transitions
+        .iter()
+        .map(|t| (to[t.from], t.letter, to[t.to]))
+        .collect();
+    Machine::new(machine.letters, &marks, &transitions)
+}
+
+/// The traps of document 01, "Where writers slip", each with the answers said here.
+#[test]
+fn where_writers_slip() {
+    let mut counts = Counts::default();
+    let mut answers = |machine: &Machine, answers: &[(&[u8], bool)]| {
+        let states = machine.states();
+        let turned: Vec<usize> = (0..states).rev().collect();
+        let shifted: Vec<usize> = (0..states).map(|state| (state + 1) % states).collect();
+        for to in [(0..states).collect(), turned, shifted] {
+            let other = renumbered(machine, &to);
+            for (word, expected) in answers {
+                let answer = Ready::new(&other).word(word, 1, &mut counts);
+                assert_eq!(answer, *expected, "{other:?} {word:?}");
+            }
+        }
+    };
+    // A normal run does not use a transition between two matching states.
+    let machine = Machine::new(1, &[1, 8, 10], &[(0, 1, 1), (1, 1, 2)]);
+    answers(
+        &machine,
+        &[
+            (&[], false),
+            (&[1], false),
+            (&[1, 1], false),
+            (&[1, 1, 1], false),
+        ],
+    );
+    let machine = Machine::new(2, &[1, 8, 0, 10], &[(0, 1, 1), (1, 2, 2), (2, 2, 3)]);
+    answers(
+        &machine,
+        &[(&[1, 2, 2], true), (&[1, 2], false), (&[1, 2, 1], false)],
+    );
+    let machine = Machine::new(1, &[9, 10], &[(0, 0, 1), (0, 1, 1), (1, 1, 1)]);
+    answers(&machine, &[(&[], false), (&[1], false), (&[1, 1], false)]);
+    // It does not leave a buffering state, and buffering mode does not enter one.
+    let machine = Machine::new(1, &[5, 2], &[(0, 0, 1), (0, 1, 1)]);
+    answers(&machine, &[(&[], false), (&[1], false)]);
+    let machine = Machine::new(1, &[1, 4, 2], &[(0, 1, 1), (1, 1, 2), (1, 0, 2)]);
+    answers(&machine, &[(&[1], false), (&[1, 1], false)]);
+    let machine = Machine::new(1, &[5, 4, 10], &[(0, 1, 1), (1, 0, 2), (2, 1, 2)]);
+    answers(&machine, &[(&[1, 1], false), (&[], false)]);
+    let machine = Machine::new(1, &[5, 10], &[(0, 1, 1), (0, 1, 0), (1, 1, 1)]);
+    answers(&machine, &[(&[1, 1], true), (&[1, 1, 1, 1], false)]);
+    // A buffering state can be entered in normal mode, and a final one ends a run there.
+    let machine = Machine::new(1, &[7], &[(0, 1, 0)]);
+    answers(&machine, &[(&[], true), (&[1], false)]);
+    let machine = Machine::new(1, &[1, 6], &[(0, 1, 1), (1, 1, 1)]);
+    answers(&machine, &[(&[1], true), (&[1, 1], false), (&[], false)]);
+    // The halves are equal, but the matching path must read them too.
+    let machine = Machine::new(2, &[5, 10], &[(0, 1, 1), (0, 2, 1)]);
+    answers(&machine, &[(&[1, 1], false), (&[2, 2], false)]);
+    let machine = Machine::new(2, &[5, 10], &[(0, 1, 1), (0, 2, 1), (1, 2, 1)]);
+    answers(
+        &machine,
+        &[(&[1, 1], false), (&[2, 2], true), (&[1, 2], false)],
+    );
+    let machine = Machine::new(
+        2,
+        &[5, 0, 8, 8, 10],
+        &[(0, 1, 1), (1, 2, 2), (2, 1, 3), (3, 1, 4), (3, 2, 4)],
+    );
+    answers(
+        &machine,
+        &[
+            (&[1, 2, 1, 2], true),
+            (&[1, 2, 1, 1], false),
+            (&[1, 2], false),
+        ],
+    );
+    // The matching path may have epsilon moves before, between and after the letters.
+    let machine = Machine::new(
+        2,
+        &[5, 8, 8, 8, 10],
+        &[(0, 1, 1), (1, 0, 2), (2, 1, 3), (3, 0, 4), (4, 0, 1)],
+    );
+    answers(
+        &machine,
+        &[(&[1, 1], true), (&[1], false), (&[1, 1, 1], false)],
+    );
+    // Buffering mode passes through matching states before it begins to empty.
+    let machine = Machine::new(
+        2,
+        &[5, 8, 0, 10],
+        &[(0, 1, 1), (1, 2, 2), (2, 1, 3), (3, 1, 3), (3, 2, 3)],
+    );
+    answers(
+        &machine,
+        &[
+            (&[1, 2, 1, 1, 2, 1], true),
+            (&[1, 2, 1], false),
+            (&[1, 1], false),
+        ],
+    );
+    // Several rounds of empty copies at one position.
+    for rounds in 1..=32 {
+        let marks: Vec<u8> = (0..2 * rounds)
+            .map(|state| {
+                let role = if state % 2 == 0 { 4 } else { 8 };
+                role | u8::from(state == 0) | if state == 2 * rounds - 1 { 2 } else { 0 }
+            })
+            .collect();
+        let path: Vec<_> = (1..2 * rounds).map(|state| (state - 1, 0, state)).collect();
+        let machine = Machine::new(1, &marks, &path);
+        answers(&machine, &[(&[], true), (&[1], false)]);
+        // The same behind a letter, and behind a copy that has letters.
+        let mut behind = path.clone();
+        behind.push((0, 1, 1));
+        behind.push((1, 1, 1));
+        let machine = Machine::new(1, &marks, &behind);
+        answers(&machine, &[(&[], true), (&[1, 1], true), (&[1], false)]);
+    }
+    // Empty copies and epsilon moves in turn, with a way that is no way out.
+    let machine = Machine::new(
+        1,
+        &[1, 4, 8, 0, 4, 8, 0, 2],
+        &[
+            (0, 1, 1),
+            (1, 0, 2),
+            (2, 0, 3),
+            (3, 0, 4),
+            (4, 0, 5),
+            (5, 0, 6),
+            (6, 1, 7),
+            (6, 0, 1),
+        ],
+    );
+    answers(
+        &machine,
+        &[(&[1, 1], true), (&[1], false), (&[1, 1, 1], false)],
+    );
+    // The buffer is read from its first letter.
+    let table_t = folder::load("table-t").machine;
+    answers(
+        &table_t,
+        &[
+            (&[], true),
+            (&[1, 2, 1, 2], true),
+            (&[1, 2, 2, 1], false),
+            (&[1, 1, 2, 1, 1, 2], true),
+            (&[1, 1, 2, 2, 1, 1], false),
+            (&[1], false),
+            (&[1, 2, 2], false),
+        ],
+    );
+    // An epsilon cycle in each mode.
+    let machine = Machine::new(
+        1,
+        &[1, 0, 4, 0, 0, 8, 8, 2],
+        &[
+            (0, 0, 1),
+            (1, 0, 0),
+            (1, 0, 2),
+            (2, 0, 3),
+            (3, 0, 4),
+            (4, 0, 3),
+            (3, 1, 4),
+            (4, 0, 5),
+            (5, 0, 6),
+            (6, 0, 5),
+            (5, 1, 6),
+            (6, 0, 7),
+        ],
+    );
+    answers(
+        &machine,
+        &[
+            (&[], true),
+            (&[1, 1], true),
+            (&[1, 1, 1, 1], true),
+            (&[1], false),
+            (&[1, 1, 1], false),
+        ],
+    );
+    counts.report("where writers slip");
+}
+
+#[test]
+fn c_program() {
+    let printed = compare::c::program("recognize", env!("CARGO_TARGET_TMPDIR"));
+    assert_eq!(printed, "words are recognized right from C\n");
+    print!("{printed}");
+}

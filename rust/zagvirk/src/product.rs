@@ -1,0 +1,86 @@
+//! The product of a machine with a plain machine (document 01: the joined table).
+
+use crate::{Machine, Refusal};
+
+/// The result of [`join_record`]: `refusal` is 0 or the number of the refusal; `needed` is 0 but for refusal 15;
+/// `machine` is all zero after a refusal.
+#[derive(Clone, Copy, PartialEq, Eq, Debug)]
+#[repr(C)]
+pub struct JoinedRecord {
+    pub refusal: u8,
+    pub needed: usize,
+    pub machine: Machine,
+}
+
+extern "C" {
+    fn zagvirk_join(
+        first: Machine,
+        first_list: *const u16,
+        first_len: usize,
+        second: Machine,
+        second_list: *const u16,
+        second_len: usize,
+        list: *mut u16,
+        list_len: usize,
+    ) -> JoinedRecord;
+}
+
+/// Joins two machines, as [`join`].
+pub fn join_record(
+    first: &Machine,
+    first_list: &[u16],
+    second: &Machine,
+    second_list: &[u16],
+    list: &mut [u16],
+) -> JoinedRecord {
+    // A slice's pointer is not null and is good for its length, also where that is 0. The call writes to `list` only.
+    unsafe {
+        zagvirk_join(
+            *first,
+            first_list.as_ptr(),
+            first_list.len(),
+            *second,
+            second_list.as_ptr(),
+            second_list.len(),
+            list.as_mut_ptr(),
+            list.len(),
+        )
+    }
+}
+
+/// The product of a machine with a plain machine: it accepts the words that both accept. Its transitions are written to
+/// the front of `list`, three elements each; the rest of `list` stays as it was, and after a refusal all of it.
+///
+/// A state is a pair, numbered first x (states of second) + second. It is initial or final if both are; it is buffering
+/// or matching if the first is. A letter moves both, epsilon moves the first alone.
+///
+/// Refuses, in this order: [`Refusal::MachineBroken`] (first, then second), [`Refusal::NotPlain`] if the second has a
+/// buffering or matching state or an epsilon transition, [`Refusal::LettersDiffer`], [`Refusal::TooManyStates`],
+/// [`Refusal::TooManyTransitions`], [`Refusal::ListTooShort`].
+///
+/// Time: in proportion to the machines and the product. Memory: constant.
+///
+/// ```
+/// // Doubled words over letters 1 and 2, joined with the words that have a 2.
+/// use zagvirk::{product, Machine};
+/// let doubled = Machine::new(2, 6, &[5, 0, 10]);
+/// let doubled_list = [0, 0, 1, 1, 0, 2, 1, 1, 1, 1, 2, 1, 2, 1, 2, 2, 2, 2];
+/// let some_two = Machine::new(2, 4, &[1, 2]);
+/// let some_two_list = [0, 1, 0, 0, 2, 1, 1, 1, 1, 1, 2, 1];
+/// let mut list = [0; 36];
+/// let both = product::join(&doubled, &doubled_list, &some_two, &some_two_list, &mut list);
+/// assert_eq!(both, Ok(Machine::new(2, 12, &[5, 4, 0, 0, 8, 10])));
+/// ```
+pub fn join(
+    first: &Machine,
+    first_list: &[u16],
+    second: &Machine,
+    second_list: &[u16],
+    list: &mut [u16],
+) -> Result<Machine, Refusal> {
+    let joined = join_record(first, first_list, second, second_list, list);
+    match Refusal::of(joined.refusal, joined.needed) {
+        Some(refusal) => Err(refusal),
+        None => Ok(joined.machine),
+    }
+}
