@@ -1,2 +1,1 @@
-pub mod TableCases
 pub mod WalkCases

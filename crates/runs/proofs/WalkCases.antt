@@ -30,7 +30,7 @@ use Rattle.fsbm.specs.declared.config.Mode.the-variants.{Normal, Buffering, Emp
 use Rattle.language.specs.Rules.{placed}
 use Rattle.language.specs.Agreement.{published, move-placed}
 use Rattle.layers.specs.Costs.{none, at, Best}
-use Rattle.runs.specs.Tables.{rowAt, PlaceRows, EmptyRow, BufferRow, EmptyingRows, BufferingRows, Sized}
+use Rattle.tables.specs.Tables.{rowAt, PlaceRows, EmptyRow, BufferRow, EmptyingRows, BufferingRows, Sized}
 use Rattle.runs.specs.Walk.{endOf, Second, Ready, changeEntry, Tried, Scanned, Entered, Fresh, Refreshed, Started}
 use Rattle.runs.specs.Walk.Laws.{move-from, ready-step, change-must, Walking, walk-fresh}
 

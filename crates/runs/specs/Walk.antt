@@ -25,7 +25,7 @@ use Rattle.fsbm.specs.declared.config.Mode.{Mode}
 use Rattle.fsbm.specs.declared.config.Mode.the-variants.{Normal, Buffering, Emptying}
 use Rattle.language.specs.Agreement.{published}
 use Rattle.layers.specs.Costs.{none, at, Best}
-use Rattle.runs.specs.Tables.{rowAt, PlaceRows, EmptyRow, BufferRow, Sized}
+use Rattle.tables.specs.Tables.{rowAt, PlaceRows, EmptyRow, BufferRow, Sized}
 pub mod Laws
 
 abbrev pub endOf : Config → ℕ
@@ -79,8 +79,9 @@ pub record Started (m : Machine) (row : List ℕ) (k b : ℕ) : Type 0 where
   pub is-initial : b < m .states → initial (m .marks) b ≡ true
   pub least : (p : ℕ) → p < k → initial (m .marks) p ≡ true → (b < m .states) × (at row b ≤ at row p)
 
--- the run stands at the front of the slice, and what comes after it is as it was
+-- the run stands at the front of the slice, what comes after it is as it was, and no accepting run has fewer entries
 pub record Written (m : Machine) (list w : List ℕ) (r : ℕ) (run run′ : List ℕ) : Type 0 where
   pub fits : r ≤ length run
   pub front : run′ ≡ take r run′ ++ drop r run
   pub accepts : accepting m list w (take r run′) ≡ true
+  pub fewest : (other : List ℕ) → accepting m list w other ≡ true → r ≤ length other

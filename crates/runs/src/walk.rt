@@ -5,17 +5,17 @@ ghost use mathlib.Core.Bool.{Bool, true, false};
 ghost use mathlib.Core.List.{List, []};
 ghost use lib.ListN.{length, getD};
 ghost use Rattle.fsbm.specs.Machine.{wellFormed, initial};
-ghost use Rattle.fsbm.specs.Moves.{wellPlaced, startAt};
+ghost use Rattle.fsbm.specs.Moves.{wellPlaced, startAt, accepting};
 ghost use Rattle.fsbm.specs.Accepted.{accepted, runBound};
 ghost use Rattle.language.specs.Agreement.{published};
 ghost use Rattle.layers.specs.Costs.{none, Best};
-ghost use Rattle.runs.specs.Tables.{rowAt, Sized, PlaceRows};
+ghost use Rattle.tables.specs.Tables.{rowAt, Sized, PlaceRows};
 ghost use Rattle.runs.specs.Walk.{Ready, changeEntry, Tried, Scanned, Entered, Fresh, Refreshed, Started, Written};
-use crate::table;
 use fsbm::config::Config;
 use fsbm::config::Mode;
 use fsbm::machine;
 use fsbm::machine::Machine;
+use tables::table;
 
 // The number of state q in row i of a table.
 fn number(t: &[[u16; 64]], i: usize, q: usize) -> u16
@@ -180,7 +180,7 @@ fn refresh(
     }
 }
 
-// Writes the run that starts in state q and has d moves.
+// Writes a run that starts in state q and has this many moves.
 fn walk(
     m: Machine,
     list: &[u16],
@@ -193,7 +193,8 @@ fn walk(
     run: &mut [u16],
 ) -> usize
     requires { ⌜ (wellFormed m (now list) ≡ true) × (q < m .states) × (initial (m .marks) q ≡ true) × Sized (now word) (now t) (now emptied) (now stored)
-        × ((p : ℕ) → p ≤ length (now word) → PlaceRows m (now list) (now word) (now t) p) × Best m (now list) (published (now word) (startAt q)) moves × (moves < none) × (1 + moves ≤ length (now run)) ⌝ }
+        × ((p : ℕ) → p ≤ length (now word) → PlaceRows m (now list) (now word) (now t) p) × Best m (now list) (published (now word) (startAt q)) moves × (moves < none) × (1 + moves ≤ length (now run))
+        × ((other : List ℕ) → accepting m (now list) (now word) other ≡ true → 1 + moves ≤ length other) ⌝ }
     ensures { λ r. ⌜ Written m (now (list .entry)) (now (word .entry)) r (now (run .entry)) (now (run .exit)) ⌝ }
 {
     run[0] = q as u16;
@@ -283,7 +284,7 @@ fn all_rows() -> [[u16; 64]; 128] {
 }
 
 // Writes an accepting run of a word that the machine accepts to the front of the slice, and hands back the number of its entries.
-// No accepting run has fewer. What stands after it is as it was. Which of the runs it is, the contract leaves open.
+// No accepting run has fewer. What stands after it is as it was. Which of the runs with as few it is, the contract leaves open.
 // Time: the transitions for each stretch of the word that may be stored, and for each letter of a second half that matches its first.
 // Memory: 133 KB of stack for a word of more than 15 letters, else 9 KB.
 pub fn write_run(m: Machine, list: &[u16], word: &[u8], run: &mut [u16]) -> usize

@@ -42,8 +42,8 @@ use Rattle.layers.specs.Costs.{none, at, Go, Best, RowBest}
 use Rattle.layers.specs.Costs.Laws.{Fits, go-fit, go-step}
 use Rattle.layers.specs.Layers.{blankRow, PlaceBest}
 use Rattle.layers.proofs.LayerCases.{blank-at}
-use Rattle.runs.specs.Tables.{rowAt, PlaceRows, EmptyRow, BufferRow, Sized}
-use Rattle.runs.specs.Tables.Laws.{slice-at, front-letters, buffer-past}
+use Rattle.tables.specs.Tables.{rowAt, PlaceRows, EmptyRow, BufferRow, Sized}
+use Rattle.tables.specs.Tables.Laws.{slice-at, front-letters, buffer-past}
 use Rattle.runs.specs.Walk.{endOf, Second, Ready, changeEntry, Scanned, Entered, Fresh, Refreshed, Started, Written}
 
 -- Where the cost is read from
@@ -410,12 +410,13 @@ pub record Walking (m : Machine) (list w : List ℕ) (t emptied stored : List (L
   pub frame : drop k run ≡ drop k run₀
   pub prefix : (es : List ℕ) → acceptingFrom m list w c es ≡ true → accepting m list w (take k run ++ es) ≡ true
   pub some : 1 ≤ k
+  pub fewest : (other : List ℕ) → accepting m list w other ≡ true → k + d ≤ length other
 
 module _ (m : Machine) (list w : List ℕ) (t : List (List ℕ)) where
   pub walk-start : (emptied stored : List (List ℕ)) (run : List ℕ) (q d : ℕ) → q < m .states → initial (m .marks) q ≡ true → Sized w t emptied stored → ((p : ℕ) → p ≤ length w → PlaceRows m list w t p)
-      → Best m list (published w (startAt q)) d → d < none → 1 + d ≤ length run → (c : Config) → c ≡ startAt q → Walking m list w t emptied stored (set run 0 q) (set run 0 q) c d 1
+      → Best m list (published w (startAt q)) d → d < none → 1 + d ≤ length run → ((other : List ℕ) → accepting m list w other ≡ true → 1 + d ≤ length other) → (c : Config) → c ≡ startAt q → Walking m list w t emptied stored (set run 0 q) (set run 0 q) c d 1
   unfolding accepting
-  walk-start emptied stored run q d lt is sized places best small room c e =
+  walk-start emptied stored run q d lt is sized places best small room fewest c e =
       let same = length-set run 0 q in
       rw e
       (record {
@@ -432,6 +433,7 @@ module _ (m : Machine) (list w : List ℕ) (t : List (List ℕ)) where
         size = refl;
         frame = refl;
         some = omega arith;
+        fewest = fewest;
         prefix = λ es h. subst (λ (s : List ℕ). accepting m list w (s ++ es) ≡ true) (sym (take-suc-set run 0 q (omega arith)))
             (and-both-true (ltb q (m .states)) (initial (m .marks) q && acceptingFrom m list w (startAt q) es) (lt-ltb q (m .states) lt)
             (and-both-true (initial (m .marks) q) (acceptingFrom m list w (startAt q) es) is h));
@@ -450,6 +452,7 @@ module _ (m : Machine) (list w : List ℕ) (t : List (List ℕ)) where
         ready = fresh .ready;
         room = omega (arith, f .room);
         some = omega arith;
+        fewest = λ other h. omega (arith, f .fewest other h);
         size = length-set run k e ∙ f .size;
         frame = drop-set-lt (k + 1) run k e (omega arith) ∙ sym (drop-drop 1 k run) ∙ ap (drop 1) (f .frame) ∙ drop-drop 1 k run₀;
         prefix = λ es h.
@@ -468,6 +471,7 @@ module _ (m : Machine) (list w : List ℕ) (t : List (List ℕ)) where
       record {
         fits = omega (arith, f .room);
         front = sym (take-append-drop k run) ∙ ap (λ (s : List ℕ). take k run ++ s) rest;
+        fewest = λ other h. omega (arith, f .fewest other h);
         accepts = rw append-nil at (f .prefix [] (go-accepts m list w c (placed m w c (f .placed-there)) go));
       }
 
@@ -482,32 +486,38 @@ pub record Begun (m : Machine) (list w : List ℕ) (run : ℕ) (q d : ℕ) : Typ
   pub best : Best m list (published w (startAt q)) d
   pub small : d < none
   pub room : 1 + d ≤ run
+  pub fewest : (other : List ℕ) → accepting m list w other ≡ true → 1 + d ≤ length other
 
 module _ (m : Machine) (list w : List ℕ) where
   start-best : (t : List (List ℕ)) (row : List ℕ) → PlaceRows m list w t 0 → row ≡ rowAt t 0 → (q : ℕ) → q < m .states → Best m list (published w (startAt q)) (at row q)
   unfolding PlaceRows
   start-best t row h e q lt = rw e (h .normal q lt)
 
+  -- an accepting run has at least as many entries
+  least-run : (t : List (List ℕ)) (row : List ℕ) (q : ℕ) → PlaceRows m list w t 0 → row ≡ rowAt t 0 → Started m row (m .states) q → (run : List ℕ) → accepting m list w run ≡ true
+      → (q < m .states) × (1 + at row q ≤ length run)
+  unfolding accepting
+  least-run t row q rows e s [] a = absurd (false≢true a)
+  least-run t row q rows e s (p ∷ es) a =
+      let (lt, r) = and-true (ltb p (m .states)) (initial (m .marks) p && acceptingFrom m list w (startAt p) es) a in
+      let (i, h) = and-true (initial (m .marks) p) (acceptingFrom m list w (startAt p) es) r in
+      let below = ltb-true p (m .states) lt in
+      let least = start-best t row rows e p below .least (length es) (entries-go m list w (startAt p) es h) in
+      let (q-below, q-least) = s .least p below i in
+      (q-below, omega arith)
+
   pub begun : (t : List (List ℕ)) (row : List ℕ) (q size : ℕ) → wellFormed m list ≡ true → length w ≤ 255 → accepted m list w ≡ true → runBound m (length w) ≤ size → PlaceRows m list w t 0 → row ≡ rowAt t 0
       → Started m row (m .states) q → Begun m list w size q (at row q)
-  unfolding accepting runBound
-  begun t row q size good short ok room rows e s = let (run, len, below, a) = accepted-true m list w .0 ok in on run len a
-    where
-      on : (run : List ℕ) → length run ≤ runBound m (length w) → accepting m list w run ≡ true → Begun m list w size q (at row q)
-      on [] len a = absurd (false≢true a)
-      on (p ∷ es) len a =
-          let (lt, r) = and-true (ltb p (m .states)) (initial (m .marks) p && acceptingFrom m list w (startAt p) es) a in
-          let (i, h) = and-true (initial (m .marks) p) (acceptingFrom m list w (startAt p) es) r in
-          let below = ltb-true p (m .states) lt in
-          let least = start-best t row rows e p below .least (length es) (entries-go m list w (startAt p) es h) in
-          let (q-below, q-least) = s .least p below i in
-          let b = bound-small (m .states) (length w + 1) (rules m list good .states-fit) (omega arith) in
-          let n : length es < runBound m (length w) = len in
-          let limit : runBound m (length w) ≤ 49152 = b in
-          record {
-            below = q-below;
-            is-initial = s .is-initial q-below;
-            best = start-best t row rows e q q-below;
-            small = omega arith;
-            room = omega arith;
-          }
+  unfolding runBound
+  begun t row q size good short ok room rows e s =
+      let (run, len, below, a) = accepted-true m list w .0 ok in
+      let (q-below, long) = least-run t row q rows e s run a in
+      let limit : runBound m (length w) ≤ 49152 = bound-small (m .states) (length w + 1) (rules m list good .states-fit) (omega arith) in
+      record {
+        below = q-below;
+        is-initial = s .is-initial q-below;
+        best = start-best t row rows e q q-below;
+        small = omega arith;
+        room = omega arith;
+        fewest = λ other h. least-run t row q rows e s other h .1;
+      }

@@ -1,17 +1,17 @@
 use Prim.Native.Nat.{ℕ, _≤_, _<_, _-_, _+_, _*_}
 use mathlib.Core.Path.{_≡_, refl, sym, ap, _∙_, subst}
 use native.Mathlib.Omega.{arith}
-use Rattle.runs.specs.Tables.{EmptyRow}
-use Rattle.runs.specs.Tables.Laws.{empty-start}
+use Rattle.tables.specs.Tables.{EmptyRow}
+use Rattle.tables.specs.Tables.Laws.{empty-start}
 use Rattle.runs.proofs.WalkCases.{refresh-kept, refresh-buffering, refresh-end, refresh-emptying, refresh-normal}
 use borrow.Author.Needs.{needs}
 use Rattle.runs.proofs.walk.refresh.Statement.{statement}
 use Rattle.runs.proofs.walk.refresh.Tie as tie
 use Rattle.runs.proofs.walk.refresh.Reads as reads
 use Rattle.runs.proofs.walk.refresh.Lts as lts
-use Rattle.runs.proofs.table.buffering_rows.Reads as buffering-rows-reads
-use Rattle.runs.proofs.table.emptying_rows.Reads as emptying-rows-reads
-use Rattle.runs.proofs.table.load.Reads as load-reads
+use Rattle.tables.proofs.table.buffering_rows.Reads as buffering-rows-reads
+use Rattle.tables.proofs.table.emptying_rows.Reads as emptying-rows-reads
+use Rattle.tables.proofs.table.load.Reads as load-reads
 
 -- src/walk.rt:115:9
 returns : tie.Need-returns

@@ -36,7 +36,7 @@ start-at-requires c κs = search needs
 
 -- src/walk.rt:143:5
 loop-holds : tie.Need-loop-holds Inv-loop μ-loop
-loop-holds c = (walk-start (c .before .before .before .before .args .t1) ((c .before .before .before .before .args .list) .now) ((c .before .before .before .before .args .word) .now) ((c .before .before .before .before .args .t) .now) _ _ ((c .before .before .before .before .args .run) .now) (c .before .before .before .before .args .q) (c .before .before .before .before .args .moves) ((c .before .before .before .before .pre) .1) ((c .before .before .before .before .pre) .2) ((c .before .before .before .before .pre) .3) ((c .before .before .before .before .pre) .4) ((c .before .before .before .before .pre) .5) ((c .before .before .before .before .pre) .6) ((c .before .before .before .before .pre) .7) _ (c .start-at .ensures), refl, refl)
+loop-holds c = (walk-start (c .before .before .before .before .args .t1) ((c .before .before .before .before .args .list) .now) ((c .before .before .before .before .args .word) .now) ((c .before .before .before .before .args .t) .now) _ _ ((c .before .before .before .before .args .run) .now) (c .before .before .before .before .args .q) (c .before .before .before .before .args .moves) ((c .before .before .before .before .pre) .1) ((c .before .before .before .before .pre) .2) ((c .before .before .before .before .pre) .3) ((c .before .before .before .before .pre) .4) ((c .before .before .before .before .pre) .5) ((c .before .before .before .before .pre) .6) ((c .before .before .before .before .pre) .7) ((c .before .before .before .before .pre) .8) _ (c .start-at .ensures), refl, refl)
 
 -- src/walk.rt:144:9
 sub-d : tie.Need-sub-d Inv-loop μ-loop

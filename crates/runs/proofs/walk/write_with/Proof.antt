@@ -3,14 +3,14 @@ use native.Mathlib.Omega.{arith}
 use lib.ListN.{length}
 use Rattle.language.specs.Rules.{rules}
 use Rattle.runs.specs.Walk.Laws.{begun}
-use Rattle.runs.proofs.TableCases.{sized-kept}
+use Rattle.tables.proofs.TableCases.{sized-kept}
 use borrow.Author.Needs.{needs}
 use Rattle.runs.proofs.walk.write_with.Statement.{statement}
 use Rattle.runs.proofs.walk.write_with.Tie as tie
 use Rattle.runs.proofs.walk.write_with.Reads as reads
 use Rattle.runs.proofs.walk.write_with.Lts as lts
-use Rattle.runs.proofs.table.fill.Reads as fill-reads
-use Rattle.runs.proofs.table.load.Reads as load-reads
+use Rattle.tables.proofs.table.fill.Reads as fill-reads
+use Rattle.tables.proofs.table.load.Reads as load-reads
 use Rattle.runs.proofs.walk.start.Reads as start-reads
 use Rattle.runs.proofs.walk.walk.Reads as walk-reads
 
@@ -36,7 +36,7 @@ array-read-d c = let b = begun (c .before .before .before .before .before .befor
 
 -- src/walk.rt:197:5
 walk-requires : tie.Need-walk-requires
-walk-requires c κs = let b = begun (c .before .before .before .before .before .before .before .before .before .before .before .before .before .before .before .before .before .before .args .m) ((c .before .before .before .before .before .before .before .before .before .before .before .before .before .before .before .before .before .before .args .list) .now) ((c .before .before .before .before .before .before .before .before .before .before .before .before .before .before .before .before .before .before .args .word) .now) _ _ _ _ ((c .before .before .before .before .before .before .before .before .before .before .before .before .before .before .before .before .before .before .pre) .0) ((c .before .before .before .before .before .before .before .before .before .before .before .before .before .before .before .before .before .before .pre) .1) ((c .before .before .before .before .before .before .before .before .before .before .before .before .before .before .before .before .before .before .pre) .2) ((c .before .before .before .before .before .before .before .before .before .before .before .before .before .before .before .before .before .before .pre) .3) ((c .before .before .before .before .before .before .before .before .before .before .before .fill .ensures) .each 0 (omega arith) (omega arith)) (c .before .before .before .before .before .before .load .ensures) (c .before .before .before .before .start .ensures) in ((c .before .before .before .before .before .before .before .before .before .before .before .before .before .before .before .before .before .before .pre) .0, b .below, b .is-initial, sized-kept (c .before .before .before .before .before .before .before .before .before .before .before .before .before .before .before .before .before .before .args .m) ((c .before .before .before .before .before .before .before .before .before .before .before .before .before .before .before .before .before .before .args .list) .now) ((c .before .before .before .before .before .before .before .before .before .before .before .before .before .before .before .before .before .before .args .word) .now) _ _ _ _ _ _ ((c .before .before .before .before .before .before .before .before .before .before .before .fill .ensures) .size) ((c .before .before .before .before .before .before .before .before .before .before .before .fill .ensures) .emptied-size) ((c .before .before .before .before .before .before .before .before .before .before .before .fill .ensures) .stored-size) ((c .before .before .before .before .before .before .before .before .before .before .before .before .before .before .before .before .before .before .pre) .4), (λ p l. (c .before .before .before .before .before .before .before .before .before .before .before .fill .ensures) .each p (omega arith) l), b .best, b .small, b .room)
+walk-requires c κs = let b = begun (c .before .before .before .before .before .before .before .before .before .before .before .before .before .before .before .before .before .before .args .m) ((c .before .before .before .before .before .before .before .before .before .before .before .before .before .before .before .before .before .before .args .list) .now) ((c .before .before .before .before .before .before .before .before .before .before .before .before .before .before .before .before .before .before .args .word) .now) _ _ _ _ ((c .before .before .before .before .before .before .before .before .before .before .before .before .before .before .before .before .before .before .pre) .0) ((c .before .before .before .before .before .before .before .before .before .before .before .before .before .before .before .before .before .before .pre) .1) ((c .before .before .before .before .before .before .before .before .before .before .before .before .before .before .before .before .before .before .pre) .2) ((c .before .before .before .before .before .before .before .before .before .before .before .before .before .before .before .before .before .before .pre) .3) ((c .before .before .before .before .before .before .before .before .before .before .before .fill .ensures) .each 0 (omega arith) (omega arith)) (c .before .before .before .before .before .before .load .ensures) (c .before .before .before .before .start .ensures) in ((c .before .before .before .before .before .before .before .before .before .before .before .before .before .before .before .before .before .before .pre) .0, b .below, b .is-initial, sized-kept (c .before .before .before .before .before .before .before .before .before .before .before .before .before .before .before .before .before .before .args .m) ((c .before .before .before .before .before .before .before .before .before .before .before .before .before .before .before .before .before .before .args .list) .now) ((c .before .before .before .before .before .before .before .before .before .before .before .before .before .before .before .before .before .before .args .word) .now) _ _ _ _ _ _ ((c .before .before .before .before .before .before .before .before .before .before .before .fill .ensures) .size) ((c .before .before .before .before .before .before .before .before .before .before .before .fill .ensures) .emptied-size) ((c .before .before .before .before .before .before .before .before .before .before .before .fill .ensures) .stored-size) ((c .before .before .before .before .before .before .before .before .before .before .before .before .before .before .before .before .before .before .pre) .4), (λ p l. (c .before .before .before .before .before .before .before .before .before .before .before .fill .ensures) .each p (omega arith) l), b .best, b .small, b .room, b .fewest)
 
 -- src/walk.rt:188:1
 same-length : tie.Need-same-length

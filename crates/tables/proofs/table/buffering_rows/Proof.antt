@@ -4,16 +4,16 @@ use native.Mathlib.Omega.{arith}
 use borrow.Author.Needs.{needs}
 use lib.ListN.{length}
 use Rattle.language.specs.Rules.{rules}
-use Rattle.runs.proofs.TableCases.{Buffered, buffer-rows-start, buffer-rows-next, buffer-rows-end}
-use Rattle.runs.proofs.table.buffering_rows.Statement.{statement}
-use Rattle.runs.proofs.table.buffering_rows.Tie as tie
-use Rattle.runs.proofs.table.buffering_rows.Reads as reads
-use Rattle.runs.proofs.table.buffering_rows.Lts as lts
+use Rattle.tables.proofs.TableCases.{Buffered, buffer-rows-start, buffer-rows-next, buffer-rows-end}
+use Rattle.tables.proofs.table.buffering_rows.Statement.{statement}
+use Rattle.tables.proofs.table.buffering_rows.Tie as tie
+use Rattle.tables.proofs.table.buffering_rows.Reads as reads
+use Rattle.tables.proofs.table.buffering_rows.Lts as lts
 use Rattle.layers.proofs.layer.blank.Reads as blank-reads
 use Rattle.layers.proofs.layer.buffering_layer.Reads as buffering-layer-reads
-use Rattle.runs.proofs.table.emptied_row.Reads as emptied-row-reads
-use Rattle.runs.proofs.table.save.Reads as save-reads
-use Rattle.runs.proofs.table.skip_unmatched.Reads as skip-unmatched-reads
+use Rattle.tables.proofs.table.emptied_row.Reads as emptied-row-reads
+use Rattle.tables.proofs.table.save.Reads as save-reads
+use Rattle.tables.proofs.table.skip_unmatched.Reads as skip-unmatched-reads
 
 abbrev Inv-loop : tie.InvT-loop
 Inv-loop m list word t i emptied₀ stored₀ row₀ d₀ emptied stored row d = Buffered m list word i d stored₀ stored emptied₀ emptied row

@@ -1,17 +1,17 @@
-use Rattle.runs.proofs.TableCases.{Emptied}
+use Rattle.tables.proofs.TableCases.{Emptied}
 use lib.ListN.{length, length-set}
 use Prim.Native.Nat.{_≤_, _<_, _-_, _+_}
 use mathlib.Core.Path.{_≡_, refl, sym, ap, _∙_}
 use native.Mathlib.Omega.{arith}
 use borrow.Author.Needs.{needs}
-use Rattle.runs.specs.Tables.{rowAt, EmptyingRows}
-use Rattle.runs.proofs.TableCases.{empty-rows-start, empty-rows-next, empty-rows-end}
-use Rattle.runs.proofs.table.emptying_rows.Statement.{statement}
-use Rattle.runs.proofs.table.emptying_rows.Tie as tie
-use Rattle.runs.proofs.table.emptying_rows.Reads as reads
-use Rattle.runs.proofs.table.emptying_rows.Lts as lts
+use Rattle.tables.specs.Tables.{rowAt, EmptyingRows}
+use Rattle.tables.proofs.TableCases.{empty-rows-start, empty-rows-next, empty-rows-end}
+use Rattle.tables.proofs.table.emptying_rows.Statement.{statement}
+use Rattle.tables.proofs.table.emptying_rows.Tie as tie
+use Rattle.tables.proofs.table.emptying_rows.Reads as reads
+use Rattle.tables.proofs.table.emptying_rows.Lts as lts
 use Rattle.layers.proofs.layer.emptying_layer.Reads as emptying-layer-reads
-use Rattle.runs.proofs.table.save.Reads as save-reads
+use Rattle.tables.proofs.table.save.Reads as save-reads
 
 abbrev Inv-loop : tie.InvT-loop
 Inv-loop m list word e d rows₀ row₀ r₀ rows row r = Emptied m list word e d r rows₀ rows row

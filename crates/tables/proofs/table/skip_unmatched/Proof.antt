@@ -2,14 +2,14 @@ use Prim.Native.Nat.{ℕ, _≤_, _<_, _-_, _+_, _/_}
 use mathlib.Core.Path.{_≡_, refl, sym, ap, _∙_}
 use native.Mathlib.Omega.{arith}
 use borrow.Author.Needs.{needs}
-use Rattle.runs.proofs.TableCases.{Skipping, skipping-start, skipping-next}
-use Rattle.runs.proofs.table.skip_unmatched.Statement.{statement}
-use Rattle.runs.proofs.table.skip_unmatched.Tie as tie
-use Rattle.runs.proofs.table.skip_unmatched.Reads as reads
-use Rattle.runs.proofs.table.skip_unmatched.Lts as lts
+use Rattle.tables.proofs.TableCases.{Skipping, skipping-start, skipping-next}
+use Rattle.tables.proofs.table.skip_unmatched.Statement.{statement}
+use Rattle.tables.proofs.table.skip_unmatched.Tie as tie
+use Rattle.tables.proofs.table.skip_unmatched.Reads as reads
+use Rattle.tables.proofs.table.skip_unmatched.Lts as lts
 use Rattle.layers.proofs.layer.blank.Reads as blank-reads
-use Rattle.runs.proofs.table.halves_match.Reads as halves-match-reads
-use Rattle.runs.proofs.table.save.Reads as save-reads
+use Rattle.tables.proofs.table.halves_match.Reads as halves-match-reads
+use Rattle.tables.proofs.table.save.Reads as save-reads
 
 abbrev Inv-loop : tie.InvT-loop
 Inv-loop word i stored₀ row d₀ stored d = Skipping word i d stored₀ stored

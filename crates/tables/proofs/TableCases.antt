@@ -24,8 +24,8 @@ use Rattle.layers.specs.Costs.{RowBest}
 use Rattle.layers.proofs.LayerCases.{blank-layer}
 use Rattle.layers.specs.Layers.{blankRow, EmptyingLayer, BufferingLayer, PlaceLayer, PlaceBest}
 use Rattle.layers.specs.declared.layer.Place.{Place}
-use Rattle.runs.specs.Tables.{rowAt, PlaceRows, EmptyRow, BufferRow, Halves, Matched, EmptyingRows, EmptiedRow, Skipped, BufferingRows, Sized, putPlace, FilledPlace, Filled}
-use Rattle.runs.specs.Tables.Laws.{empty-next, emptied-row, unmatched-row, buffer-past, buffer-next, place-before, place-end}
+use Rattle.tables.specs.Tables.{rowAt, PlaceRows, EmptyRow, BufferRow, Halves, Matched, EmptyingRows, EmptiedRow, Skipped, BufferingRows, Sized, putPlace, FilledPlace, Filled}
+use Rattle.tables.specs.Tables.Laws.{empty-next, emptied-row, unmatched-row, buffer-past, buffer-next, place-before, place-end}
 
 -- a row that was put into a table
 row-same : (rows rows′ : List (List ℕ)) (i : ℕ) (row : List ℕ) → i < length rows → rows′ ≡ set rows i row → rowAt rows′ i ≡ row

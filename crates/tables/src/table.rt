@@ -10,7 +10,7 @@ ghost use Rattle.fsbm.specs.Machine.{wellFormed};
 ghost use Rattle.fsbm.specs.declared.machine.Machine.{Machine};
 ghost use Rattle.fsbm.specs.declared.config.Mode.the-variants.{Emptying};
 ghost use Rattle.layers.specs.Costs.{RowBest};
-ghost use Rattle.runs.specs.Tables.{PlaceRows, EmptyRow, BufferRow, Matched, EmptyingRows, BufferingRows, EmptiedRow, Skipped, FilledPlace, Filled, putPlace, Sized};
+ghost use Rattle.tables.specs.Tables.{PlaceRows, EmptyRow, BufferRow, Matched, EmptyingRows, BufferingRows, EmptiedRow, Skipped, FilledPlace, Filled, putPlace, Sized};
 use fsbm::machine::Machine;
 use layers::layer;
 use layers::layer::Place;

@@ -2,20 +2,20 @@ use mathlib.Core.Path.{_≡_, refl, sym, ap, _∙_}
 use native.Mathlib.Omega.{arith}
 use borrow.Author.Tests.{not-true, not-false}
 use Rattle.language.specs.Rules.{rules}
-use Rattle.runs.specs.Tables.{EmptyRow}
-use Rattle.runs.specs.Tables.Laws.{empty-start}
-use Rattle.runs.proofs.TableCases.{emptied-blank, emptied-loaded}
+use Rattle.tables.specs.Tables.{EmptyRow}
+use Rattle.tables.specs.Tables.Laws.{empty-start}
+use Rattle.tables.proofs.TableCases.{emptied-blank, emptied-loaded}
 use mathlib.Core.Path.{subst}
 use Prim.Native.Nat.{_+_}
 use borrow.Author.Needs.{needs}
-use Rattle.runs.proofs.table.emptied_row.Statement.{statement}
-use Rattle.runs.proofs.table.emptied_row.Tie as tie
-use Rattle.runs.proofs.table.emptied_row.Reads as reads
-use Rattle.runs.proofs.table.emptied_row.Lts as lts
+use Rattle.tables.proofs.table.emptied_row.Statement.{statement}
+use Rattle.tables.proofs.table.emptied_row.Tie as tie
+use Rattle.tables.proofs.table.emptied_row.Reads as reads
+use Rattle.tables.proofs.table.emptied_row.Lts as lts
 use Rattle.layers.proofs.layer.blank.Reads as blank-reads
-use Rattle.runs.proofs.table.emptying_rows.Reads as emptying-rows-reads
-use Rattle.runs.proofs.table.halves_match.Reads as halves-match-reads
-use Rattle.runs.proofs.table.load.Reads as load-reads
+use Rattle.tables.proofs.table.emptying_rows.Reads as emptying-rows-reads
+use Rattle.tables.proofs.table.halves_match.Reads as halves-match-reads
+use Rattle.tables.proofs.table.load.Reads as load-reads
 
 -- src/table.rt:69:9
 halves-match-requires : tie.Need-halves-match-requires

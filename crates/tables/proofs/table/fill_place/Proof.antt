@@ -2,18 +2,18 @@ use mathlib.Core.Path.{_≡_, refl, sym, ap, _∙_}
 use mathlib.Core.Bool.{false≢true}
 use native.Mathlib.Omega.{arith}
 use Prim.Native.Nat.{_+_}
-use Rattle.runs.specs.Tables.Laws.{place-before, place-end}
-use Rattle.runs.proofs.TableCases.{fill-made, onward-best}
+use Rattle.tables.specs.Tables.Laws.{place-before, place-end}
+use Rattle.tables.proofs.TableCases.{fill-made, onward-best}
 use borrow.Author.Needs.{needs}
-use Rattle.runs.proofs.table.fill_place.Statement.{statement}
-use Rattle.runs.proofs.table.fill_place.Tie as tie
-use Rattle.runs.proofs.table.fill_place.Reads as reads
-use Rattle.runs.proofs.table.fill_place.Lts as lts
+use Rattle.tables.proofs.table.fill_place.Statement.{statement}
+use Rattle.tables.proofs.table.fill_place.Tie as tie
+use Rattle.tables.proofs.table.fill_place.Reads as reads
+use Rattle.tables.proofs.table.fill_place.Lts as lts
 use Rattle.layers.proofs.layer.blank.Reads as blank-reads
 use Rattle.layers.proofs.layer.place_layer.Reads as place-layer-reads
-use Rattle.runs.proofs.table.buffering_rows.Reads as buffering-rows-reads
-use Rattle.runs.proofs.table.load.Reads as load-reads
-use Rattle.runs.proofs.table.put_place.Reads as put-place-reads
+use Rattle.tables.proofs.table.buffering_rows.Reads as buffering-rows-reads
+use Rattle.tables.proofs.table.load.Reads as load-reads
+use Rattle.tables.proofs.table.put_place.Reads as put-place-reads
 
 -- src/table.rt:116:20
 blank-requires : tie.Need-blank-requires

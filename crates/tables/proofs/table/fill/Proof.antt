@@ -3,13 +3,13 @@ use mathlib.Core.Path.{_≡_, refl, sym, ap, _∙_}
 use native.Mathlib.Omega.{arith}
 use borrow.Author.Needs.{needs}
 use lib.ListN.{length}
-use Rattle.runs.specs.Tables.{Filled}
-use Rattle.runs.proofs.TableCases.{filled-start, filled-again, filled-end, sized-kept}
-use Rattle.runs.proofs.table.fill.Statement.{statement}
-use Rattle.runs.proofs.table.fill.Tie as tie
-use Rattle.runs.proofs.table.fill.Reads as reads
-use Rattle.runs.proofs.table.fill.Lts as lts
-use Rattle.runs.proofs.table.fill_place.Reads as fill-place-reads
+use Rattle.tables.specs.Tables.{Filled}
+use Rattle.tables.proofs.TableCases.{filled-start, filled-again, filled-end, sized-kept}
+use Rattle.tables.proofs.table.fill.Statement.{statement}
+use Rattle.tables.proofs.table.fill.Tie as tie
+use Rattle.tables.proofs.table.fill.Reads as reads
+use Rattle.tables.proofs.table.fill.Lts as lts
+use Rattle.tables.proofs.table.fill_place.Reads as fill-place-reads
 
 abbrev Inv-loop : tie.InvT-loop
 Inv-loop m list word t₀ emptied₀ stored₀ p₀ t emptied stored p = (p ≤ length word + 1) × Filled m list word p t₀ t emptied₀ emptied stored₀ stored

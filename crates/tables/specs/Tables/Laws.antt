@@ -22,7 +22,7 @@ use Rattle.layers.specs.Costs.{none, at, Go, Best, RowBest}
 use Rattle.layers.specs.Costs.Laws.{Fits, go-fit, best-none}
 use Rattle.layers.specs.Layers.{headOf, tailOf, blankRow, EmptyingLayer, BufferingLayer, PlaceLayer, PlaceBest}
 use Rattle.layers.proofs.LayerCases.{blank-at}
-use Rattle.runs.specs.Tables.{rowAt, PlaceRows, EmptyRow, BufferRow, Halves, EmptyingRows, BufferingRows, Filled}
+use Rattle.tables.specs.Tables.{rowAt, PlaceRows, EmptyRow, BufferRow, Halves, EmptyingRows, BufferingRows, Filled}
 
 module _ (m : Machine) (list w : List ℕ) where
   pub empty-start : (t : List (List ℕ)) (e : ℕ) → PlaceRows m list w t e → EmptyRow m list w e 0 (rowAt t (e * 3 + 2))

@@ -3,11 +3,11 @@ use mathlib.Core.Path.{_≡_, refl, sym, ap, _∙_}
 use native.Mathlib.Omega.{arith}
 use borrow.Author.Needs.{needs}
 use lib.ListN.{getD}
-use Rattle.runs.proofs.TableCases.{halves-differ, halves-more, halves-end}
-use Rattle.runs.proofs.table.halves_match.Statement.{statement}
-use Rattle.runs.proofs.table.halves_match.Tie as tie
-use Rattle.runs.proofs.table.halves_match.Reads as reads
-use Rattle.runs.proofs.table.halves_match.Lts as lts
+use Rattle.tables.proofs.TableCases.{halves-differ, halves-more, halves-end}
+use Rattle.tables.proofs.table.halves_match.Statement.{statement}
+use Rattle.tables.proofs.table.halves_match.Tie as tie
+use Rattle.tables.proofs.table.halves_match.Reads as reads
+use Rattle.tables.proofs.table.halves_match.Lts as lts
 
 abbrev Inv-loop : tie.InvT-loop
 Inv-loop word i d k₀ k = (j : ℕ) → j < k → getD word (i + j) 0 ≡ getD word (i + d + j) 0
