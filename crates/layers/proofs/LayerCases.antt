@@ -1,46 +1,39 @@
 -- The ways through the functions of src/layer.rt.
 --
--- blank-at, blank-real         == a blank row
+-- blank-is, blank-closed       == a blank row
 -- seed-start, seed-final, seed-other == the loop of seeds
--- emptying-zero, emptying-letter, buffering-zero, buffering-letter, place-zero, place-letter == the layers, with and without a letter to read
+-- emptying-blank, emptying-letter, buffering-zero, buffering-letter, place-zero, place-letter == the layers, with and without a letter to read
+-- storing-zero, storing-letter == the layer of buffering mode where the row after the change of mode is blank
+-- emptying-none, buffering-none, storing-none, place-none == the layers where no number fell
 -- round-made                   == one round over a place
 -- lower-here, lower-then, closed-after == rounds one after the other
--- blank-layer                  == a row of buffering mode whose exits are blank
 use Prim.Native.Nat.{ℕ, zero, suc, _+_, _≤_, _<_}
 use mathlib.Core.Path.{_≡_, refl, sym, ap, _∙_, subst}
 use mathlib.Core.Logic.{_⊎_, inl, inr, _↔_}
 use mathlib.Core.Bool.{Bool, true, false, cond, false≢true}
 use mathlib.Core.List.{List, [], _∷_, _++_}
 use native.Mathlib.Omega.{arith}
-use native.Mathlib.Decide.{ℕ-discrete, decLt}
-use lib.ListN.{length, set, replicate, length-replicate, getD-replicate, length-set, List·getD-eq-default}
+use native.Mathlib.Decide.{ℕ-discrete}
+use lib.ListN.{set, replicate, length-set}
 use lib.Seq.{getD-set-same, getD-set-other}
 use Rattle.graphs.specs.Search.Laws.{not-both, true-or-false}
 use Rattle.graphs.specs.Paths.{here}
-use Rattle.fsbm.specs.Machine.{wellFormed, transitionAt, final, buffering, matching}
-use Rattle.fsbm.specs.Published.{fsbmOf, config, begin-buffering, begin-emptying, back-to-normal}
+use Rattle.fsbm.specs.Machine.{transitionAt, final, buffering, matching}
+use Rattle.fsbm.specs.Published.{config, begin-buffering, begin-emptying, back-to-normal}
 use Rattle.fsbm.specs.declared.machine.Machine.{Machine}
 use Rattle.fsbm.specs.declared.config.Mode.{Mode}
 use Rattle.fsbm.specs.declared.config.Mode.the-variants.{Normal, Buffering, Emptying}
-use Rattle.language.specs.Rules.{Rules, rules, buffering-below, matching-below}
-use Rattle.layers.specs.Costs.{none, Go, at, RowReal, RowBest, Leads, Bounded, Marked}
+use Rattle.language.specs.Rules.{Rules, buffering-below, matching-below}
+use Rattle.layers.specs.Costs.{none, Go, at, RowReal, RowBest, Bounded, Marked}
 use Rattle.layers.specs.Costs.Laws.{normal-yields, buffer-yields, empty-yields}
 use Rattle.layers.specs.Rows.{weight, Lowering, ByPass, ByChange, ofKind, Closed}
 use Rattle.layers.specs.Rows.Laws.{pass-bounded, pass-real, change-marked, change-real}
-use Rattle.layers.specs.Layers.{headOf, tailOf, blankRow, Seeded, FirstRow, EmptyingLayer, BufferingLayer, PlaceReal, Settled, LowerPlace, Round, ClosedPlace, PlaceBest, PlaceLayer}
-use Rattle.layers.specs.Layers.Laws.{emptying-best, buffering-best, place-best}
-
-pub blank-at : (q : ℕ) → q < 64 → at blankRow q ≡ none
-unfolding blankRow
-blank-at q l = getD-replicate 64 q none 0 l
+use Rattle.layers.specs.Layers.{headOf, tailOf, blankRow, Seeded, FirstRow, EmptyingLayer, BufferingLayer, PlaceReal, Settled, LowerPlace, Round, ClosedPlace, PlaceLayer}
+use Rattle.layers.specs.Layers.Laws.{emptying-best, buffering-best, place-best, blank-at, blank-size, blank-none, blank-real, blank-bounded, blank-settled}
 
 pub blank-is : replicate 64 none ≡ blankRow
 unfolding blankRow
 blank-is = refl
-
-blank-size : length blankRow ≡ 64
-unfolding blankRow
-blank-size = length-replicate 64 none
 
 pub seed-start : (m : Machine) (row : List ℕ) → row ≡ blankRow → Seeded m 0 row
 seed-start m row e = rw e (record { size = blank-size; done = λ (q : ℕ) (l : q < 0). absurd (omega arith); rest = λ q a l. blank-at q l })
@@ -79,19 +72,37 @@ marked-lower : {test : ℕ → Bool} (row row′ next : List ℕ) → ((q : ℕ)
 marked-lower row row′ next down h q is = omega (arith, down q, h q is)
 
 module _ (m : Machine) (list : List ℕ) (r : Rules m list) where
-  blank-real : (u v : List ℕ) (t : Mode) → RowReal m list u v t blankRow
-  blank-real u v t q lt l = let z = blank-at q (omega (arith, r .states-fit)) in absurd (omega arith)
-
   never-positive : {A : Type 0} (x : ℕ) → x ≡ 0 → 0 < x → A
   never-positive x e l = absurd (omega arith)
 
-  pub emptying-zero : (next row : List ℕ) (x : ℕ) → x ≡ 0 → (row₀ : List ℕ) → row₀ ≡ blankRow → Closed m list Emptying row₀ row → EmptyingLayer m list x next row
+  -- a blank row stays blank
+  blank-closed : (t : Mode) (row : List ℕ) → row ≡ blankRow → Closed m list t row row
+  blank-closed t row e =
+      subst (λ (s : List ℕ). Closed m list t s s) (sym e)
+      (record { real = λ u v z h. h; bounded = blank-bounded m list r t 0 blankRow (blank-none m list r); lower = λ q. omega arith; fewer = omega arith })
+
+  blank-changed : (row : List ℕ) → Lowering (ByChange (ofKind (m .marks) 8) row 0 (m .states)) row row false
+  blank-changed row =
+      record {
+        size = refl;
+        origin = λ q. inl refl;
+        settled = λ q v c. omega (arith, c .value);
+        lower = λ q. omega arith;
+        fewer = omega arith;
+        same = λ z. refl;
+        less = λ z. absurd (false≢true z);
+      }
+
+  emptying-zero : (next row : List ℕ) (x : ℕ) → x ≡ 0 → (row₀ : List ℕ) → row₀ ≡ blankRow → Closed m list Emptying row₀ row → EmptyingLayer m list x next row
   emptying-zero next row x z row₀ e f =
       record {
         best = λ u v best. emptying-best m list r x u v next row best
-            (f .real (x ∷ u) (x ∷ v) (λ c. let d : _≡_ {A = ℕ} 0 1 = cc in absurd (omega arith)) (subst (RowReal m list (x ∷ u) (x ∷ v) Emptying) (sym e) (blank-real (x ∷ u) (x ∷ v) Emptying)))
+            (f .real (x ∷ u) (x ∷ v) (λ c. let d : _≡_ {A = ℕ} 0 1 = cc in absurd (omega arith)) (subst (RowReal m list (x ∷ u) (x ∷ v) Emptying) (sym e) (blank-real m list r (x ∷ u) (x ∷ v) Emptying)))
             (never-positive x z) (f .bounded);
       }
+
+  pub emptying-blank : (next row : List ℕ) (x : ℕ) → x ≡ 0 → row ≡ blankRow → EmptyingLayer m list x next row × (false ≡ false → row ≡ blankRow)
+  emptying-blank next row x z e = (emptying-zero next row x z row e (blank-closed Emptying row e), λ h. e)
 
   pub emptying-letter : (next row : List ℕ) (x : ℕ) → (x ≡ 0 → ⊥) → (row₀ : List ℕ) → row₀ ≡ blankRow → (row₁ : List ℕ) (b : Bool) → Lowering (ByPass m list Emptying x next 0 (m .transitions)) row₀ row₁ b
       → Closed m list Emptying row₁ row → EmptyingLayer m list x next row
@@ -102,9 +113,15 @@ module _ (m : Machine) (list : List ℕ) (r : Rules m list) where
             (f .real (suc x ∷ u) (suc x ∷ v) (λ c. let d : _≡_ {A = ℕ} 0 1 = cc in absurd (omega arith))
             (pass-real (λ q. config (suc x ∷ u) q (suc x ∷ v) Emptying) (λ q. config u q v Emptying)
             (λ k l. (r .to-below k (l .listed), empty-yields m list u v l)) (λ q lt. best q lt .realised)
-            (subst (RowReal m list (suc x ∷ u) (suc x ∷ v) Emptying) (sym e) (blank-real (suc x ∷ u) (suc x ∷ v) Emptying)) p))
+            (subst (RowReal m list (suc x ∷ u) (suc x ∷ v) Emptying) (sym e) (blank-real m list r (suc x ∷ u) (suc x ∷ v) Emptying)) p))
             (λ l. bounded-lower row₁ row next (f .lower) (pass-bounded p)) (f .bounded);
       }
+
+  -- no number fell
+  pub emptying-none : (next : List ℕ) (x : ℕ) → (x ≡ 0 → ⊥) → (row₀ : List ℕ) → row₀ ≡ blankRow → (row₁ : List ℕ) (b : Bool) → Lowering (ByPass m list Emptying x next 0 (m .transitions)) row₀ row₁ b
+      → b ≡ false → EmptyingLayer m list x next row₁ × (false ≡ false → row₁ ≡ blankRow)
+  emptying-none next x z row₀ e row₁ b p none-fell =
+      (emptying-letter next row₁ x z row₀ e row₁ b p (blank-closed Emptying row₁ (p .same none-fell ∙ e)), λ h. p .same none-fell ∙ e)
 
   -- along the letter
 
@@ -134,7 +151,7 @@ module _ (m : Machine) (list : List ℕ) (r : Rules m list) where
     unfolding ofKind
     changed-real u v best =
         change-real (λ q. config u q v Buffering) (λ q. config u q v Emptying) (λ q is. begin-emptying is) (λ q lt. best q lt .realised)
-        (subst (RowReal m list u v Buffering) (sym blank) (blank-real u v Buffering)) g
+        (subst (RowReal m list u v Buffering) (sym blank) (blank-real m list r u v Buffering)) g
 
     changed-marked : Marked (matching (m .marks)) row₁ emptied
     unfolding ofKind
@@ -157,6 +174,28 @@ module _ (m : Machine) (list : List ℕ) (r : Rules m list) where
               (λ l. bounded-lower row₂ row next (f .lower) (pass-bounded p)) (marked-lower row₁ row emptied (λ q. omega (arith, f .lower q, p .lower q)) changed-marked) (f .bounded);
         }
 
+    -- no number fell
+    pub buffering-none : (x : ℕ) → (x ≡ 0 → ⊥) → b ≡ false → (row₂ : List ℕ) (c : Bool) → Lowering (ByPass m list Buffering x next 0 (m .transitions)) row₁ row₂ c
+        → c ≡ false → BufferingLayer m list x next emptied row₂ × (false ≡ false → row₂ ≡ blankRow)
+    buffering-none x z nb row₂ c p nc =
+        let e : row₂ ≡ blankRow = p .same nc ∙ g .same nb ∙ blank in
+        (buffering-letter row₂ x z row₂ c p (blank-closed Buffering row₂ e), λ h. e)
+
+  -- without the change of mode
+  module _ (next row₀ : List ℕ) (x : ℕ) (blank : row₀ ≡ blankRow) where
+    unchanged : Lowering (ByChange (ofKind (m .marks) 8) blankRow 0 (m .states)) row₀ row₀ false
+    unchanged = subst (λ (s : List ℕ). Lowering (ByChange (ofKind (m .marks) 8) blankRow 0 (m .states)) s s false) (sym blank) (blank-changed blankRow)
+
+    pub storing-zero : x ≡ 0 → BufferingLayer m list x next blankRow row₀ × (false ≡ false → row₀ ≡ blankRow)
+    storing-zero z = (buffering-zero next blankRow row₀ row₀ blank false unchanged row₀ x z (blank-closed Buffering row₀ blank), λ h. blank)
+
+    module _ (z : x ≡ 0 → ⊥) (row₁ : List ℕ) (b : Bool) (p : Lowering (ByPass m list Buffering x next 0 (m .transitions)) row₀ row₁ b) where
+      pub storing-none : b ≡ false → BufferingLayer m list x next blankRow row₁ × (false ≡ false → row₁ ≡ blankRow)
+      storing-none none-fell = buffering-none next blankRow row₀ row₀ blank false unchanged x z refl row₁ b p none-fell
+
+      pub storing-letter : (row : List ℕ) → Closed m list Buffering row₁ row → BufferingLayer m list x next blankRow row
+      storing-letter row f = buffering-letter next blankRow row₀ row₀ blank false unchanged row x z row₁ b p f
+
   -- A place
 
   first-real : (last : Bool) (row u : List ℕ) → FirstRow m last row → (last ≡ true) ↔ (u ≡ []) → RowReal m list u [] Normal row
@@ -167,7 +206,7 @@ module _ (m : Machine) (list : List ℕ) (r : Rules m list) where
           let z : at row q ≡ 0 = f .at-end refl .done q lt ∙ ap (λ (b : Bool). cond b 0 none) t in
           rw (z, iff .0 refl) (record { last = q; last-final = t; path = here })
       on (inr g) = let z : at row q ≡ none = f .at-end refl .done q lt ∙ ap (λ (b : Bool). cond b 0 none) g in absurd (omega arith)
-  first-real false row u f iff q lt l = subst (RowReal m list u [] Normal) (sym (f .before refl)) (blank-real u [] Normal) q lt l
+  first-real false row u f iff q lt l = subst (RowReal m list u [] Normal) (sym (f .before refl)) (blank-real m list r u [] Normal) q lt l
 
   first-goal : (last : Bool) (row u : List ℕ) → FirstRow m last row → (last ≡ true) ↔ (u ≡ []) → u ≡ [] → (q : ℕ) → q < m .states → final (m .marks) q ≡ true → at row q ≡ 0
   first-goal last row u f iff e q lt t = f .at-end (iff .1 e) .done q lt ∙ ap (λ (b : Bool). cond b 0 none) t
@@ -180,8 +219,8 @@ module _ (m : Machine) (list : List ℕ) (r : Rules m list) where
     start-real u iff =
         record {
           normal = first-real last n₀ u first iff;
-          buffering = subst (RowReal m list u [] Buffering) (sym blank-b) (blank-real u [] Buffering);
-          emptying = subst (RowReal m list u [] Emptying) (sym blank-e) (blank-real u [] Emptying);
+          buffering = subst (RowReal m list u [] Buffering) (sym blank-b) (blank-real m list r u [] Buffering);
+          emptying = subst (RowReal m list u [] Emptying) (sym blank-e) (blank-real m list r u [] Emptying);
         }
 
     pub place-zero : (x : ℕ) → x ≡ 0 → (n b e : List ℕ) → ClosedPlace m list n₀ b₀ e₀ n b e → PlaceLayer m list last x next-n next-b n b e
@@ -205,6 +244,21 @@ module _ (m : Machine) (list : List ℕ) (r : Rules m list) where
               (λ i s lt t. lowered-zero (f .lower .normal s) (lowered-zero (p .lower s) (first-goal last n₀ u first iff i s lt t)))
               (λ l. bounded-lower n₁ n next-n (f .lower .normal) (pass-bounded p)) (λ l. bounded-lower b₁ b next-b (f .lower .buffering) (pass-bounded q)) (f .settled);
         }
+
+    -- no number fell
+    pub place-none : (x : ℕ) → (x ≡ 0 → ⊥) → last ≡ false → (n₁ b₁ : List ℕ) (c d : Bool) → Lowering (ByPass m list Normal x next-n 0 (m .transitions)) n₀ n₁ c
+        → Lowering (ByPass m list Buffering x next-b 0 (m .transitions)) b₀ b₁ d → c ≡ false → d ≡ false
+        → PlaceLayer m list last x next-n next-b n₁ b₁ e₀ × (false ≡ false → (n₁ ≡ blankRow) × (b₁ ≡ blankRow) × (e₀ ≡ blankRow))
+    place-none x z more n₁ b₁ c d p q nc nd =
+        let en : n₁ ≡ blankRow = p .same nc ∙ first .before more in
+        let eb : b₁ ≡ blankRow = q .same nd ∙ blank-b in (
+          place-letter x z n₁ b₁ n₁ b₁ e₀ c d p q
+              (record {
+                lower = record { real = λ u real. real; normal = λ s. omega arith; buffering = λ s. omega arith; emptying = λ s. omega arith };
+                settled = rw (en, eb, blank-e) (blank-settled m list r);
+              }),
+          λ h. (en, eb, blank-e),
+        )
 
   -- Rounds
 
@@ -277,6 +331,10 @@ module _ (m : Machine) (list : List ℕ) (r : Rules m list) where
   pub closed-after : (n b e n₁ b₁ e₁ n₂ b₂ e₂ : List ℕ) (s : Bool) → LowerPlace m list n b e n₁ b₁ e₁ → Round m list n₁ b₁ e₁ n₂ b₂ e₂ s → s ≡ false → ClosedPlace m list n b e n₂ b₂ e₂
   closed-after n b e n₁ b₁ e₁ n₂ b₂ e₂ s f g h = record { lower = lower-then n b e n₁ b₁ e₁ n₂ b₂ e₂ f (g .lower); settled = g .settled h }
 
+-- a live layer says nothing of its row
+pub lives : {A B : Type 0} → A → A × (true ≡ false → B)
+lives a = (a, λ h. absurd (false≢true (sym h)))
+
 pub seed-joined : (m : Machine) (k : ℕ) (row : List ℕ) → k < 64 → Seeded m k row → (b : Bool) → b ≡ final (m .marks) k
     → (b ≡ true → (row′ : List ℕ) → row′ ≡ set row k 0 → Seeded m (k + 1) row′) × (b ≡ false → (row′ : List ℕ) → row′ ≡ row → Seeded m (k + 1) row′)
 seed-joined m k row l s b is = (λ t row′ e. subst (Seeded m (k + 1)) (sym e) (seed-final m k row l s b is t), λ f row′ e. subst (Seeded m (k + 1)) (sym e) (seed-other m k row l s b is f))
@@ -292,29 +350,3 @@ first-last m last row t s = record { at-end = λ h. s; before = λ h. absurd (no
 
 pub first-not : (m : Machine) (last : Bool) (row : List ℕ) → last ≡ false → row ≡ blankRow → FirstRow m last row
 first-not m last row f e = record { at-end = λ h. absurd (not-both h f); before = λ h. e }
-
--- where the rows after it are blank, so is the row of buffering mode
-
-blank-most : (q : ℕ) → at blankRow q ≤ none
-blank-most q = on (decLt q 64)
-  where
-    on : Dec (q < 64) → at blankRow q ≤ none
-    on (yes l) = let e = blank-at q l in omega arith
-    on (no l) = let s = blank-size in let e = List·getD-eq-default blankRow 0 {n = q} (omega arith) in omega arith
-
-pub blank-layer : (m : Machine) (list : List ℕ) → Rules m list → (x : ℕ) → BufferingLayer m list x blankRow blankRow blankRow
-blank-layer m list r x =
-    record {
-      best = λ u v head best-next best. buffering-best m list r x u v blankRow blankRow blankRow head best-next best (blank-real m list r u v Buffering) (λ l. bounded x) marked (bounded 0);
-    }
-  where
-    bounded : (y : ℕ) → Bounded m list (m .transitions) Buffering y blankRow blankRow
-    bounded y k l =
-        let a = blank-most (transitionAt list k .from) in
-        let b = blank-at (transitionAt list k .to) (omega (arith, r .to-below k (l .listed), r .states-fit)) in
-        omega arith
-
-    marked : Marked (matching (m .marks)) blankRow blankRow
-    marked q is =
-        let b = blank-at q (omega (arith, matching-below m list r q is, r .states-fit)) in
-        omega arith

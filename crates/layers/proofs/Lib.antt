@@ -1,2 +1,3 @@
+pub mod WayCases
 pub mod RowCases
 pub mod LayerCases

@@ -2,6 +2,7 @@
 --
 -- headOf u, tailOf u   == the first letter of a string, 0 where it is empty; the rest of it
 -- blankRow             == none everywhere
+-- NoneBelow n row      == none at the states below n
 -- Seeded m k row       == 0 at the final states below k, none elsewhere
 -- FirstRow m last row  == 0 at the final states at the end of the word, none elsewhere
 -- EmptyingLayer, BufferingLayer == the row of one mode, from those of the layers after it
@@ -32,6 +33,9 @@ tailOf (x ∷ u) = u
 
 unfoldable pub blankRow : List ℕ
 blankRow = replicate 64 none
+
+abbrev pub NoneBelow : ℕ → List ℕ → Type 0
+NoneBelow n row = (q : ℕ) → q < n → at row q ≡ none
 
 -- 0 at the final states below k, none elsewhere
 pub record Seeded (m : Machine) (k : ℕ) (row : List ℕ) : Type 0 where

@@ -1,3 +1,4 @@
 pub mod Costs
 pub mod Rows
+pub mod Ways
 pub mod Layers

@@ -1,33 +1,24 @@
 // Rows of numbers, one a state, lowered along transitions and changes of mode. 65535 says none.
-ghost use Prim.Native.Nat.{ℕ, _+_, _≤_, _<_};
+ghost use Prim.Native.Nat.{ℕ, _+_, _*_, _≤_, _<_};
 ghost use mathlib.Core.Path.{_≡_};
 ghost use mathlib.Core.Bool.{Bool, true, false};
-ghost use Rattle.fsbm.specs.Machine.{wellFormed, buffering, matching};
-ghost use Rattle.language.specs.NoWord.{passable};
+ghost use lib.ListN.{length};
+ghost use Rattle.fsbm.specs.Machine.{wellFormed, transitionAt};
 ghost use Rattle.layers.specs.Rows.{Lowered, Lowering, ByPass, ByChange, Closed, ofKind, lesserOf};
+ghost use Rattle.layers.specs.Ways.{Ways, StateWays, Visited, kindHead, opens};
+use crate::ways;
 use fsbm::config::Mode;
 use fsbm::machine;
 use fsbm::machine::Machine;
-use fsbm::machine::Transition;
 
-// Whether the marks let a transition be taken in a mode.
-pub fn passes(marks: &[u8; 64], t: Transition, mode: Mode) -> bool
-    ensures { λ r. ⌜ r ≡ passable (now (marks .entry)) t mode ⌝ }
+// Whether the marks let a transition from a to b with the mode's key be taken.
+fn is_open(marks: &[u8; 64], a: usize, b: usize, mode: Mode) -> bool
+    ensures { λ r. ⌜ r ≡ opens (now (marks .entry)) a b mode ⌝ }
 {
     match mode {
-        Mode::Normal => {
-            if machine::both_matching(marks, t) {
-                return false;
-            }
-            !machine::is_buffering(marks, t.from as usize)
-        }
-        Mode::Buffering => {
-            if machine::both_matching(marks, t) {
-                return false;
-            }
-            !machine::is_buffering(marks, t.to as usize)
-        }
-        Mode::Emptying => machine::both_matching(marks, t),
+        Mode::Normal => !machine::is_buffering(marks, a),
+        Mode::Buffering => !machine::is_buffering(marks, b),
+        Mode::Emptying => true,
     }
 }
 
@@ -59,103 +50,83 @@ fn lower(row: &mut [u16; 64], a: usize, v: u16) -> bool
     true
 }
 
-// One transition of a pass.
+// One transition of a pass, one that has the mode's key.
 fn visit(
-    m: Machine,
+    marks: &[u8; 64],
     list: &[u16],
     mode: Mode,
-    x: u16,
     k: usize,
     next: &[u16; 64],
     row: &mut [u16; 64],
 ) -> bool
-    requires { ⌜ (wellFormed m (now list) ≡ true) × (k < m .transitions) ⌝ }
-    ensures { λ r. ⌜ Lowering (ByPass m (now (list .entry)) mode x (now (next .entry)) k (k + 1)) (now (row .entry)) (now (row .exit)) r ⌝ }
+    requires { ⌜ (k < 4000) × (k * 3 + 2 < length (now list)) × (transitionAt (now list) k .from < 64) × (transitionAt (now list) k .to < 64) ⌝ }
+    ensures { λ r. ⌜ Visited (now (marks .entry)) (now (list .entry)) mode k (now (next .entry)) (now (row .entry)) (now (row .exit)) r ⌝ }
 {
-    let t = machine::transition_at(list, k);
-    if t.letter != x {
+    let a = list[k * 3] as usize;
+    let b = list[k * 3 + 2] as usize;
+    if !is_open(marks, a, b, mode) {
         return false;
     }
-    if !passes(&m.marks, t, mode) {
-        return false;
-    }
-    let a = t.from as usize;
-    let b = t.to as usize;
     let v = next[b];
     lower(row, a, v)
 }
 
 // Lowers a row along the transitions that read x into the row `next`, and says whether any number fell.
-// Time: the transitions once.
+// Time: the transitions that read x, each once.
 pub fn pass(
     m: Machine,
     list: &[u16],
+    ways: &[u16],
     mode: Mode,
     x: u16,
     next: &[u16; 64],
     row: &mut [u16; 64],
 ) -> bool
-    requires { ⌜ wellFormed m (now list) ≡ true ⌝ }
+    requires { ⌜ (wellFormed m (now list) ≡ true) × Ways m (now list) (now ways) × (x < 256) ⌝ }
     ensures { λ r. ⌜ Lowering (ByPass m (now (list .entry)) mode x (now (next .entry)) 0 (m .transitions)) (now (row .entry)) (now (row .exit)) r ⌝ }
 {
     let mut fell = false;
-    let mut k: usize = 0;
+    let mut k = ways[ways::key_in(mode, x)] as usize;
     while k < m.transitions {
-        if visit(m, list, mode, x, k, next, row) {
+        if visit(&m.marks, list, mode, k, next, row) {
             fell = true;
         }
-        k += 1;
+        k = ways[578 + k] as usize;
     }
     fell
 }
 
 // Lowers a row along the transitions that read nothing until none of them would lower it.
-pub fn close(m: Machine, list: &[u16], mode: Mode, row: &mut [u16; 64])
-    requires { ⌜ wellFormed m (now list) ≡ true ⌝ }
+pub fn close(m: Machine, list: &[u16], ways: &[u16], mode: Mode, row: &mut [u16; 64])
+    requires { ⌜ (wellFormed m (now list) ≡ true) × Ways m (now list) (now ways) ⌝ }
     ensures { λ r. ⌜ Closed m (now (list .entry)) mode (now (row .entry)) (now (row .exit)) ⌝ }
 {
+    if m.transitions <= ways[ways::key_in(mode, 0)] as usize {
+        return;
+    }
     loop {
         let old = *row;
-        if !pass(m, list, mode, 0, &old, row) {
+        if !pass(m, list, ways, mode, 0, &old, row) {
             return;
         }
     }
 }
 
-// Whether a state is of the kind where the mode changes: buffering (from normal), or matching.
-pub fn is_kind(marks: &[u8; 64], kind: u8, q: usize) -> bool
-    ensures { λ r. ⌜ r ≡ ofKind (now (marks .entry)) kind q ⌝ }
-{
-    if kind == 4 {
-        return machine::is_buffering(marks, q);
-    }
-    machine::is_matching(marks, q)
-}
-
-// One state of a change of mode.
-fn visit_state(m: Machine, kind: u8, q: usize, next: &[u16; 64], row: &mut [u16; 64]) -> bool
-    requires { ⌜ q < 64 ⌝ }
-    ensures { λ r. ⌜ Lowering (ByChange (ofKind (m .marks) kind) (now (next .entry)) q (q + 1)) (now (row .entry)) (now (row .exit)) r ⌝ }
-{
-    if !is_kind(&m.marks, kind, q) {
-        return false;
-    }
-    let v = next[q];
-    lower(row, q, v)
-}
-
-// Lowers a row along the changes of mode, at the states of a kind, into the row `next`, and says whether any number fell.
-pub fn change(m: Machine, kind: u8, next: &[u16; 64], row: &mut [u16; 64]) -> bool
-    requires { ⌜ m .states ≤ 64 ⌝ }
+// Lowers a row along the changes of mode, at the states of a kind (4 buffering, else matching), into the row `next`, and says
+// whether any number fell.
+// Time: the states of the kind, each once.
+pub fn change(m: Machine, ways: &[u16], kind: u8, next: &[u16; 64], row: &mut [u16; 64]) -> bool
+    requires { ⌜ (m .states ≤ 64) × (578 ≤ length (now ways)) × StateWays (ofKind (m .marks) kind) (m .states) 0 (kindHead kind) (now ways) ⌝ }
     ensures { λ r. ⌜ Lowering (ByChange (ofKind (m .marks) kind) (now (next .entry)) 0 (m .states)) (now (row .entry)) (now (row .exit)) r ⌝ }
 {
     let mut fell = false;
-    let mut q: usize = 0;
+    let mut q = ways[ways::kind_head(kind)] as usize;
     while q < m.states {
-        if visit_state(m, kind, q, next, row) {
+        let v = next[q];
+        if lower(row, q, v) {
             fell = true;
         }
-        q += 1;
+        q = ways[514 + q] as usize;
     }
     fell
 }

@@ -1,3 +1,4 @@
 pub mod FaultCases
 pub mod JoinCases
+pub mod LettersCases
 pub mod WriteCases

@@ -6,34 +6,38 @@
 -- letter-next, letter-end, letter-room == the loop over the transitions of the second by one letter
 -- Letters, letters        == the transitions of the second with one letter are those from lo up to hi
 -- epsilon-is, epsilon-writes, letters-is, letters-write, letters-fit == what write_moves writes
--- keys-sorted             == the keys of a table's transitions do not fall
--- moving                  == what write_moves asks, from Joinable
+-- nothing-given           == a transition of the first whose letter does not leave the state of the second gives nothing
+-- starts-lower            == where the transitions of a key begin
+-- next-none, next-here, next-end, next-jump == the ways through next_move
+-- keys-sorted, table-key  == the keys of a table's transitions do not fall, and are below 16,384
 -- from-block              == the transitions from a pair, over the block of the first
--- block-next              == the block of the next state of the first
+-- meeting-..              == what is known of a pair of states
+-- pairing-.., rowing-.., writing-.. == the loops of write_pair, write_row and write_product
 use Prim.Native.Nat.{ℕ, zero, suc, _+_, _*_, _-_, _≤_, _<_, _^_}
 use mathlib.Core.Path.{_≡_, refl, sym, ap, _∙_, subst}
-use mathlib.Core.Logic.{_⊎_, inl, inr}
-use mathlib.Core.Bool.{Bool, true, false, cond, _&&_}
+use mathlib.Core.Logic.{inl, inr}
+use mathlib.Core.Bool.{cond, _&&_}
 use mathlib.Core.List.{List, [], _∷_, _++_}
 use native.Mathlib.Omega.{arith}
 use native.Mathlib.Decide.{decLt, ℕ-discrete}
-use lib.ListN.{length, getD, set, length-set, length-append}
-use lib.Seq.{sets, sets-eq}
+use lib.ListN.{length, getD, set}
+use lib.Seq.{sets-eq}
 use lib.Dec.{eqb}
 use borrow.Author.Tests.{eq-eqb, ne-eqb, eqb-true}
-use Rattle.graphs.specs.Search.Laws.{and-true, and-both-true, true-or-false}
+use Rattle.graphs.specs.Search.Laws.{and-true, and-both-true}
 use Rattle.graphs.specs.Search.Loops.{first, second}
 use Rattle.fsbm.specs.Machine.{transitionAt}
 use Rattle.fsbm.specs.declared.machine.Machine.{Machine}
 use Rattle.fsbm.specs.declared.machine.Transition.{Transition}
 use Rattle.language.specs.Bools.{cond-elim}
-use Rattle.product.specs.Each.{each, put, sumOver}
-use Rattle.product.specs.Each.Laws.{each-step, each-over, each-same, each-block, length-each, Putting, putting-start, putting-room, putting-step, putting-at, putting-end}
+use Rattle.product.specs.Each.{each, put}
+use Rattle.product.specs.Each.Laws.{each-step, each-over, each-same, each-none, each-block, each-skip, length-each, Putting, putting-start, putting-room, putting-step, putting-at, putting-end}
 use Rattle.product.specs.Each.Sums.{sum-const}
+use Rattle.product.specs.Letters.{Marked, Matches, Occurs, Starts, Indexed, Common, Least, Searching, NextMove}
 use Rattle.product.specs.Order.{letterKey, Lower, Block, Moving}
-use Rattle.product.specs.Product.{pairState, joint, jointMoves, joinedFrom, joined, flat, joinedTransitions}
+use Rattle.product.specs.Product.{joint, jointMoves, joinedFrom, joined, flat, joinedTransitions}
 use Rattle.product.specs.Steps.{letterMove}
-use Rattle.product.specs.Tables.{order, Table, Joinable, pair-below, pair-same}
+use Rattle.product.specs.Tables.{Table, Joinable, pair-below, pair-same}
 
 pub put-three : (l : List ℕ) (k a b c : ℕ) → k + 3 ≤ length l → set (set (set l k a) (k + 1) b) (k + 2) c ≡ put l k (a ∷ b ∷ c ∷ [])
 unfolding put
@@ -101,32 +105,35 @@ module _ (n count : ℕ) (second : List ℕ) (r : ℕ) (t : Transition) where
     ap (λ (l : List ℕ). at + length l) (sym (epsilon-is z)),
   )
 
-  module _ {seen lo hi : ℕ} (m : Moving n count second r t seen) (some : t .letter ≡ 0 → ⊥)
-      (from-seen : Lower second count seen (r * 256 + t .letter) lo) (from-lo : Lower second count lo (r * 256 + t .letter + 1) hi) where
-    pub before-lo : (u : ℕ) → u < lo → letterKey second u < r * 256 + t .letter
-    before-lo u lt = at (decLt u seen)
-      where
-        at : Dec (u < seen) → letterKey second u < r * 256 + t .letter
-        at (yes h) = m .behind u h
-        at (no h) = from-seen .below u (omega arith) lt
+  no-move : (u : ℕ) → (letterKey second u ≡ r * 256 + t .letter → ⊥) → letterMove n count second r t u ≡ []
+  no-move u other =
+      cond-elim (λ (l : List Transition). l ≡ []) (eqb (transitionAt second u .from) r && eqb (transitionAt second u .letter) (t .letter)) _ []
+      (λ h.
+      let (a, b) = and-true (eqb (transitionAt second u .from) r) (eqb (transitionAt second u .letter) (t .letter)) h in
+      let f = eqb-true (transitionAt second u .from) r a in
+      let l = eqb-true (transitionAt second u .letter) (t .letter) b in
+      absurd (other (omega arith)))
+      (λ h. refl)
+
+  -- nothing, where the second has no transition from r by the letter
+  pub nothing-given : (t .letter ≡ 0 → ⊥) → ((u : ℕ) → u < count → letterKey second u ≡ r * 256 + t .letter → ⊥) → jointMoves n count second r t ≡ []
+  unfolding jointMoves
+  nothing-given some none =
+      sym (Rattle.graphs.specs.Search.Loops.second (joint n (t .from) r 0 (t .to) r ∷ []) (ne-eqb (t .letter) 0 some) refl)
+      ∙ each-none 0 count (letterMove n count second r t) (λ u a b. no-move u (none u (omega arith)))
+
+  module _ {starts : List ℕ} {lo hi : ℕ} (m : Moving n count second starts r t) (some : t .letter ≡ 0 → ⊥)
+      (from-start : Lower second count 0 (r * 256 + t .letter) lo) (from-lo : Lower second count lo (r * 256 + t .letter + 1) hi) where
+    before-lo : (u : ℕ) → u < lo → letterKey second u < r * 256 + t .letter
+    before-lo u lt = from-start .below u (omega arith) lt
 
     inside : (u : ℕ) → lo ≤ u → u < hi → (transitionAt second u .from ≡ r) × (transitionAt second u .letter ≡ t .letter)
     inside u low high =
         let top = from-lo .high in
-        let a = from-seen .reached (omega arith) in
+        let a = from-start .reached (omega arith) in
         let b = m .sorted lo u low (omega arith) in
         let c = from-lo .below u low high in
         pair-same 256 (transitionAt second u .from) (transitionAt second u .letter) r (t .letter) (m .letters-small u (omega arith)) (m .letter-small) (omega arith)
-
-    no-move : (u : ℕ) → (letterKey second u ≡ r * 256 + t .letter → ⊥) → letterMove n count second r t u ≡ []
-    no-move u other =
-        cond-elim (λ (l : List Transition). l ≡ []) (eqb (transitionAt second u .from) r && eqb (transitionAt second u .letter) (t .letter)) _ []
-        (λ h.
-        let (a, b) = and-true (eqb (transitionAt second u .from) r) (eqb (transitionAt second u .letter) (t .letter)) h in
-        let f = eqb-true (transitionAt second u .from) r a in
-        let l = eqb-true (transitionAt second u .letter) (t .letter) b in
-        absurd (other (omega arith)))
-        (λ h. refl)
 
     one-move : (u : ℕ) → lo ≤ u → u < hi → flat (letterMove n count second r t u) ≡ threes second (t .from * n + r) (t .letter) (t .to * n + 0) u
     unfolding flat
@@ -170,19 +177,151 @@ module _ (n count : ℕ) (second : List ℕ) (r : ℕ) (t : Transition) where
         let top = from-lo .high in
         (from-lo .low, (λ u h. let small = m .tos-small u (omega arith) in omega arith, omega arith))
 
-    -- what lies before lo does not match t either
-    pub moving-on : Moving n count second r t lo
-    moving-on =
+-- The first transition of a key, and the next transition whose letter is in a set
+
+module _ (list : List ℕ) (n : ℕ) (starts : List ℕ) (y : ℕ) (sorted : (u v : ℕ) → u ≤ v → v < n → letterKey list u ≤ letterKey list v) (f : Starts list n starts) (o : Occurs list n y) where
+  start-in : getD starts y 0 < n
+  start-in =
+      let b = f .before (o .place) (o .within) in
+      let e = ap (λ (z : ℕ). getD starts z 0) (o .keyed) in
+      omega (arith, o .within)
+
+  start-key : letterKey list (getD starts y 0) ≡ y
+  start-key = ap (λ (z : ℕ). letterKey list (getD starts z 0)) (sym (o .keyed)) ∙ f .same (o .place) (o .within) ∙ o .keyed
+
+  pub starts-lower : Lower list n 0 y (getD starts y 0)
+  starts-lower =
+      let inside = start-in in
+      record {
+        low = omega arith;
+        high = omega arith;
+        below = λ k a lt. below k lt (ℕ-discrete (letterKey list k) y);
+        reached = λ h. let e = start-key in omega arith;
+      }
+    where
+      below : (k : ℕ) → k < getD starts y 0 → Dec (letterKey list k ≡ y) → letterKey list k < y
+      below k lt (yes e) =
+          let inside = start-in in
+          let b = f .before k (omega arith) in
+          let same = ap (λ (z : ℕ). getD starts z 0) e in
+          absurd (omega arith)
+      below k lt (no d) = let inside = start-in in let up = sorted k (getD starts y 0) (omega arith) inside in let e = start-key in omega arith
+
+module _ {list starts letters : List ℕ} {p i hi : ℕ} (s : Searching list starts letters p i hi) where
+  pub next-none : hi ≤ i → NextMove list letters i hi hi
+  next-none le =
+      record {
+        low = s .high;
+        high = omega arith;
+        passed = λ (k : ℕ) (a : i ≤ k) (b : k < hi) m. absurd (omega arith);
+        reached = λ (h : hi < hi). absurd (omega arith);
+      }
+
+  module _ (lt : i < hi) (t : Transition) (at-t : t ≡ transitionAt list i) (b : ℕ) (l : Least letters (t .letter) b) where
+    abbrev letter : ℕ → ℕ
+    letter k = transitionAt list k .letter
+
+    same-letter : t .letter ≡ letter i
+    same-letter = ap (λ (z : Transition). z .letter) at-t
+
+    keyed : (k : ℕ) → i ≤ k → k < hi → letterKey list k ≡ p * 256 + letter k
+    keyed k a c =
+        let low = s .low in
+        let from = s .block .from k (omega arith) c in
+        let upto = s .block .upto k (omega arith) c in
+        let top = s .block .high in
+        let small = s .letters-small k (omega arith) in
+        omega arith
+
+    letter-up : (k : ℕ) → i ≤ k → k < hi → t .letter ≤ letter k
+    letter-up k a c =
+        let top = s .block .high in
+        let up = s .sorted i k a (omega arith) in
+        let one = keyed i (omega arith) lt in
+        let two = keyed k a c in
+        let e = same-letter in
+        omega arith
+
+    pub next-here : b ≡ t .letter → NextMove list letters i hi i
+    next-here e =
+        let top = s .block .high in
+        let small = s .letters-small i (omega arith) in
+        let same = same-letter in
         record {
-          from-small = m .from-small;
-          to-small = m .to-small;
-          tos-small = m .tos-small;
-          letter-small = m .letter-small;
-          letters-small = m .letters-small;
-          sorted = m .sorted;
-          seen-in = from-seen .high;
-          behind = before-lo;
+          low = omega arith;
+          high = omega arith;
+          passed = λ (k : ℕ) (a : i ≤ k) (c : k < i) m. absurd (omega arith);
+          reached = λ h. subst (λ (z : ℕ). Marked letters z) (e ∙ same-letter) (l .member (omega arith));
         }
+
+    pub next-end : b ≡ 256 → NextMove list letters i hi hi
+    next-end e =
+        let top = s .block .high in
+        record {
+          low = s .high;
+          high = omega arith;
+          passed = λ k a c m. let small = s .letters-small k (omega arith) in l .none (letter k) (letter-up k a c) (omega arith) m;
+          reached = λ (h : hi < hi). absurd (omega arith);
+        }
+
+    module _ (other : b ≡ t .letter → ⊥) (some : b ≡ 256 → ⊥) where
+      small-b : b < 256
+      small-b = omega (arith, l .high)
+
+      occurs : Occurs list (s .count) (p * 256 + b)
+      occurs = s .only b small-b (l .member small-b)
+
+      abbrev next : ℕ
+      next = getD starts (p * 256 + b) 0
+
+      next-in : next < s .count
+      next-in = start-in list (s .count) starts (p * 256 + b) (s .sorted) (s .firsts) occurs
+
+      next-key : letterKey list next ≡ p * 256 + b
+      next-key = start-key list (s .count) starts (p * 256 + b) (s .sorted) (s .firsts) occurs
+
+      next-after : i ≤ next
+      next-after = at (decLt next i)
+        where
+          at : Dec (next < i) → i ≤ next
+          at (no h) = omega arith
+          at (yes h) =
+              let top = s .block .high in
+              let up = s .sorted next i (omega arith) (omega arith) in
+              let one = keyed i (omega arith) lt in
+              let e = same-letter in
+              let key = next-key in
+              let low = l .low in
+              absurd (omega arith)
+
+      next-before : next < hi
+      next-before = at (decLt next hi)
+        where
+          at : Dec (next < hi) → next < hi
+          at (yes h) = h
+          at (no h) =
+              let past = s .block .after next (omega arith) next-in in
+              let key = next-key in
+              let few = small-b in
+              absurd (omega arith)
+
+      pub next-jump : NextMove list letters i hi next
+      next-jump =
+          let after = next-after in
+          let before = next-before in
+          record {
+            low = after;
+            high = omega arith;
+            passed = λ k a c m.
+                let lower = starts-lower list (s .count) starts (p * 256 + b) (s .sorted) (s .firsts) occurs .below k (omega arith) c in
+                let key = keyed k a (omega arith) in
+                l .none (letter k) (letter-up k a (omega arith)) (omega arith) m;
+            reached = λ h.
+                let key = keyed next after before in
+                let found = next-key in
+                let e : b ≡ letter next = omega arith in
+                subst (λ (z : ℕ). Marked letters z) e (l .member small-b);
+          }
 
 -- Tables
 
@@ -193,21 +332,29 @@ keys-sorted m list t i k le lt = at (ℕ-discrete i k)
     at (yes e) = let same = ap (letterKey list) e in omega arith
     at (no d) = let up = t .rising i k (omega arith) lt in let small = t .to-below k lt in let few = t .states-fit in omega arith
 
+pub table-key : (m : Machine) (list : List ℕ) → Table m list → (k : ℕ) → k < m .transitions → letterKey list k < 16384
+table-key m list t k lt = omega (arith, t .from-below k lt, t .letter-below k lt, t .states-fit, t .letters-fit)
+
 module _ {m₁ : Machine} {l₁ : List ℕ} {m₂ : Machine} {l₂ : List ℕ} (j : Joinable m₁ l₁ m₂ l₂) where
   abbrev pub moves : ℕ → ℕ → List Transition
   moves r i = jointMoves (m₂ .states) (m₂ .transitions) l₂ r (transitionAt l₁ i)
 
   -- The loop over the transitions of the first from p
 
-  pub record Pairing (p r lo hi : ℕ) (entry : List ℕ) (k : ℕ) (list : List ℕ) (at seen i : ℕ) : Type 0 where
+  -- what is known of a pair (p, r): the transitions from p are those from lo up to hi
+  pub record Meeting (starts₁ keys₁ starts₂ keys₂ letters : List ℕ) (p r lo hi : ℕ) : Type 0 where
+    pub first-index : Indexed l₁ (m₁ .transitions) starts₁ keys₁
+    pub second-index : Indexed l₂ (m₂ .transitions) starts₂ keys₂
     pub block : Block l₁ (m₁ .transitions) p lo hi
-    pub state : r < m₂ .states
+    pub first-state : p < m₁ .states
+    pub second-state : r < m₂ .states
+    pub common : Common keys₁ p keys₂ r letters
+
+  pub record Pairing (letters : List ℕ) (p r lo hi : ℕ) (entry : List ℕ) (k : ℕ) (list : List ℕ) (at i : ℕ) : Type 0 where
     pub low : lo ≤ i
     pub high : i ≤ hi
     pub putting : Putting entry k (flat (joinedFrom m₁ l₁ m₂ l₂ p r)) list at (flat (each i (hi - i) (moves r)))
-    pub seen-in : seen ≤ m₂ .transitions
-    pub behind : (u : ℕ) → u < seen → letterKey l₂ u < r * 256 + 256
-    pub behind-all : (u i′ : ℕ) → u < seen → i ≤ i′ → i′ < hi → letterKey l₂ u < r * 256 + transitionAt l₁ i′ .letter
+    pub reached : i < hi → Marked letters (transitionAt l₁ i .letter)
 
   from-block : (p r lo hi : ℕ) → Block l₁ (m₁ .transitions) p lo hi → joinedFrom m₁ l₁ m₂ l₂ p r ≡ each lo (hi - lo) (moves r)
   unfolding joinedFrom
@@ -235,110 +382,141 @@ module _ {m₁ : Machine} {l₁ : List ℕ} {m₂ : Machine} {l₂ : List ℕ} (
           let l = j .first .letters-fit in
           omega arith
 
-  pub pairing-start : (p r lo hi k seen : ℕ) (entry : List ℕ) → Block l₁ (m₁ .transitions) p lo hi → r < m₂ .states → seen ≤ m₂ .transitions → ((u : ℕ) → u < seen → letterKey l₂ u < r * 256)
-      → k + length (flat (joinedFrom m₁ l₁ m₂ l₂ p r)) ≤ length entry → Pairing p r lo hi entry k entry k seen lo
-  pairing-start p r lo hi k seen entry b lr si be room =
-      record {
-        block = b;
-        state = lr;
-        low = omega arith;
-        high = b .low;
-        putting = subst (λ (z : List Transition). Putting entry k (flat (joinedFrom m₁ l₁ m₂ l₂ p r)) entry k (flat z)) (from-block p r lo hi b) (putting-start room);
-        seen-in = si;
-        behind = λ u h. let a = be u h in omega arith;
-        behind-all = λ u i′ h a c. let b = be u h in omega arith;
-      }
+  first-small : (i : ℕ) → i < m₁ .transitions → transitionAt l₁ i .letter < 256
+  first-small i lt = omega (arith, j .first .letter-below i lt, j .first .letters-fit)
 
-  module _ {p r lo hi k at seen i : ℕ} {entry list : List ℕ} (s : Pairing p r lo hi entry k list at seen i) where
-    pub pairing-moving : i < hi → (t : Transition) → t ≡ transitionAt l₁ i → Moving (m₂ .states) (m₂ .transitions) l₂ r t seen
-    pairing-moving lt t e =
-        let top = s .block .high in
+  second-small : (u : ℕ) → u < m₂ .transitions → transitionAt l₂ u .letter < 256
+  second-small u lt = omega (arith, j .second .letter-below u lt, j .second .letters-fit)
+
+  module _ {starts₁ keys₁ starts₂ keys₂ letters : List ℕ} {p r lo hi : ℕ} (g : Meeting starts₁ keys₁ starts₂ keys₂ letters p r lo hi) where
+    first-key : (i : ℕ) → lo ≤ i → i < hi → letterKey l₁ i ≡ p * 256 + transitionAt l₁ i .letter
+    first-key i a c =
+        let from = g .block .from i a c in
+        let upto = g .block .upto i a c in
+        let top = g .block .high in
+        let small = first-small i (omega arith) in
+        omega arith
+
+    -- a transition of the first whose letter is not common gives nothing
+    not-common : (i : ℕ) → lo ≤ i → i < hi → (Marked letters (transitionAt l₁ i .letter) → ⊥) → moves r i ≡ []
+    not-common i a c none =
+        let top = g .block .high in
         let inside : i < m₁ .transitions = omega arith in
-        let lr = s .state in
-        let few = j .few-states in
-        let from = pair-below (m₁ .states) (m₂ .states) (transitionAt l₁ i .from) r (j .first .from-below i inside) lr in
-        let to = pair-below (m₁ .states) (m₂ .states) (transitionAt l₁ i .to) r (j .first .to-below i inside) lr in
-        let letters = j .first .letter-below i inside in
-        let fit = j .first .letters-fit in
-        subst (λ (z : Transition). Moving (m₂ .states) (m₂ .transitions) l₂ r z seen) (sym e)
-        (record {
-          from-small = omega arith;
-          to-small = omega arith;
-          tos-small = λ u h. let q = pair-below (m₁ .states) (m₂ .states) (transitionAt l₁ i .to) (transitionAt l₂ u .to) (j .first .to-below i inside) (j .second .to-below u h) in omega arith;
-          letter-small = omega arith;
-          letters-small = λ u h. let a = j .second .letter-below u h in let b = j .second .letters-fit in omega arith;
-          sorted = keys-sorted m₂ l₂ (j .second);
-          seen-in = s .seen-in;
-          behind = λ u h. s .behind-all u i h (omega arith) lt;
-        })
+        let small = first-small i inside in
+        let own : Marked keys₁ (p * 256 + transitionAt l₁ i .letter) =
+        subst (λ (y : ℕ). Marked keys₁ y) (first-key i a c) (g .first-index .keys .all i inside) in
+        nothing-given (m₂ .states) (m₂ .transitions) l₂ r (transitionAt l₁ i)
+        (λ e. none (g .common (transitionAt l₁ i .letter) small .1 (own, inl e)))
+        (λ u lt e. none (g .common (transitionAt l₁ i .letter) small .1 (own, inr (subst (λ (y : ℕ). Marked keys₂ y) e (g .second-index .keys .all u lt)))))
 
-    rest-step : i < hi → (t : Transition) → t ≡ transitionAt l₁ i
-        → flat (each i (hi - i) (moves r)) ≡ flat (jointMoves (m₂ .states) (m₂ .transitions) l₂ r t) ++ flat (each (i + 1) (hi - (i + 1)) (moves r))
-    rest-step lt t e =
-        ap flat (each-step i hi (moves r) lt)
-        ∙ flat-append (moves r i) (each (i + 1) (hi - (i + 1)) (moves r))
-        ∙ ap (λ (z : Transition). flat (jointMoves (m₂ .states) (m₂ .transitions) l₂ r z) ++ flat (each (i + 1) (hi - (i + 1)) (moves r))) (sym e)
-
-    pub pairing-room : i < hi → (t : Transition) → t ≡ transitionAt l₁ i → at + length (flat (jointMoves (m₂ .states) (m₂ .transitions) l₂ r t)) ≤ length list
-    pairing-room lt t e =
-        putting-room (flat (jointMoves (m₂ .states) (m₂ .transitions) l₂ r t)) (flat (each (i + 1) (hi - (i + 1)) (moves r))) (s .putting) (rest-step lt t e)
-
-    pub pairing-next : i < hi → (t : Transition) → t ≡ transitionAt l₁ i → (list′ : List ℕ) (at′ seen′ : ℕ)
-        → list′ ≡ put list at (flat (jointMoves (m₂ .states) (m₂ .transitions) l₂ r t)) → at′ ≡ at + length (flat (jointMoves (m₂ .states) (m₂ .transitions) l₂ r t))
-        → Moving (m₂ .states) (m₂ .transitions) l₂ r t seen′ → Pairing p r lo hi entry k list′ at′ seen′ (i + 1)
-    pairing-next lt t e list′ at′ seen′ el ea m =
-        let low = s .low in
-        let top = s .block .high in
-        let letter = ap (λ (z : Transition). z .letter) e in
+    pub meeting-searching : (i : ℕ) → lo ≤ i → i ≤ hi → Searching l₁ starts₁ letters p i hi
+    meeting-searching i a c =
         record {
-          block = s .block;
-          state = s .state;
-          low = omega arith;
-          high = omega arith;
-          putting = putting-at (putting-step (flat (jointMoves (m₂ .states) (m₂ .transitions) l₂ r t)) (flat (each (i + 1) (hi - (i + 1)) (moves r))) (s .putting) (rest-step lt t e) el) (sym ea);
-          seen-in = m .seen-in;
-          behind = λ u h. let b = m .behind u h in let l = m .letter-small in omega arith;
-          behind-all = λ u i′ h a c.
-              let b = m .behind u h in
-              let up = keys-sorted m₁ l₁ (j .first) i i′ (omega arith) (omega arith) in
-              let f = s .block .from i′ (omega arith) c in
-              let g = s .block .upto i (omega arith) lt in
-              let f′ = s .block .from i (omega arith) lt in
-              let g′ = s .block .upto i′ (omega arith) c in
-              let x = j .first .letter-below i (omega arith) in
-              let y = j .first .letter-below i′ (omega arith) in
-              let fit = j .first .letters-fit in
-              omega arith;
+          count = m₁ .transitions;
+          lo = lo;
+          block = g .block;
+          low = a;
+          high = c;
+          state = omega (arith, g .first-state, j .first .states-fit);
+          sorted = keys-sorted m₁ l₁ (j .first);
+          letters-small = first-small;
+          firsts = g .first-index .firsts;
+          only = λ b lt m. g .first-index .keys .only (p * 256 + b) (omega (arith, g .first-state, j .first .states-fit)) (g .common b lt .0 m .0);
         }
 
-    pub pairing-end : hi ≤ i → (list ≡ put entry k (flat (joinedFrom m₁ l₁ m₂ l₂ p r))) × (at ≡ k + length (flat (joinedFrom m₁ l₁ m₂ l₂ p r)))
-    unfolding flat
-    pairing-end le = putting-end (s .putting) (ap flat (each-over i hi (moves r) le))
+    pub pairing-start : (k i : ℕ) (entry : List ℕ) → k + length (flat (joinedFrom m₁ l₁ m₂ l₂ p r)) ≤ length entry → NextMove l₁ letters lo hi i → Pairing letters p r lo hi entry k entry k i
+    pairing-start k i entry room next =
+        record {
+          low = next .low;
+          high = next .high;
+          putting = subst (λ (z : List Transition). Putting entry k (flat (joinedFrom m₁ l₁ m₂ l₂ p r)) entry k (flat z))
+              (from-block p r lo hi (g .block)
+              ∙ each-skip lo i hi (moves r) (next .low) (next .high) (λ u a c. not-common u a (omega (arith, next .high)) (next .passed u a c)))
+              (putting-start room);
+          reached = next .reached;
+        }
+
+    module _ {k at i : ℕ} {entry list : List ℕ} (s : Pairing letters p r lo hi entry k list at i) where
+      pub pairing-moving : i < hi → (t : Transition) → t ≡ transitionAt l₁ i → Moving (m₂ .states) (m₂ .transitions) l₂ starts₂ r t
+      pairing-moving lt t e =
+          let top = g .block .high in
+          let inside : i < m₁ .transitions = omega arith in
+          let lr = g .second-state in
+          let few = j .few-states in
+          let from = pair-below (m₁ .states) (m₂ .states) (transitionAt l₁ i .from) r (j .first .from-below i inside) lr in
+          let to = pair-below (m₁ .states) (m₂ .states) (transitionAt l₁ i .to) r (j .first .to-below i inside) lr in
+          subst (λ (z : Transition). Moving (m₂ .states) (m₂ .transitions) l₂ starts₂ r z) (sym e)
+          (record {
+            from-small = omega arith;
+            to-small = omega arith;
+            tos-small = λ u h. let q = pair-below (m₁ .states) (m₂ .states) (transitionAt l₁ i .to) (transitionAt l₂ u .to) (j .first .to-below i inside) (j .second .to-below u h) in omega arith;
+            state-small = omega (arith, j .second .states-fit);
+            letter-small = first-small i inside;
+            letters-small = second-small;
+            sorted = keys-sorted m₂ l₂ (j .second);
+            start = λ some. begin some (g .common (transitionAt l₁ i .letter) (first-small i inside) .0 (s .reached lt) .1);
+          })
+        where
+          begin : (transitionAt l₁ i .letter ≡ 0 → ⊥) → Matches keys₂ r (transitionAt l₁ i .letter)
+              → Lower l₂ (m₂ .transitions) 0 (r * 256 + transitionAt l₁ i .letter) (getD starts₂ (r * 256 + transitionAt l₁ i .letter) 0)
+          begin some (inl z) = absurd (some z)
+          begin some (inr m) =
+              let top = g .block .high in
+              let small = first-small i (omega arith) in
+              starts-lower l₂ (m₂ .transitions) starts₂ (r * 256 + transitionAt l₁ i .letter) (keys-sorted m₂ l₂ (j .second)) (g .second-index .firsts)
+              (g .second-index .keys .only (r * 256 + transitionAt l₁ i .letter) (omega (arith, g .second-state, j .second .states-fit)) m)
+
+      rest-step : i < hi → (t : Transition) → t ≡ transitionAt l₁ i
+          → flat (each i (hi - i) (moves r)) ≡ flat (jointMoves (m₂ .states) (m₂ .transitions) l₂ r t) ++ flat (each (i + 1) (hi - (i + 1)) (moves r))
+      rest-step lt t e =
+          ap flat (each-step i hi (moves r) lt)
+          ∙ flat-append (moves r i) (each (i + 1) (hi - (i + 1)) (moves r))
+          ∙ ap (λ (z : Transition). flat (jointMoves (m₂ .states) (m₂ .transitions) l₂ r z) ++ flat (each (i + 1) (hi - (i + 1)) (moves r))) (sym e)
+
+      pub pairing-room : i < hi → (t : Transition) → t ≡ transitionAt l₁ i → at + length (flat (jointMoves (m₂ .states) (m₂ .transitions) l₂ r t)) ≤ length list
+      pairing-room lt t e =
+          putting-room (flat (jointMoves (m₂ .states) (m₂ .transitions) l₂ r t)) (flat (each (i + 1) (hi - (i + 1)) (moves r))) (s .putting) (rest-step lt t e)
+
+      pub pairing-next : i < hi → (t : Transition) → t ≡ transitionAt l₁ i → (list′ : List ℕ) (at′ i′ : ℕ)
+          → list′ ≡ put list at (flat (jointMoves (m₂ .states) (m₂ .transitions) l₂ r t)) → at′ ≡ at + length (flat (jointMoves (m₂ .states) (m₂ .transitions) l₂ r t))
+          → NextMove l₁ letters (i + 1) hi i′ → Pairing letters p r lo hi entry k list′ at′ i′
+      pairing-next lt t e list′ at′ i′ el ea next =
+          let low = s .low in
+          let on = next .low in
+          record {
+            low = omega arith;
+            high = next .high;
+            putting = subst (λ (z : List Transition). Putting entry k (flat (joinedFrom m₁ l₁ m₂ l₂ p r)) list′ at′ (flat z))
+                (each-skip (i + 1) i′ hi (moves r) (next .low) (next .high) (λ u a c. not-common u (omega arith) (omega (arith, next .high)) (next .passed u a c)))
+                (putting-at (putting-step (flat (jointMoves (m₂ .states) (m₂ .transitions) l₂ r t)) (flat (each (i + 1) (hi - (i + 1)) (moves r))) (s .putting) (rest-step lt t e) el) (sym ea));
+            reached = next .reached;
+          }
+
+  pub pairing-end : {letters : List ℕ} {p r lo hi k at i : ℕ} {entry list : List ℕ} → Pairing letters p r lo hi entry k list at i → hi ≤ i
+      → (list ≡ put entry k (flat (joinedFrom m₁ l₁ m₂ l₂ p r))) × (at ≡ k + length (flat (joinedFrom m₁ l₁ m₂ l₂ p r)))
+  unfolding flat
+  pairing-end {r = r} {hi = hi} {i = i} s le = putting-end (s .putting) (ap flat (each-over i hi (moves r) le))
 
   -- The loop over the states of the second
 
   abbrev pub row : ℕ → List Transition
   row p = each 0 (m₂ .states) (λ r. joinedFrom m₁ l₁ m₂ l₂ p r)
 
-  pub record Rowing (p : ℕ) (entry : List ℕ) (k : ℕ) (list : List ℕ) (at seen r : ℕ) : Type 0 where
+  pub record Rowing (p : ℕ) (entry : List ℕ) (k : ℕ) (list : List ℕ) (at r : ℕ) : Type 0 where
     pub high : r ≤ m₂ .states
     pub putting : Putting entry k (flat (row p)) list at (flat (each r (m₂ .states - r) (λ r. joinedFrom m₁ l₁ m₂ l₂ p r)))
-    pub seen-in : seen ≤ m₂ .transitions
-    pub behind : (u : ℕ) → u < seen → letterKey l₂ u < r * 256
 
-  pub rowing-start : (p k : ℕ) (entry : List ℕ) → k + length (flat (row p)) ≤ length entry → Rowing p entry k entry k 0 0
+  pub rowing-start : (p k : ℕ) (entry : List ℕ) → k + length (flat (row p)) ≤ length entry → Rowing p entry k entry k 0
   rowing-start p k entry room =
       record {
         high = omega arith;
         putting = subst (λ (n : ℕ). Putting entry k (flat (row p)) entry k (flat (each 0 n (λ r. joinedFrom m₁ l₁ m₂ l₂ p r)))) whole (putting-start room);
-        seen-in = omega arith;
-        behind = λ (u : ℕ) (h : u < 0). absurd (omega arith);
       }
     where
       whole : m₂ .states ≡ m₂ .states - 0
       whole = omega arith
 
-  module _ {p k at seen r : ℕ} {entry list : List ℕ} (s : Rowing p entry k list at seen r) where
+  module _ {p k at r : ℕ} {entry list : List ℕ} (s : Rowing p entry k list at r) where
     row-step : r < m₂ .states → flat (each r (m₂ .states - r) (λ r. joinedFrom m₁ l₁ m₂ l₂ p r))
         ≡ flat (joinedFrom m₁ l₁ m₂ l₂ p r) ++ flat (each (r + 1) (m₂ .states - (r + 1)) (λ r. joinedFrom m₁ l₁ m₂ l₂ p r))
     row-step lt =
@@ -348,14 +526,12 @@ module _ {m₁ : Machine} {l₁ : List ℕ} {m₂ : Machine} {l₂ : List ℕ} (
     pub rowing-room : r < m₂ .states → at + length (flat (joinedFrom m₁ l₁ m₂ l₂ p r)) ≤ length list
     rowing-room lt = putting-room (flat (joinedFrom m₁ l₁ m₂ l₂ p r)) (flat (each (r + 1) (m₂ .states - (r + 1)) (λ r. joinedFrom m₁ l₁ m₂ l₂ p r))) (s .putting) (row-step lt)
 
-    pub rowing-next : r < m₂ .states → (list′ : List ℕ) (at′ seen′ : ℕ) → list′ ≡ put list at (flat (joinedFrom m₁ l₁ m₂ l₂ p r)) → at′ ≡ at + length (flat (joinedFrom m₁ l₁ m₂ l₂ p r))
-        → seen′ ≤ m₂ .transitions → ((u : ℕ) → u < seen′ → letterKey l₂ u < r * 256 + 256) → Rowing p entry k list′ at′ seen′ (r + 1)
-    rowing-next lt list′ at′ seen′ el ea si be =
+    pub rowing-next : r < m₂ .states → (list′ : List ℕ) (at′ : ℕ) → list′ ≡ put list at (flat (joinedFrom m₁ l₁ m₂ l₂ p r)) → at′ ≡ at + length (flat (joinedFrom m₁ l₁ m₂ l₂ p r))
+        → Rowing p entry k list′ at′ (r + 1)
+    rowing-next lt list′ at′ el ea =
         record {
           high = omega arith;
           putting = putting-at (putting-step (flat (joinedFrom m₁ l₁ m₂ l₂ p r)) (flat (each (r + 1) (m₂ .states - (r + 1)) (λ r. joinedFrom m₁ l₁ m₂ l₂ p r))) (s .putting) (row-step lt) el) (sym ea);
-          seen-in = si;
-          behind = λ u h. let b = be u h in omega arith;
         }
 
     pub rowing-end : m₂ .states ≤ r → (list ≡ put entry k (flat (row p))) × (at ≡ k + length (flat (row p)))

@@ -2,6 +2,7 @@ pub mod Common
 pub mod Count
 pub mod Each
 pub mod Examples
+pub mod Letters
 pub mod Order
 pub mod Product
 pub mod Rise

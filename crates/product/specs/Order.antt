@@ -2,10 +2,13 @@
 --
 -- letterKey list k        == transition k by from-state and letter, as one number
 -- Lower list n j y r      == r is the first transition from j on, of n, whose key is not below y
--- Moving n count second r t seen == transition t of the first can be taken at state r of the second, and what lies before seen does not match it
+-- Moving n count second starts r t == transition t of the first can be taken at state r of the second, whose transitions by its letter
+--                            begin where starts says
 -- Block list n p lo hi    == of the first n transitions those from lo up to hi leave state p
 use Prim.Native.Nat.{ℕ, suc, _+_, _*_, _≤_, _<_, _^_}
+use mathlib.Core.Path.{_≡_}
 use mathlib.Core.List.{List}
+use lib.ListN.{getD}
 use Rattle.fsbm.specs.Machine.{transitionAt}
 use Rattle.fsbm.specs.declared.machine.Transition.{Transition}
 
@@ -26,12 +29,12 @@ pub record Block (list : List ℕ) (n p lo hi : ℕ) : Type 0 where
   pub upto : (k : ℕ) → lo ≤ k → k < hi → letterKey list k < p * 256 + 256
   pub after : (k : ℕ) → hi ≤ k → k < n → p * 256 + 256 ≤ letterKey list k
 
-pub record Moving (n count : ℕ) (second : List ℕ) (r : ℕ) (t : Transition) (seen : ℕ) : Type 0 where
+pub record Moving (n count : ℕ) (second starts : List ℕ) (r : ℕ) (t : Transition) : Type 0 where
   pub from-small : t .from * n + r < 2 ^ 16
   pub to-small : t .to * n + r < 2 ^ 16
   pub tos-small : (u : ℕ) → u < count → t .to * n + transitionAt second u .to < 2 ^ 16
+  pub state-small : r < 64
   pub letter-small : t .letter < 256
   pub letters-small : (u : ℕ) → u < count → transitionAt second u .letter < 256
   pub sorted : (u v : ℕ) → u ≤ v → v < count → letterKey second u ≤ letterKey second v
-  pub seen-in : seen ≤ count
-  pub behind : (u : ℕ) → u < seen → letterKey second u < r * 256 + t .letter
+  pub start : (t .letter ≡ 0 → ⊥) → Lower second count 0 (r * 256 + t .letter) (getD starts (r * 256 + t .letter) 0)

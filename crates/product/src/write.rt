@@ -2,16 +2,19 @@
 //
 // write_product   all of them: for each state of the first
 // write_row       for each state of the second
-// write_pair      for each transition of the first from its state
-// write_moves     what that transition gives: itself where it is epsilon, else one for each transition of the second by its letter
+// write_pair      for each transition of the first from its state that gives something
+// next_move       the next such transition
+// write_moves     what it gives: itself where it is epsilon, else one for each transition of the second by its letter
 ghost use Prim.Native.Nat.{ℕ, _+_, _*_, _-_, _≤_, _<_, _^_};
 ghost use mathlib.Core.Path.{_≡_};
 ghost use mathlib.Core.List.{[], _∷_};
 ghost use lib.ListN.{length};
 ghost use Rattle.fsbm.specs.Machine.{transitionAt};
 ghost use Rattle.product.specs.Each.{each, put};
-ghost use Rattle.product.specs.Order.{letterKey, Lower, Block, Moving};
+ghost use Rattle.product.specs.Letters.{Indexed, Searching, NextMove};
+ghost use Rattle.product.specs.Order.{Lower, Block, Moving};
 ghost use Rattle.product.specs.Product.{jointMoves, flat, joinedFrom, joinedTransitions, joinFault};
+use crate::letters;
 use fsbm::machine;
 use fsbm::machine::Machine;
 use fsbm::machine::Transition;
@@ -22,20 +25,6 @@ struct Span {
     hi: usize,
 }
 
-// Where writing stands: the place of the next transition, and the transitions of the second that lie behind.
-struct Front {
-    at: usize,
-    seen: usize,
-}
-
-// The order of transition k by from-state and letter, as one number.
-fn key(list: &[u16], k: usize) -> usize
-    ensures { λ r. ⌜ r ≡ letterKey (now (list .entry)) k ⌝ }
-{
-    let t = machine::transition_at(list, k);
-    t.from as usize * 256 + t.letter as usize
-}
-
 // The first transition from j on, of n, whose key is not below y; n where there is none.
 fn lower(list: &[u16], n: usize, j: usize, y: usize) -> usize
     requires { ⌜ j ≤ n ⌝ }
@@ -43,7 +32,7 @@ fn lower(list: &[u16], n: usize, j: usize, y: usize) -> usize
 {
     let mut u = j;
     while u < n {
-        if y <= key(list, u) {
+        if y <= letters::key(list, u) {
             return u;
         }
         u += 1;
@@ -98,33 +87,30 @@ fn write_letter(
     }
 }
 
-// Writes what transition t of the first gives at state r of the second, which has n states and count transitions.
+// Writes what transition t of the first gives at state r of the second, which has n states and count transitions; starts has where
+// those by each letter begin.
 fn write_moves(
     t: Transition,
     second_list: &[u16],
+    starts: &[u16; 16384],
     count: usize,
     n: u16,
     r: u16,
-    front: Front,
     list: &mut [u16],
-) -> Front
-    requires { ⌜ Moving n count (now «second_list») r t (front .seen) ⌝ }
-    requires { ⌜ front .at + length (flat (jointMoves n count (now «second_list») r t)) ≤ length (now list) ⌝ }
-    ensures { λ f. ⌜ now (list .exit) ≡ put (now (list .entry)) (front .at) (flat (jointMoves n count (now («second_list» .entry)) r t)) ⌝ }
-    ensures { λ f. ⌜ f .at ≡ front .at + length (flat (jointMoves n count (now («second_list» .entry)) r t)) ⌝ }
-    ensures { λ f. ⌜ Moving n count (now («second_list» .entry)) r t (f .seen) ⌝ }
+    at: usize,
+) -> usize
+    requires { ⌜ Moving n count (now «second_list») (now starts) r t ⌝ }
+    requires { ⌜ at + length (flat (jointMoves n count (now «second_list») r t)) ≤ length (now list) ⌝ }
+    ensures { λ f. ⌜ now (list .exit) ≡ put (now (list .entry)) at (flat (jointMoves n count (now («second_list» .entry)) r t)) ⌝ }
+    ensures { λ f. ⌜ f ≡ at + length (flat (jointMoves n count (now («second_list» .entry)) r t)) ⌝ }
 {
-    let at = front.at;
     let from = pair(n, t.from, r);
     if t.letter == 0 {
         put(list, at, from, 0, pair(n, t.to, r));
-        return Front {
-            at: at + 3,
-            seen: front.seen,
-        };
+        return at + 3;
     }
     let y = r as usize * 256 + t.letter as usize;
-    let lo = lower(second_list, count, front.seen, y);
+    let lo = starts[y] as usize;
     let hi = lower(second_list, count, lo, y + 1);
     write_letter(
         second_list,
@@ -135,73 +121,131 @@ fn write_moves(
         list,
         at,
     );
-    Front {
-        at: at + (hi - lo) * 3,
-        seen: lo,
+    at + (hi - lo) * 3
+}
+
+// The first transition from i up to hi, all from state p, whose letter is in the set; hi where there is none.
+fn next_move(
+    list: &[u16],
+    starts: &[u16; 16384],
+    letters: &[u64; 4],
+    p: usize,
+    i: usize,
+    hi: usize,
+) -> usize
+    requires { ⌜ Searching (now list) (now starts) (now letters) p i hi ⌝ }
+    ensures { λ r. ⌜ NextMove (now (list .entry)) (now (letters .entry)) i hi r ⌝ }
+{
+    if hi <= i {
+        return hi;
     }
+    let t = machine::transition_at(list, i);
+    let x = t.letter as usize;
+    let b = letters::next_letter(letters, x);
+    if b == x {
+        return i;
+    }
+    if b == 256 {
+        return hi;
+    }
+    starts[p * 256 + b] as usize
 }
 
 // Writes the transitions of the product from the pair (p, r); those of the first from p are the span.
 fn write_pair(
     first: Machine,
     first_list: &[u16],
+    first_starts: &[u16; 16384],
+    first_keys: &[u64; 256],
     second: Machine,
     second_list: &[u16],
+    second_starts: &[u16; 16384],
+    second_keys: &[u64; 256],
     p: usize,
     span: Span,
     r: usize,
-    front: Front,
     list: &mut [u16],
-) -> Front
+    k: usize,
+) -> usize
     requires { ⌜ joinFault first (now «first_list») second (now «second_list») ≡ 0 ⌝ }
+    requires { ⌜ Indexed (now «first_list») (first .transitions) (now «first_starts») (now «first_keys») ⌝ }
+    requires { ⌜ Indexed (now «second_list») (second .transitions) (now «second_starts») (now «second_keys») ⌝ }
     requires { ⌜ Block (now «first_list») (first .transitions) p (span .lo) (span .hi) ⌝ }
-    requires { ⌜ (r < second .states) × (front .seen ≤ second .transitions) × ((u : ℕ) → u < front .seen → letterKey (now «second_list») u < r * 256) ⌝ }
-    requires { ⌜ front .at + length (flat (joinedFrom first (now «first_list») second (now «second_list») p r)) ≤ length (now list) ⌝ }
-    ensures { λ f. ⌜ now (list .exit) ≡ put (now (list .entry)) (front .at) (flat (joinedFrom first (now («first_list» .entry)) second (now («second_list» .entry)) p r)) ⌝ }
-    ensures { λ f. ⌜ f .at ≡ front .at + length (flat (joinedFrom first (now («first_list» .entry)) second (now («second_list» .entry)) p r)) ⌝ }
-    ensures { λ f. ⌜ (f .seen ≤ second .transitions) × ((u : ℕ) → u < f .seen → letterKey (now («second_list» .entry)) u < r * 256 + 256) ⌝ }
+    requires { ⌜ (p < first .states) × (r < second .states) ⌝ }
+    requires { ⌜ k + length (flat (joinedFrom first (now «first_list») second (now «second_list») p r)) ≤ length (now list) ⌝ }
+    ensures { λ f. ⌜ now (list .exit) ≡ put (now (list .entry)) k (flat (joinedFrom first (now («first_list» .entry)) second (now («second_list» .entry)) p r)) ⌝ }
+    ensures { λ f. ⌜ f ≡ k + length (flat (joinedFrom first (now («first_list» .entry)) second (now («second_list» .entry)) p r)) ⌝ }
 {
     let n = second.states as u16;
     let state = r as u16;
     let hi = span.hi;
-    let mut f = front;
-    let mut i = span.lo;
+    let letters = letters::common_letters(first_keys, p, second_keys, r);
+    let mut at = k;
+    let mut i = next_move(first_list, first_starts, &letters, p, span.lo, hi);
     while i < hi {
         let t = machine::transition_at(first_list, i);
-        let next = write_moves(t, second_list, second.transitions, n, state, f, list);
-        f = next;
-        i += 1;
+        at = write_moves(
+            t,
+            second_list,
+            second_starts,
+            second.transitions,
+            n,
+            state,
+            list,
+            at,
+        );
+        i = next_move(first_list, first_starts, &letters, p, i + 1, hi);
     }
-    f
+    at
 }
 
 // Writes the transitions of the product from the pairs of state p of the first, whose transitions are the span.
 fn write_row(
     first: Machine,
     first_list: &[u16],
+    first_starts: &[u16; 16384],
+    first_keys: &[u64; 256],
     second: Machine,
     second_list: &[u16],
+    second_starts: &[u16; 16384],
+    second_keys: &[u64; 256],
     p: usize,
     span: Span,
     list: &mut [u16],
     k: usize,
 ) -> usize
     requires { ⌜ joinFault first (now «first_list») second (now «second_list») ≡ 0 ⌝ }
+    requires { ⌜ Indexed (now «first_list») (first .transitions) (now «first_starts») (now «first_keys») ⌝ }
+    requires { ⌜ Indexed (now «second_list») (second .transitions) (now «second_starts») (now «second_keys») ⌝ }
     requires { ⌜ Block (now «first_list») (first .transitions) p (span .lo) (span .hi) ⌝ }
+    requires { ⌜ p < first .states ⌝ }
     requires { ⌜ k + length (flat (each 0 (second .states) (λ r. joinedFrom first (now «first_list») second (now «second_list») p r))) ≤ length (now list) ⌝ }
     ensures { λ f. ⌜ now (list .exit)
         ≡ put (now (list .entry)) k (flat (each 0 (second .states) (λ r. joinedFrom first (now («first_list» .entry)) second (now («second_list» .entry)) p r))) ⌝ }
     ensures { λ f. ⌜ f ≡ k + length (flat (each 0 (second .states) (λ r. joinedFrom first (now («first_list» .entry)) second (now («second_list» .entry)) p r))) ⌝ }
 {
     let states = second.states;
-    let mut f = Front { at: k, seen: 0 };
+    let mut at = k;
     let mut r: usize = 0;
     while r < states {
-        let next = write_pair(first, first_list, second, second_list, p, span, r, f, list);
-        f = next;
+        at = write_pair(
+            first,
+            first_list,
+            first_starts,
+            first_keys,
+            second,
+            second_list,
+            second_starts,
+            second_keys,
+            p,
+            span,
+            r,
+            list,
+            at,
+        );
         r += 1;
     }
-    f.at
+    at
 }
 
 // Writes the transitions of the product at the front of the list.
@@ -216,6 +260,12 @@ pub fn write_product(
     requires { ⌜ length (joinedTransitions first (now «first_list») second (now «second_list»)) ≤ length (now list) ⌝ }
     ensures { λ f. ⌜ now (list .exit) ≡ put (now (list .entry)) 0 (joinedTransitions first (now («first_list» .entry)) second (now («second_list» .entry))) ⌝ }
 {
+    let mut first_starts = letters::no_starts();
+    letters::note_starts(first_list, first.transitions, &mut first_starts);
+    let first_keys = letters::key_set(first_list, first.transitions);
+    let mut second_starts = letters::no_starts();
+    letters::note_starts(second_list, second.transitions, &mut second_starts);
+    let second_keys = letters::key_set(second_list, second.transitions);
     let states = first.states;
     let mut k: usize = 0;
     let mut lo: usize = 0;
@@ -225,8 +275,12 @@ pub fn write_product(
         let next = write_row(
             first,
             first_list,
+            &first_starts,
+            &first_keys,
             second,
             second_list,
+            &second_starts,
+            &second_keys,
             p,
             Span { lo, hi },
             list,

@@ -1,7 +1,7 @@
 -- The ways through the functions of src/walk.rt.
 --
 -- leads-next, leads-not, leads-said == leads: the tables are ready for the next configuration; its returns
--- scan-found, scan-more, scan-none == the loop of scan
+-- scan-start, scan-found, scan-more, scan-none == the loop of scan
 -- entry-found, entry-change        == the returns of entry
 -- refresh-kept .. refresh-normal   == the returns of refresh
 -- start-begin, start-skip, start-first, start-less, start-more == the loop of start
@@ -13,7 +13,7 @@ use mathlib.Core.List.{List, [], _∷_}
 use native.Mathlib.Omega.{arith}
 use native.Mathlib.Decide.{ℕ-discrete, decLt}
 use native.Mathlib.Numerals.{add-one}
-use lib.ListN.{length}
+use lib.ListN.{length, getD}
 use lib.Seq.{slice}
 use lib.Dec.{eqb}
 use borrow.Author.Tests.{eqb-true, eqb-false}
@@ -30,6 +30,7 @@ use Rattle.fsbm.specs.declared.config.Mode.the-variants.{Normal, Buffering, Emp
 use Rattle.language.specs.Rules.{placed}
 use Rattle.language.specs.Agreement.{published, move-placed}
 use Rattle.layers.specs.Costs.{none, at, Best}
+use Rattle.adjacency.specs.Index.{Index}
 use Rattle.tables.specs.Tables.{rowAt, PlaceRows, EmptyRow, BufferRow, EmptyingRows, BufferingRows, Sized}
 use Rattle.runs.specs.Walk.{endOf, Second, Ready, changeEntry, Tried, Scanned, Entered, Fresh, Refreshed, Started}
 use Rattle.runs.specs.Walk.Laws.{move-from, ready-step, change-must, Walking, walk-fresh}
@@ -68,9 +69,13 @@ pub Passed : Machine → List ℕ → List ℕ → Config → ℕ → ℕ → Ty
 Passed m list w c d k = (j : ℕ) → j < k → move m list w c j .allowed ≡ true → (g : ℕ) × Best m list (published w (move m list w c j .config)) g × (g ≡ d → ⊥)
 
 module _ (m : Machine) (list w : List ℕ) (c : Config) (d : ℕ) where
-  pub scan-start : Passed m list w c d 0
+  pub scan-start : (first : List ℕ) → Index m list first → c .state ≤ m .states → Passed m list w c d (getD first (c .state) 0)
   unfolding Passed
-  scan-start j l = absurd (omega arith)
+  scan-start first i le j l a =
+      let in-list : j < m .transitions = omega (arith, i .within (c .state) le) in
+      let below : transitionAt list j .from < c .state = i .below (c .state) j le in-list .0 l in
+      let same = move-from m list w c j in-list a in
+      absurd (omega arith)
 
   pub scan-found : (k : ℕ) (b : Bool) → k < m .transitions → Passed m list w c d k → Tried m list w c d k b → b ≡ true → Scanned m list w c d k
   unfolding Passed
@@ -84,9 +89,16 @@ module _ (m : Machine) (list w : List ℕ) (c : Config) (d : ℕ) where
       on (yes z) = subst (λ (i : ℕ). move m list w c i .allowed ≡ true → (g : ℕ) × Best m list (published w (move m list w c i .config)) g × (g ≡ d → ⊥)) (sym z) (t .bad h)
       on (no z) = f j (omega arith)
 
-  pub scan-none : (k : ℕ) → k ≤ m .transitions → m .transitions ≤ k → Passed m list w c d k → Scanned m list w c d k
+  pub scan-none : (first : List ℕ) (k : ℕ) → Index m list first → c .state < m .states → getD first (c .state + 1) 0 ≤ k → Passed m list w c d k → Scanned m list w c d (m .transitions)
   unfolding Passed
-  scan-none k a b f = record { within = a; found = λ (l : k < m .transitions). absurd (omega arith); before = f }
+  scan-none first k i lt end f = record { within = omega arith; found = λ (l : m .transitions < m .transitions). absurd (omega arith); before = λ j l a. on j l a (decLt j k) }
+    where
+      on : (j : ℕ) → j < m .transitions → move m list w c j .allowed ≡ true → Dec (j < k) → (g : ℕ) × Best m list (published w (move m list w c j .config)) g × (g ≡ d → ⊥)
+      on j l a (yes b) = f j b a
+      on j l a (no b) =
+          let same = move-from m list w c j l a in
+          let before : j < getD first (c .state + 1) 0 = i .below (c .state + 1) j (omega arith) l .1 (omega arith) in
+          absurd (omega arith)
 
   pub entry-found : (k : ℕ) → Scanned m list w c d k → k < m .transitions → Entered m list w c d k
   entry-found k s l = let f = s .found l in record { allowed = f .0; best = f .1 }
@@ -103,16 +115,15 @@ module _ (m : Machine) (list w : List ℕ) (t emptied stored : List (List ℕ)) 
   pub refresh-kept : e < beginBuffering → Refreshed m list w t emptied emptied stored stored c
   refresh-kept l = record { emptied-size = refl; stored-size = refl; ready = f .kept l }
 
-  pub refresh-buffering : (emptied′ stored′ : List (List ℕ)) (row : List ℕ) → e ≡ beginBuffering → BufferingRows m list w (c .start) stored stored′ emptied emptied′ row
-      → Refreshed m list w t emptied emptied′ stored stored′ c
-  refresh-buffering emptied′ stored′ row z g =
+  pub refresh-buffering : (stored′ : List (List ℕ)) → e ≡ beginBuffering → BufferingRows m list w (c .start) stored stored′ → Refreshed m list w t emptied emptied stored stored′ c
+  refresh-buffering stored′ z g =
       let mode = f .storing z in
       record {
-        emptied-size = g .other-size;
+        emptied-size = refl;
         stored-size = g .size;
         ready = record {
           places = f .places;
-          sized = record { places = f .sized .places; emptied-rows = omega (arith, f .sized .emptied-rows, g .other-size); stored-rows = omega (arith, f .sized .stored-rows, g .size) };
+          sized = record { places = f .sized .places; emptied-rows = f .sized .emptied-rows; stored-rows = omega (arith, f .sized .stored-rows, g .size) };
           storing = λ b d pos le. g .each d pos le;
           matching = λ b. let d : _≡_ {A = ℕ} 0 1 = cc in absurd (omega arith);
         };

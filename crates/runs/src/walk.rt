@@ -9,12 +9,16 @@ ghost use Rattle.fsbm.specs.Moves.{wellPlaced, startAt, accepting};
 ghost use Rattle.fsbm.specs.Accepted.{accepted, runBound};
 ghost use Rattle.language.specs.Agreement.{published};
 ghost use Rattle.layers.specs.Costs.{none, Best};
-ghost use Rattle.tables.specs.Tables.{rowAt, Sized, PlaceRows};
+ghost use Rattle.adjacency.specs.Index.{Index};
+ghost use Rattle.layers.specs.Ways.{Ways};
+ghost use Rattle.tables.specs.Tables.{rowAt, Sized, Sizes, PlaceRows};
 ghost use Rattle.runs.specs.Walk.{Ready, changeEntry, Tried, Scanned, Entered, Fresh, Refreshed, Started, Written};
 use fsbm::config::Config;
 use fsbm::config::Mode;
 use fsbm::machine;
 use fsbm::machine::Machine;
+use layers::ways;
+use tables::copy;
 use tables::table;
 
 // The number of state q in row i of a table.
@@ -89,10 +93,18 @@ fn leads(
     g == d
 }
 
-// The first transition that leads to a configuration with d moves to go; the number of transitions where none does.
+fn wide(x: u16) -> usize
+    ensures { λ r. ⌜ r ≡ x ⌝ }
+{
+    x as usize
+}
+
+// The first transition that leads to a configuration with d moves to go; the number of transitions where none does. Only those that
+// leave the configuration's state are tried.
 fn scan(
     m: Machine,
     list: &[u16],
+    first: &[u16; 65],
     word: &[u8],
     c: Config,
     t: &[[u16; 64]],
@@ -100,17 +112,20 @@ fn scan(
     stored: &[[u16; 64]],
     d: u16,
 ) -> usize
-    requires { ⌜ (wellFormed m (now list) ≡ true) × (wellPlaced (m .states) (length (now word)) c ≡ true) × Ready m (now list) (now word) (now t) (now emptied) (now stored) c ⌝ }
+    requires { ⌜ (wellFormed m (now list) ≡ true) × (wellPlaced (m .states) (length (now word)) c ≡ true) × Ready m (now list) (now word) (now t) (now emptied) (now stored) c
+        × Index m (now list) (now first) ⌝ }
     ensures { λ r. ⌜ Scanned m (now (list .entry)) (now (word .entry)) c d r ⌝ }
 {
-    let mut k: usize = 0;
-    while k < m.transitions {
+    let q = c.state;
+    let end = wide(first[q + 1]);
+    let mut k = wide(first[q]);
+    while k < end {
         if leads(m, list, word, c, t, emptied, stored, d, k) {
             return k;
         }
         k += 1;
     }
-    k
+    m.transitions
 }
 
 // The entry that changes a mode.
@@ -128,6 +143,7 @@ fn change_entry(mode: Mode) -> u16
 fn entry(
     m: Machine,
     list: &[u16],
+    first: &[u16; 65],
     word: &[u8],
     c: Config,
     t: &[[u16; 64]],
@@ -136,10 +152,10 @@ fn entry(
     d: u16,
 ) -> u16
     requires { ⌜ (wellFormed m (now list) ≡ true) × (wellPlaced (m .states) (length (now word)) c ≡ true) × Ready m (now list) (now word) (now t) (now emptied) (now stored) c
-        × Best m (now list) (published (now word) c) (d + 1) × (d + 1 < none) ⌝ }
+        × Best m (now list) (published (now word) c) (d + 1) × (d + 1 < none) × Index m (now list) (now first) ⌝ }
     ensures { λ r. ⌜ Entered m (now (list .entry)) (now (word .entry)) c d r ⌝ }
 {
-    let k = scan(m, list, word, c, t, emptied, stored, d);
+    let k = scan(m, list, first, word, c, t, emptied, stored, d);
     if k < m.transitions {
         return k as u16;
     }
@@ -151,6 +167,7 @@ fn entry(
 fn refresh(
     m: Machine,
     list: &[u16],
+    ways: &[u16],
     word: &[u8],
     c: Config,
     e: u16,
@@ -158,7 +175,7 @@ fn refresh(
     emptied: &mut [[u16; 64]],
     stored: &mut [[u16; 64]],
 )
-    requires { ⌜ (wellFormed m (now list) ≡ true) × Fresh m (now list) (now word) (now t) (now emptied) (now stored) c e ⌝ }
+    requires { ⌜ (wellFormed m (now list) ≡ true) × Ways m (now list) (now ways) × Fresh m (now list) (now word) (now t) (now emptied) (now stored) c e ⌝ }
     ensures { λ r. ⌜ Refreshed m (now (list .entry)) (now (word .entry)) (now (t .entry)) (now (emptied .entry)) (now (emptied .exit)) (now (stored .entry)) (now (stored .exit)) c ⌝ }
 {
     if e < 65533 {
@@ -169,14 +186,14 @@ fn refresh(
     let end = c.end;
     if e == 65533 {
         if start < word.len() {
-            table::buffering_rows(m, list, word, t, start, emptied, stored);
+            copy::buffering_rows(m, list, ways, word, t, start, stored);
         }
         return;
     }
     if e == 65534 {
         let d = end - start;
-        let last = table::load(t, (p + d) * 3 + 2);
-        table::emptying_rows(m, list, word, last, p + d, d, emptied);
+        let last = copy::load(t, (p + d) * 3 + 2);
+        copy::emptying_rows(m, list, ways, word, last, p + d, d, emptied);
     }
 }
 
@@ -184,6 +201,8 @@ fn refresh(
 fn walk(
     m: Machine,
     list: &[u16],
+    ways: &[u16],
+    first: &[u16; 65],
     word: &[u8],
     q: usize,
     moves: u16,
@@ -194,7 +213,7 @@ fn walk(
 ) -> usize
     requires { ⌜ (wellFormed m (now list) ≡ true) × (q < m .states) × (initial (m .marks) q ≡ true) × Sized (now word) (now t) (now emptied) (now stored)
         × ((p : ℕ) → p ≤ length (now word) → PlaceRows m (now list) (now word) (now t) p) × Best m (now list) (published (now word) (startAt q)) moves × (moves < none) × (1 + moves ≤ length (now run))
-        × ((other : List ℕ) → accepting m (now list) (now word) other ≡ true → 1 + moves ≤ length other) ⌝ }
+        × ((other : List ℕ) → accepting m (now list) (now word) other ≡ true → 1 + moves ≤ length other) × Ways m (now list) (now ways) × Index m (now list) (now first) ⌝ }
     ensures { λ r. ⌜ Written m (now (list .entry)) (now (word .entry)) r (now (run .entry)) (now (run .exit)) ⌝ }
 {
     run[0] = q as u16;
@@ -203,10 +222,10 @@ fn walk(
     let mut k: usize = 1;
     while 0 < d {
         d -= 1;
-        let e = entry(m, list, word, c, t, &*emptied, &*stored, d);
+        let e = entry(m, list, first, word, c, t, &*emptied, &*stored, d);
         let v = c.moved(m.states, m.transitions, &m.marks, list, word, e);
         let next = v.config;
-        refresh(m, list, word, next, e, t, emptied, stored);
+        refresh(m, list, ways, word, next, e, t, emptied, stored);
         c = next;
         run[k] = e;
         k += 1;
@@ -249,56 +268,176 @@ fn start(m: Machine, row: &[u16; 64]) -> usize
 fn write_with(
     m: Machine,
     list: &[u16],
+    ways: &[u16],
     word: &[u8],
     t: &mut [[u16; 64]],
+    ends: &mut [[u16; 64]],
+    left: &mut [u16],
     emptied: &mut [[u16; 64]],
     stored: &mut [[u16; 64]],
     run: &mut [u16],
 ) -> usize
     requires { ⌜ (wellFormed m (now list) ≡ true) × (length (now word) ≤ 255) × (accepted m (now list) (now word) ≡ true) × (runBound m (length (now word)) ≤ length (now run))
-        × Sized (now word) (now t) (now emptied) (now stored) ⌝ }
+        × Ways m (now list) (now ways) × Sizes (now word) (now t) (now ends) (now left) × Sized (now word) (now t) (now emptied) (now stored) ⌝ }
     ensures { λ r. ⌜ Written m (now (list .entry)) (now (word .entry)) r (now (run .entry)) (now (run .exit)) ⌝ }
 {
-    table::fill(m, list, word, t, emptied, stored);
-    let row = table::load(t, 0);
+    table::fill(m, list, ways, word, t, ends, left);
+    let a = adjacency::index(m, list);
+    let row = copy::load(t, 0);
     let q = start(m, &row);
     let d = row[q];
-    walk(m, list, word, q, d, &*t, emptied, stored, run)
+    walk(
+        m,
+        list,
+        ways,
+        &a.first,
+        word,
+        q,
+        d,
+        &*t,
+        emptied,
+        stored,
+        run,
+    )
 }
 
-// The tables of a word of at most 15 letters, and of at most 255.
+// The tables of a word of at most 15 letters, of at most 63, and of at most 255.
 fn few_places() -> [[u16; 64]; 48] {
     [[65535; 64]; 48]
+}
+
+fn few_ends() -> [[u16; 64]; 16] {
+    [[65535; 64]; 16]
 }
 
 fn few_rows() -> [[u16; 64]; 8] {
     [[65535; 64]; 8]
 }
 
+fn some_places() -> [[u16; 64]; 192] {
+    [[65535; 64]; 192]
+}
+
+fn some_ends() -> [[u16; 64]; 64] {
+    [[65535; 64]; 64]
+}
+
+fn some_rows() -> [[u16; 64]; 32] {
+    [[65535; 64]; 32]
+}
+
 fn all_places() -> [[u16; 64]; 768] {
     [[65535; 64]; 768]
+}
+
+fn all_ends() -> [[u16; 64]; 256] {
+    [[65535; 64]; 256]
 }
 
 fn all_rows() -> [[u16; 64]; 128] {
     [[65535; 64]; 128]
 }
 
+// write_run for a word of more than 63 letters.
+fn write_long(m: Machine, list: &[u16], ways: &[u16], word: &[u8], run: &mut [u16]) -> usize
+    requires { ⌜ (wellFormed m (now list) ≡ true) × (length (now word) ≤ 255) × (accepted m (now list) (now word) ≡ true) × (runBound m (length (now word)) ≤ length (now run)) × Ways m (now list) (now ways) ⌝ }
+    ensures { λ r. ⌜ Written m (now (list .entry)) (now (word .entry)) r (now (run .entry)) (now (run .exit)) ⌝ }
+{
+    let mut t = all_places();
+    let mut ends = all_ends();
+    let mut left: [u16; 256] = [0; 256];
+    let mut emptied = all_rows();
+    let mut stored = all_rows();
+    write_with(
+        m,
+        list,
+        ways,
+        word,
+        &mut t,
+        &mut ends,
+        &mut left,
+        &mut emptied,
+        &mut stored,
+        run,
+    )
+}
+
+// write_run for a word of at most 63 letters.
+fn write_medium(m: Machine, list: &[u16], ways: &[u16], word: &[u8], run: &mut [u16]) -> usize
+    requires { ⌜ (wellFormed m (now list) ≡ true) × (length (now word) ≤ 63) × (accepted m (now list) (now word) ≡ true) × (runBound m (length (now word)) ≤ length (now run)) × Ways m (now list) (now ways) ⌝ }
+    ensures { λ r. ⌜ Written m (now (list .entry)) (now (word .entry)) r (now (run .entry)) (now (run .exit)) ⌝ }
+{
+    let mut t = some_places();
+    let mut ends = some_ends();
+    let mut left: [u16; 64] = [0; 64];
+    let mut emptied = some_rows();
+    let mut stored = some_rows();
+    write_with(
+        m,
+        list,
+        ways,
+        word,
+        &mut t,
+        &mut ends,
+        &mut left,
+        &mut emptied,
+        &mut stored,
+        run,
+    )
+}
+
+// write_run for a word of at most 15 letters.
+fn write_short(m: Machine, list: &[u16], ways: &[u16], word: &[u8], run: &mut [u16]) -> usize
+    requires { ⌜ (wellFormed m (now list) ≡ true) × (length (now word) ≤ 15) × (accepted m (now list) (now word) ≡ true) × (runBound m (length (now word)) ≤ length (now run)) × Ways m (now list) (now ways) ⌝ }
+    ensures { λ r. ⌜ Written m (now (list .entry)) (now (word .entry)) r (now (run .entry)) (now (run .exit)) ⌝ }
+{
+    let mut t = few_places();
+    let mut ends = few_ends();
+    let mut left: [u16; 16] = [0; 16];
+    let mut emptied = few_rows();
+    let mut stored = few_rows();
+    write_with(
+        m,
+        list,
+        ways,
+        word,
+        &mut t,
+        &mut ends,
+        &mut left,
+        &mut emptied,
+        &mut stored,
+        run,
+    )
+}
+
+// write_run with the index of the transitions lent, in tables that are no larger than the word needs.
+fn write_indexed(m: Machine, list: &[u16], ways: &mut [u16], word: &[u8], run: &mut [u16]) -> usize
+    requires { ⌜ (wellFormed m (now list) ≡ true) × (length (now word) ≤ 255) × (accepted m (now list) (now word) ≡ true) × (runBound m (length (now word)) ≤ length (now run))
+        × (578 + m .transitions ≤ length (now ways)) ⌝ }
+    ensures { λ r. ⌜ Written m (now (list .entry)) (now (word .entry)) r (now (run .entry)) (now (run .exit)) ⌝ }
+{
+    ways::index(m, list, ways);
+    if word.len() < 16 {
+        return write_short(m, list, &*ways, word, run);
+    }
+    if word.len() < 64 {
+        return write_medium(m, list, &*ways, word, run);
+    }
+    write_long(m, list, &*ways, word, run)
+}
+
 // Writes an accepting run of a word that the machine accepts to the front of the slice, and hands back the number of its entries.
 // No accepting run has fewer. What stands after it is as it was. Which of the runs with as few it is, the contract leaves open.
-// Time: the transitions for each stretch of the word that may be stored, and for each letter of a second half that matches its first.
-// Memory: 133 KB of stack for a word of more than 15 letters, else 9 KB.
+// Time: the transitions of one letter for each position, and for each stretch that stands twice in a row or may lead to one. Memory:
+// by the sizes of its tables 180 KB of stack for a word of more than 63 letters, 52 KB for one of more than 15, else 20 KB.
 pub fn write_run(m: Machine, list: &[u16], word: &[u8], run: &mut [u16]) -> usize
     requires { ⌜ (wellFormed m (now list) ≡ true) × (length (now word) ≤ 255) × (accepted m (now list) (now word) ≡ true) × (runBound m (length (now word)) ≤ length (now run)) ⌝ }
     ensures { λ r. ⌜ Written m (now (list .entry)) (now (word .entry)) r (now (run .entry)) (now (run .exit)) ⌝ }
 {
-    if word.len() < 16 {
-        let mut t = few_places();
-        let mut emptied = few_rows();
-        let mut stored = few_rows();
-        return write_with(m, list, word, &mut t, &mut emptied, &mut stored, run);
+    if m.transitions <= 62 {
+        let mut ways: [u16; 640] = [0; 640];
+        return write_indexed(m, list, &mut ways, word, run);
     }
-    let mut t = all_places();
-    let mut emptied = all_rows();
-    let mut stored = all_rows();
-    write_with(m, list, word, &mut t, &mut emptied, &mut stored, run)
+    let mut ways: [u16; 4578] = [0; 4578];
+    write_indexed(m, list, &mut ways, word, run)
 }

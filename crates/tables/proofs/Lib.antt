@@ -1,1 +1,3 @@
-pub mod TableCases
+pub mod CopyCases
+pub mod FillCases
+pub mod HalvesCases

@@ -4,16 +4,25 @@
 -- PlaceRows m list w t p      == the rows p × 3, p × 3 + 1, p × 3 + 2 of t are those of position p: normal, buffering, emptying, the buffer empty
 -- EmptyRow m list w e r row   == the row of emptying mode at e - r, with the r letters that stand before e still in the buffer
 -- BufferRow m list w i d row  == the row of buffering mode at i + d, with the d letters from i on in the buffer
--- Halves w i d                == the d letters from i on stand a second time after themselves
--- Matched w i d r             == r says whether Halves holds
+-- Told layer                  == where a layer is not live, its row is blank
+-- EmptyLayer, BufferLayer     == EmptyRow and BufferRow of a layer, and Told
+-- ChangeLayer m list w i d layer == the same of emptying mode at i + d, with the d letters from i on in the buffer
 -- EmptyingRows, BufferingRows == all rows of a copy: of its second half, of its first half
--- EmptiedRow                  == the row after the change of mode
--- Skipped m list w i d ..     == the rows of the buffers longer than d are there, and that of d + 1 letters is blank
--- Sized w t emptied stored    == the tables are long enough for the word
+-- BlankFrom m list w e k      == the rows of the copies that end at e are blank from k letters on
+-- Wound m list w e d tail     == the row of the copies that end at e with d letters left, or from where on their rows are blank
+-- EndRow m list w e row k     == row is that of the copies that end at e with k letters left; 256 + k: from k letters on they are blank
+-- Ends m list w p ends left   == ends and left say this of every end from p on
+-- Idle w i left k             == no copy of the k letters from i on goes on: they do not stand there twice, or left says that its end is blank
+-- Skipped w i d left r        == those of r + 1, .., d letters are idle
+-- EndedRow, ChangedRow, StoredRow, StoringRow == what ended_row, change_row, stored_row and storing_row hand back
+-- Sizes w t ends left         == the tables that rows are filled into are long enough for the word
+-- Sized w t emptied stored    == the tables that a run is walked with are long enough for the word
 -- putPlace t p place          == the table with the rows of position p put in
--- FilledPlace, Filled         == position p has its rows; the positions from p on have theirs
+-- Filling m list w p t ends left counts live == the positions from p on have their rows, and what the position before p needs is there
+-- Filled m list w t           == every position has its rows
 use Prim.Native.Nat.{ℕ, _+_, _-_, _*_, _/_, _≤_, _<_}
 use mathlib.Core.Path.{_≡_}
+use mathlib.Core.Logic.{_⊎_}
 use mathlib.Core.Bool.{Bool, true, false}
 use mathlib.Core.List.{List, [], _∷_}
 use lib.ListN.{length, getD, drop, set}
@@ -21,8 +30,11 @@ use lib.Seq.{slice}
 use Rattle.fsbm.specs.declared.machine.Machine.{Machine}
 use Rattle.fsbm.specs.declared.config.Mode.the-variants.{Normal, Buffering, Emptying}
 use Rattle.layers.specs.Costs.{RowBest}
-use Rattle.layers.specs.Layers.{blankRow, PlaceBest}
+use Rattle.layers.specs.Layers.{blankRow, BufferingLayer, PlaceBest}
+use Rattle.layers.specs.declared.layer.Layer.{Layer}
 use Rattle.layers.specs.declared.layer.Place.{Place}
+use Rattle.tables.specs.Halves.{Halves, SharedFrom}
+use Rattle.tables.specs.declared.copy.Tail.{Tail}
 pub mod Laws
 
 abbrev pub rowAt : List (List ℕ) → ℕ → List ℕ
@@ -37,34 +49,77 @@ EmptyRow m list w e r row = RowBest m list (drop (e - r) w) (slice (e - r) e w) 
 unfoldable pub BufferRow : Machine → List ℕ → List ℕ → ℕ → ℕ → List ℕ → Type 0
 BufferRow m list w i d row = RowBest m list (drop (i + d) w) (slice i (i + d) w) Buffering row
 
-abbrev pub Halves : List ℕ → ℕ → ℕ → Type 0
-Halves w i d = (k : ℕ) → k < d → getD w (i + k) 0 ≡ getD w (i + d + k) 0
-
-pub record Matched (w : List ℕ) (i d : ℕ) (r : Bool) : Type 0 where
-  pub equal : r ≡ true → Halves w i d
-  pub unequal : r ≡ false → Halves w i d → ⊥
-
 pub record EmptyingRows (m : Machine) (list w : List ℕ) (e d : ℕ) (rows rows′ : List (List ℕ)) : Type 0 where
   pub size : length rows′ ≡ length rows
   pub each : (r : ℕ) → r ≤ d → EmptyRow m list w e r (rowAt rows′ r)
 
-pub record EmptiedRow (m : Machine) (list w : List ℕ) (i d : ℕ) (rows rows′ : List (List ℕ)) (row : List ℕ) : Type 0 where
-  pub size : length rows′ ≡ length rows
-  pub best : RowBest m list (drop (i + d) w) (slice i (i + d) w) Emptying row
-
-pub record Skipped (m : Machine) (list w : List ℕ) (i d : ℕ) (stored stored′ : List (List ℕ)) : Type 0 where
-  pub inside : i + d + d ≤ length w
+pub record BufferingRows (m : Machine) (list w : List ℕ) (i : ℕ) (stored stored′ : List (List ℕ)) : Type 0 where
   pub size : length stored′ ≡ length stored
-  pub each : (k : ℕ) → d < k → i + k + k ≤ length w → BufferRow m list w i k (rowAt stored′ k)
-  pub next : BufferRow m list w i (d + 1) blankRow
-
-pub record BufferingRows (m : Machine) (list w : List ℕ) (i : ℕ) (stored stored′ emptied emptied′ : List (List ℕ)) (row : List ℕ) : Type 0 where
-  pub size : length stored′ ≡ length stored
-  pub other-size : length emptied′ ≡ length emptied
   pub each : (d : ℕ) → 0 < d → i + d + d ≤ length w → BufferRow m list w i d (rowAt stored′ d)
-  pub first : BufferRow m list w i 1 row
 
--- the tables are long enough for the word
+abbrev pub Told : Layer → Type 0
+Told layer = layer .live ≡ false → layer .row ≡ blankRow
+
+pub record EmptyLayer (m : Machine) (list w : List ℕ) (e r : ℕ) (layer : Layer) : Type 0 where
+  pub best : EmptyRow m list w e r (layer .row)
+  pub told : Told layer
+
+pub record BufferLayer (m : Machine) (list w : List ℕ) (i d : ℕ) (layer : Layer) : Type 0 where
+  pub best : BufferRow m list w i d (layer .row)
+  pub told : Told layer
+
+-- the row after the change of mode, at i + d with the d letters from i on in the buffer
+pub record ChangeLayer (m : Machine) (list w : List ℕ) (i d : ℕ) (layer : Layer) : Type 0 where
+  pub best : RowBest m list (drop (i + d) w) (slice i (i + d) w) Emptying (layer .row)
+  pub told : Told layer
+
+abbrev pub BlankFrom : Machine → List ℕ → List ℕ → ℕ → ℕ → Type 0
+BlankFrom m list w e k = (r : ℕ) → k ≤ r → r ≤ e → EmptyRow m list w e r blankRow
+
+pub record Wound (m : Machine) (list w : List ℕ) (e d : ℕ) (tail : Tail) : Type 0 where
+  pub whole : tail .live ≡ true → (tail .left ≡ d) × EmptyRow m list w e d (tail .row)
+  pub inside : tail .left ≤ d
+  pub blank : tail .live ≡ false → BlankFrom m list w e (tail .left)
+
+pub record EndRow (m : Machine) (list w : List ℕ) (e : ℕ) (row : List ℕ) (k : ℕ) : Type 0 where
+  pub best : k < 256 → (k ≤ e) × EmptyRow m list w e k row
+  pub blank : 256 ≤ k → BlankFrom m list w e (k - 256)
+
+pub record Ends (m : Machine) (list w : List ℕ) (p : ℕ) (ends : List (List ℕ)) (left : List ℕ) : Type 0 where
+  pub rows : length w < length ends
+  pub counts : length w < length left
+  pub each : (e : ℕ) → p ≤ e → e ≤ length w → EndRow m list w e (rowAt ends e) (getD left e 0)
+
+abbrev pub Idle : List ℕ → ℕ → List ℕ → ℕ → Type 0
+Idle w i left k = (Halves w i k → ⊥) ⊎ (Halves w i k × (256 ≤ getD left (i + k + k) 0) × (getD left (i + k + k) 0 ≤ 256 + k))
+
+pub record Skipped (w : List ℕ) (i d : ℕ) (left : List ℕ) (r : ℕ) : Type 0 where
+  pub within : r ≤ d
+  pub idle : (k : ℕ) → r < k → k ≤ d → Idle w i left k
+
+pub record EndedRow (m : Machine) (list w : List ℕ) (e d : ℕ) (ends ends′ : List (List ℕ)) (left left′ : List ℕ) (layer : Layer) : Type 0 where
+  pub row : EmptyLayer m list w e d layer
+  pub kept : (p : ℕ) → Ends m list w p ends left → Ends m list w p ends′ left′
+
+pub record ChangedRow (m : Machine) (list w : List ℕ) (i d : ℕ) (ends : List (List ℕ)) (left : List ℕ) (layer : Layer) : Type 0 where
+  pub row : ChangeLayer m list w i d layer
+  pub ending : Ends m list w (i + 1) ends left
+
+pub record StoredRow (m : Machine) (list : List ℕ) (x : ℕ) (next change layer : Layer) : Type 0 where
+  pub best : Told next → Told change → BufferingLayer m list x (next .row) (change .row) (layer .row)
+  pub told : Told next → Told layer
+
+pub record StoringRow (m : Machine) (list w : List ℕ) (i : ℕ) (ends : List (List ℕ)) (left : List ℕ) (layer : Layer) : Type 0 where
+  pub row : BufferLayer m list w i 1 layer
+  pub ending : Ends m list w (i + 1) ends left
+
+-- the tables that rows are filled into are long enough for the word
+pub record Sizes (w : List ℕ) (t ends : List (List ℕ)) (left : List ℕ) : Type 0 where
+  pub places : length w * 3 + 3 ≤ length t
+  pub rows : length w < length ends
+  pub counts : length w < length left
+
+-- the tables that a run is walked with are long enough for the word
 pub record Sized (w : List ℕ) (t emptied stored : List (List ℕ)) : Type 0 where
   pub places : length w * 3 + 3 ≤ length t
   pub emptied-rows : length w / 2 < length emptied
@@ -73,15 +128,14 @@ pub record Sized (w : List ℕ) (t emptied stored : List (List ℕ)) : Type 0 wh
 abbrev pub putPlace : List (List ℕ) → ℕ → Place → List (List ℕ)
 putPlace t p place = set (set (set t (p * 3) (place .normal)) (p * 3 + 1) (place .buffering)) (p * 3 + 2) (place .emptying)
 
-pub record FilledPlace (m : Machine) (list w : List ℕ) (p : ℕ) (t t′ emptied emptied′ stored stored′ : List (List ℕ)) : Type 0 where
-  pub size : length t′ ≡ length t
-  pub emptied-size : length emptied′ ≡ length emptied
-  pub stored-size : length stored′ ≡ length stored
-  pub here : PlaceRows m list w t′ p
-  pub after : (k : ℕ) → p < k → PlaceRows m list w t k → PlaceRows m list w t′ k
+-- the positions from p on have their rows; ends and left stand for the copies that end there, counts for the letters from p on;
+-- where live is false, no state of position p goes on in normal mode
+pub record Filling (m : Machine) (list w : List ℕ) (p : ℕ) (t ends : List (List ℕ)) (left counts : List ℕ) (live : Bool) : Type 0 where
+  pub places : length w * 3 + 3 ≤ length t
+  pub each : (k : ℕ) → p ≤ k → k ≤ length w → PlaceRows m list w t k
+  pub ending : Ends m list w p ends left
+  pub counted : SharedFrom w p counts
+  pub dead : live ≡ false → rowAt t (p * 3) ≡ blankRow
 
-pub record Filled (m : Machine) (list w : List ℕ) (p : ℕ) (t t′ emptied emptied′ stored stored′ : List (List ℕ)) : Type 0 where
-  pub size : length t′ ≡ length t
-  pub emptied-size : length emptied′ ≡ length emptied
-  pub stored-size : length stored′ ≡ length stored
-  pub each : (k : ℕ) → p ≤ k → k ≤ length w → PlaceRows m list w t′ k
+abbrev pub Filled : Machine → List ℕ → List ℕ → List (List ℕ) → Type 0
+Filled m list w t = (p : ℕ) → p ≤ length w → PlaceRows m list w t p

@@ -1,140 +1,19 @@
-// The tables of rows that a run is written from: for every position and every mode, the buffer empty; and for the copies that begin
-// at one position.
+// The table of rows of every position: for each the three modes, the buffer empty.
 ghost use Prim.Native.Nat.{ℕ, _+_, _*_, _≤_, _<_, _/_};
 ghost use mathlib.Core.Path.{_≡_};
 ghost use mathlib.Core.Bool.{Bool, true, false};
 ghost use mathlib.Core.List.{List, []};
-ghost use lib.ListN.{length, getD, set, drop};
-ghost use lib.Seq.{slice};
+ghost use lib.ListN.{length, getD, set};
 ghost use Rattle.fsbm.specs.Machine.{wellFormed};
-ghost use Rattle.fsbm.specs.declared.machine.Machine.{Machine};
-ghost use Rattle.fsbm.specs.declared.config.Mode.the-variants.{Emptying};
-ghost use Rattle.layers.specs.Costs.{RowBest};
-ghost use Rattle.tables.specs.Tables.{PlaceRows, EmptyRow, BufferRow, Matched, EmptyingRows, BufferingRows, EmptiedRow, Skipped, FilledPlace, Filled, putPlace, Sized};
+ghost use Rattle.layers.specs.Ways.{Ways};
+ghost use Rattle.layers.specs.Layers.{blankRow};
+ghost use Rattle.tables.specs.Halves.{SharedFrom};
+ghost use Rattle.tables.specs.Tables.{PlaceRows, putPlace, Sizes, Filling, Filled};
+use crate::copy;
+use crate::halves;
 use fsbm::machine::Machine;
 use layers::layer;
 use layers::layer::Place;
-
-// Row i of a table.
-pub fn load(t: &[[u16; 64]], i: usize) -> [u16; 64]
-    requires { ⌜ i < length (now t) ⌝ }
-    ensures { λ r. ⌜ r ≡ getD (now (t .entry)) i [] ⌝ }
-{
-    t[i]
-}
-
-fn save(t: &mut [[u16; 64]], i: usize, row: [u16; 64])
-    requires { ⌜ i < length (now t) ⌝ }
-    ensures { λ r. ⌜ now (t .exit) ≡ set (now (t .entry)) i row ⌝ }
-{
-    t[i] = row;
-}
-
-// Fills the rows 0 to d of the copies whose second half ends at e; `last` is the row at e, the buffer empty.
-pub fn emptying_rows(
-    m: Machine,
-    list: &[u16],
-    word: &[u8],
-    last: [u16; 64],
-    e: usize,
-    d: usize,
-    rows: &mut [[u16; 64]],
-)
-    requires { ⌜ (wellFormed m (now list) ≡ true) × (d ≤ e) × (e ≤ length (now word)) × (d < length (now rows)) × EmptyRow m (now list) (now word) e 0 last ⌝ }
-    ensures { λ r. ⌜ EmptyingRows m (now (list .entry)) (now (word .entry)) e d (now (rows .entry)) (now (rows .exit)) ⌝ }
-{
-    let mut row = last;
-    save(rows, 0, row);
-    let mut r: usize = 0;
-    while r < d {
-        r += 1;
-        let x = word[e - r] as u16;
-        row = layer::emptying_layer(m, list, x, &row);
-        save(rows, r, row);
-    }
-}
-
-// Whether the d letters from i on stand a second time after themselves.
-fn halves_match(word: &[u8], i: usize, d: usize) -> bool
-    requires { ⌜ i + d + d ≤ length (now word) ⌝ }
-    ensures { λ r. ⌜ Matched (now (word .entry)) i d r ⌝ }
-{
-    let mut k: usize = 0;
-    while k < d {
-        if word[i + k] != word[i + d + k] {
-            return false;
-        }
-        k += 1;
-    }
-    true
-}
-
-// The row of emptying mode at i + d with the d letters from i on in the buffer.
-fn emptied_row(
-    m: Machine,
-    list: &[u16],
-    word: &[u8],
-    t: &[[u16; 64]],
-    i: usize,
-    d: usize,
-    emptied: &mut [[u16; 64]],
-) -> [u16; 64]
-    requires { ⌜ (wellFormed m (now list) ≡ true) × (i + d + d ≤ length (now word)) × (d < length (now emptied)) × (length (now word) * 3 + 3 ≤ length (now t))
-        × PlaceRows m (now list) (now word) (now t) (i + d + d) ⌝ }
-    ensures { λ r. ⌜ EmptiedRow m (now (list .entry)) (now (word .entry)) i d (now (emptied .entry)) (now (emptied .exit)) r ⌝ }
-{
-    if !halves_match(word, i, d) {
-        return layer::blank();
-    }
-    let e = i + d + d;
-    let last = load(t, e * 3 + 2);
-    emptying_rows(m, list, word, last, e, d, emptied);
-    load(emptied, d)
-}
-
-// The largest d such that the d letters from i on stand a second time after themselves, 0 where there is none. The rows of longer
-// buffers are blank.
-fn skip_unmatched(word: &[u8], i: usize, stored: &mut [[u16; 64]]) -> usize
-    requires { ⌜ (i < length (now word)) × (length (now word) / 2 < length (now stored)) ⌝ }
-    ensures { λ r. ⌜ ((m : Machine) (list : List ℕ) → wellFormed m list ≡ true → Skipped m list (now (word .entry)) i r (now (stored .entry)) (now (stored .exit))) ⌝ }
-{
-    let row = layer::blank();
-    let mut d: usize = (word.len() - i) / 2;
-    while 0 < d {
-        if halves_match(word, i, d) {
-            return d;
-        }
-        save(stored, d, row);
-        d -= 1;
-    }
-    d
-}
-
-// Fills the rows 1, 2, .. of the copies that begin at i, and hands back row 1.
-pub fn buffering_rows(
-    m: Machine,
-    list: &[u16],
-    word: &[u8],
-    t: &[[u16; 64]],
-    i: usize,
-    emptied: &mut [[u16; 64]],
-    stored: &mut [[u16; 64]],
-) -> [u16; 64]
-    requires { ⌜ (wellFormed m (now list) ≡ true) × (i < length (now word)) × Sized (now word) (now t) (now emptied) (now stored)
-        × ((p : ℕ) → i < p → p ≤ length (now word) → PlaceRows m (now list) (now word) (now t) p) ⌝ }
-    ensures { λ r. ⌜ BufferingRows m (now (list .entry)) (now (word .entry)) i (now (stored .entry)) (now (stored .exit)) (now (emptied .entry)) (now (emptied .exit)) r ⌝ }
-{
-    let mut row = layer::blank();
-    let mut d = skip_unmatched(word, i, stored);
-    while 0 < d {
-        let x = word[i + d] as u16;
-        let change = emptied_row(m, list, word, t, i, d, emptied);
-        row = layer::buffering_layer(m, list, x, &row, &change);
-        save(stored, d, row);
-        d -= 1;
-    }
-    row
-}
 
 // Puts the rows of position p into the table.
 fn put_place(t: &mut [[u16; 64]], p: usize, place: Place)
@@ -144,53 +23,111 @@ fn put_place(t: &mut [[u16; 64]], p: usize, place: Place)
     let normal = place.normal;
     let buffering = place.buffering;
     let emptying = place.emptying;
-    save(t, p * 3, normal);
-    save(t, p * 3 + 1, buffering);
-    save(t, p * 3 + 2, emptying);
+    copy::save(t, p * 3, normal);
+    copy::save(t, p * 3 + 1, buffering);
+    copy::save(t, p * 3 + 2, emptying);
 }
 
-// Fills the rows of position p from those of the positions after it.
+// Puts the rows of position p into the table, and has the copies that end there begin with them. It hands back whether normal mode
+// goes on from there.
+fn place_rows(
+    p: usize,
+    place: Place,
+    t: &mut [[u16; 64]],
+    ends: &mut [[u16; 64]],
+    left: &mut [u16],
+) -> bool
+    requires { ⌜ (p * 3 + 3 ≤ length (now t)) × (p < length (now ends)) × (p < length (now left)) ⌝ }
+    ensures { λ r. ⌜ (r ≡ place .live) × (now (t .exit) ≡ putPlace (now (t .entry)) p place) × (now (ends .exit) ≡ set (now (ends .entry)) p (place .emptying)) × (now (left .exit) ≡ set (now (left .entry)) p 0) ⌝ }
+{
+    put_place(t, p, place);
+    let emptying = place.emptying;
+    copy::save(ends, p, emptying);
+    left[p] = 0;
+    place.live
+}
+
+// Puts blank rows for position p into the table, and has the copies that end there be blank.
+fn place_blank(p: usize, t: &mut [[u16; 64]], left: &mut [u16])
+    requires { ⌜ (p * 3 + 3 ≤ length (now t)) × (p < length (now left)) ⌝ }
+    ensures { λ r. ⌜ (now (t .exit) ≡ putPlace (now (t .entry)) p (record { live = false; normal = blankRow; buffering = blankRow; emptying = blankRow })) × (now (left .exit) ≡ set (now (left .entry)) p 256) ⌝ }
+{
+    let none = layer::blank();
+    copy::save(t, p * 3, none);
+    copy::save(t, p * 3 + 1, none);
+    copy::save(t, p * 3 + 2, none);
+    left[p] = 256;
+}
+
+// Fills the rows of the end of the word.
+fn fill_end(
+    m: Machine,
+    list: &[u16],
+    ways: &[u16],
+    word: &[u8],
+    t: &mut [[u16; 64]],
+    ends: &mut [[u16; 64]],
+    left: &mut [u16],
+) -> bool
+    requires { ⌜ (wellFormed m (now list) ≡ true) × Ways m (now list) (now ways) × Sizes (now word) (now t) (now ends) (now left) ⌝ }
+    ensures { λ r. ⌜ ((counts : List ℕ) → SharedFrom (now (word .entry)) (length (now (word .entry))) counts
+        → Filling m (now (list .entry)) (now (word .entry)) (length (now (word .entry))) (now (t .exit)) (now (ends .exit)) (now (left .exit)) counts r) ⌝ }
+{
+    let none = layer::blank();
+    let end = layer::place_layer(m, list, ways, true, 0, &none, &none);
+    place_rows(word.len(), end, t, ends, left)
+}
+
+// Fills the rows of position p from those of the positions after it; live says whether normal mode goes on from p + 1. It hands
+// back whether it does from p.
 fn fill_place(
     m: Machine,
     list: &[u16],
+    ways: &[u16],
     word: &[u8],
     p: usize,
+    live: bool,
     t: &mut [[u16; 64]],
-    emptied: &mut [[u16; 64]],
-    stored: &mut [[u16; 64]],
-)
-    requires { ⌜ (wellFormed m (now list) ≡ true) × (p ≤ length (now word)) × Sized (now word) (now t) (now emptied) (now stored)
-        × ((k : ℕ) → p < k → k ≤ length (now word) → PlaceRows m (now list) (now word) (now t) k) ⌝ }
-    ensures { λ r. ⌜ FilledPlace m (now (list .entry)) (now (word .entry)) p (now (t .entry)) (now (t .exit)) (now (emptied .entry)) (now (emptied .exit)) (now (stored .entry)) (now (stored .exit)) ⌝ }
+    ends: &mut [[u16; 64]],
+    left: &mut [u16],
+    counts: &mut [u16; 128],
+) -> bool
+    requires { ⌜ (wellFormed m (now list) ≡ true) × Ways m (now list) (now ways) × (p < length (now word)) × (length (now word) ≤ 255)
+        × Filling m (now list) (now word) (p + 1) (now t) (now ends) (now left) (now counts) live ⌝ }
+    ensures { λ r. ⌜ Filling m (now (list .entry)) (now (word .entry)) p (now (t .exit)) (now (ends .exit)) (now (left .exit)) (now (counts .exit)) r ⌝ }
 {
-    if p == word.len() {
-        let none = layer::blank();
-        let end = layer::place_layer(m, list, true, 0, &none, &none);
-        put_place(t, p, end);
-        return;
+    halves::count_shared(word, p, counts);
+    let storing = copy::storing_row(m, list, ways, word, &*t, p, &*counts, ends, left);
+    if !live {
+        if !storing.live {
+            place_blank(p, t, left);
+            return false;
+        }
     }
-    let storing = buffering_rows(m, list, word, &*t, p, emptied, stored);
-    let onward = load(t, (p + 1) * 3);
+    let onward = copy::load(t, (p + 1) * 3);
     let x = word[p] as u16;
-    let place = layer::place_layer(m, list, false, x, &onward, &storing);
-    put_place(t, p, place);
+    let place = layer::place_layer(m, list, ways, false, x, &onward, &storing.row);
+    place_rows(p, place, t, ends, left)
 }
 
 // Fills the rows of every position.
 pub fn fill(
     m: Machine,
     list: &[u16],
+    ways: &[u16],
     word: &[u8],
     t: &mut [[u16; 64]],
-    emptied: &mut [[u16; 64]],
-    stored: &mut [[u16; 64]],
+    ends: &mut [[u16; 64]],
+    left: &mut [u16],
 )
-    requires { ⌜ (wellFormed m (now list) ≡ true) × Sized (now word) (now t) (now emptied) (now stored) ⌝ }
-    ensures { λ r. ⌜ Filled m (now (list .entry)) (now (word .entry)) 0 (now (t .entry)) (now (t .exit)) (now (emptied .entry)) (now (emptied .exit)) (now (stored .entry)) (now (stored .exit)) ⌝ }
+    requires { ⌜ (wellFormed m (now list) ≡ true) × Ways m (now list) (now ways) × (length (now word) ≤ 255) × Sizes (now word) (now t) (now ends) (now left) ⌝ }
+    ensures { λ r. ⌜ Filled m (now (list .entry)) (now (word .entry)) (now (t .exit)) ⌝ }
 {
-    let mut p = word.len() + 1;
+    let mut counts: [u16; 128] = [0; 128];
+    let mut live = fill_end(m, list, ways, word, t, ends, left);
+    let mut p = word.len();
     while 0 < p {
         p -= 1;
-        fill_place(m, list, word, p, t, emptied, stored);
+        live = fill_place(m, list, ways, word, p, live, t, ends, left, &mut counts);
     }
 }

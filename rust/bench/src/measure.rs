@@ -25,3 +25,19 @@ pub fn best_of_both<A, B>(
     }
     (best_first, best_second)
 }
+
+/// The least time in seconds of up to `most` calls. The first call is always made; a further one only if a call as long
+/// as the least so far ends within `budget` seconds.
+pub fn least_within<A>(most: usize, budget: f64, mut call: impl FnMut() -> A) -> f64 {
+    let begin = Instant::now();
+    let mut least = f64::INFINITY;
+    for number in 0..most {
+        if number > 0 && begin.elapsed().as_secs_f64() + least > budget {
+            break;
+        }
+        let start = Instant::now();
+        black_box(call());
+        least = least.min(start.elapsed().as_secs_f64());
+    }
+    least
+}

@@ -12,6 +12,9 @@ const NORMAL: usize = 0;
 const STORING: usize = 1;
 const EMPTYING: usize = 2;
 
+/// With so many rows or fewer the halves of a copy are compared letter by letter, each time anew.
+const FEW: usize = 8;
+
 /// The states reached at a position in normal mode: by a letter, by the end of a copy that has letters, and in all.
 #[derive(Clone, Copy)]
 struct Reached {
@@ -46,8 +49,9 @@ struct Search<'a> {
     reached: Vec<Reached>,
     rows: Vec<Row>,
     sets: Vec<u64>,
-    /// `same[h]` is the number of letters before the position that are each equal to the letter h before it.
+    /// `same[h]` is the number of letters before the position `compared` that are each equal to the letter h before it.
     same: [u16; 256],
+    compared: usize,
     /// Working space of a path.
     layers: Vec<[u64; 3]>,
 }
@@ -152,6 +156,7 @@ impl<'a> Search<'a> {
             rows: Vec::with_capacity(4),
             sets: Vec::with_capacity(word.len() + 2),
             same: [0; 256],
+            compared: 0,
             layers: Vec::with_capacity(4),
         }
     }
@@ -198,10 +203,22 @@ impl<'a> Search<'a> {
     /// the same.
     fn begins_emptying(&self, row: &Row, end: usize) -> u64 {
         let half = (end - row.start) / 2;
-        if half == 0 || half >= row.length || usize::from(self.same[half]) < half {
+        if half == 0 || half >= row.length {
             return 0;
         }
-        self.sets[row.at + half] & self.matching
+        let set = self.sets[row.at + half] & self.matching;
+        if set == 0 || !self.same_halves(row.start, half, end) {
+            return 0;
+        }
+        set
+    }
+
+    /// Whether the two halves of the stretch are the same.
+    fn same_halves(&self, start: usize, half: usize, end: usize) -> bool {
+        if self.compared == end {
+            return usize::from(self.same[half]) >= half;
+        }
+        self.word[start..start + half] == self.word[start + half..end]
     }
 
     /// The set in which copies with letters end at the position.
@@ -241,8 +258,10 @@ impl<'a> Search<'a> {
                 0 => self.initial,
                 _ => self.read(NORMAL, self.reached[position - 1].normal, position - 1),
             };
-            if position > 0 && self.buffering != 0 {
-                self.compare(position);
+            if self.rows.len() > FEW {
+                while self.compared < position {
+                    self.compare(self.compared + 1);
+                }
             }
             let by_copy = self.copies_to(position);
             let normal = match by_letter | by_copy {
@@ -283,6 +302,7 @@ impl<'a> Search<'a> {
         for (same, &letter) in self.same[1..].iter_mut().zip(before) {
             *same = if letter == last { *same + 1 } else { 0 };
         }
+        self.compared = position;
     }
 
     /// The number of a transition.
@@ -387,10 +407,6 @@ impl<'a> Search<'a> {
 
     /// The entries of a copy that ends at the position in the state, the last first. Returns where it began.
     fn copy_back(&mut self, end: usize, state: usize, run: &mut Vec<u16>) -> (usize, usize) {
-        self.same.fill(0);
-        for position in 1..=end {
-            self.compare(position);
-        }
         // For each position the set that begins to empty there and the set that comes from the letter before.
         let half = end.div_ceil(2);
         let mut begins = vec![0; end + 1 - half];
@@ -465,5 +481,85 @@ impl<'a> Search<'a> {
             }
         }
         kept.into_iter().map(|(entry, _)| entry).collect()
+    }
+}
+
+#[cfg(test)]
+mod tests {
+    use super::recognize;
+    use compare::{break_a_rule, calls, filled, random_machine, random_word, record_of, Rng};
+    use zagvirk::Machine;
+
+    /// Compares both calls: the answer, the refusal and the length needed; a run of either accepts, stands at the front
+    /// of the slice, and the rest of the slice is as it was. Returns the refusal, or 100 for no and 101 for yes.
+    fn same(machine: &Machine, list: &[u16], word: &[u8], length: usize) -> usize {
+        let (mut proved_run, mut plain_run) = (filled(length), filled(length));
+        let proved = calls::recognize(machine, list, word, &mut proved_run);
+        let proved = proved.map_err(|refusal| (refusal.number(), refusal.needed()));
+        let plain = recognize(machine, list, word, &mut plain_run);
+        let input = || format!("{machine:?}\nlist {list:?}\nword {word:?}");
+        assert_eq!(
+            plain.map(|run| run.is_some()),
+            proved.map(|run| run.is_some()),
+            "{}",
+            input()
+        );
+        let entries = plain.ok().flatten().unwrap_or(0);
+        assert!(plain_run[entries..] == filled(length)[entries..]);
+        if let (Ok(Some(proved)), Ok(Some(plain))) = (proved, plain) {
+            for run in [&proved_run[..proved], &plain_run[..plain]] {
+                let checked = calls::check_run(machine, list, word, run);
+                assert_eq!(checked, Ok(true), "{}\nrun {run:?}", input());
+            }
+        }
+        match proved {
+            Ok(run) => 100 + usize::from(run.is_some()),
+            Err((number, _)) => usize::from(number),
+        }
+    }
+
+    /// The plain recognizer does all that the proved call does.
+    #[test]
+    fn same_as_the_proved_call() {
+        let mut rng = Rng::new(20_240_018);
+        let mut counts = [0; 102];
+        for _ in 0..20_000 {
+            let machine = random_machine(&mut rng, 6, 3);
+            let (record, list) = match rng.below(6) {
+                0 => break_a_rule(&mut rng, &machine),
+                _ => machine.record(),
+            };
+            let proved = record_of(&record);
+            for longest in [5, 12, 20] {
+                let mut word = random_word(&mut rng, machine.letters, longest);
+                if rng.once_in(10) {
+                    let bad = rng.pick(&[0, machine.letters as u8 + 1, 255]);
+                    word.insert(rng.below(word.len() + 1), bad);
+                }
+                if rng.once_in(100) {
+                    word.resize(rng.pick(&[256, 257, 1000]), 0);
+                }
+                let needed = 3 * machine.states() * (word.len() + 1);
+                let length = match rng.below(8) {
+                    0 => rng.below(needed),
+                    1 => needed + 1 + rng.below(9),
+                    _ => needed,
+                };
+                counts[same(&proved, &list, &word, length)] += 1;
+            }
+        }
+        println!(
+            "plain recognizer: {} cases, {} yes, {} no, refused with 16: {}, 9: {}, 8: {}, 17: {}",
+            counts.iter().sum::<u32>(),
+            counts[101],
+            counts[100],
+            counts[16],
+            counts[9],
+            counts[8],
+            counts[17]
+        );
+        for number in [8, 9, 16, 17, 100, 101] {
+            assert!(counts[number] > 100, "{number} is rare");
+        }
     }
 }

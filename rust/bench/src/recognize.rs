@@ -1,10 +1,21 @@
 //! Recognition of words.
 
-use crate::measure::{best_of_both, REPETITIONS};
+use crate::measure::{least_within, REPETITIONS};
 use crate::plain_recognize;
+use std::hint::black_box;
 use std::time::Instant;
 use zagvirk::recognize::{recognize, run_length};
 use zagvirk::{check_run, Machine};
+
+/// The most time in seconds for one row, but each row has at least one call of each.
+const BUDGET: f64 = 3.0;
+/// The time in seconds of a sample: as many rounds over the words as take so long, at least one.
+const SAMPLE: f64 = 0.005;
+/// The most rounds of a sample.
+const ROUNDS: f64 = 2000.0;
+/// The most calls to find the time of a single word, and the time in seconds that is enough for it.
+const CALLS: usize = 5;
+const ENOUGH: f64 = 0.02;
 
 /// Numbers that look random, the same in every run of the program.
 struct Numbers(u64);
@@ -112,8 +123,12 @@ fn dense() -> Table {
     Table::new("dense", 1, &marks, &moves)
 }
 
-/// Sixteen words of the kind.
+/// Words of the kind: sixteen, or of one letter as many as there are letters, up to sixteen.
 fn words(kind: &str, letters: usize, length: usize) -> Vec<Vec<u8>> {
+    if kind == "one letter" {
+        let letters = letters.min(16) as u8;
+        return (1..=letters).map(|letter| vec![letter; length]).collect();
+    }
     let mut numbers = Numbers(88_172_645_463_325_252);
     let mut any = |count: usize| -> Vec<u8> {
         (0..count)
@@ -126,7 +141,6 @@ fn words(kind: &str, letters: usize, length: usize) -> Vec<Vec<u8>> {
         let odd = any(length % 2);
         let mut square = [half.clone(), half, odd].concat();
         all.push(match kind {
-            "one letter" => vec![1; length],
             "nearly square" => {
                 let last = length - length % 2 - 1;
                 square[last] = 1 + square[last] % letters as u8;
@@ -151,93 +165,184 @@ fn words(kind: &str, letters: usize, length: usize) -> Vec<Vec<u8>> {
     all
 }
 
+/// The time of a single word.
+struct Single {
+    length: usize,
+    kind: &'static str,
+    yes: bool,
+    proved: f64,
+    plain: f64,
+}
+
 /// Prints the times of recognition.
 pub fn section() {
     println!(
-        "Recognition with a run. Words per second, best of {REPETITIONS} after a first one; a call"
+        "Recognition with a run. Words per second, best of up to {REPETITIONS} samples after a first pass, as many as"
     );
     println!(
-        "checks the machine and the word too. Ratio: time of the proved call / time of plain Rust."
+        "fit into {BUDGET} s for the row; a call checks the machine and the word too. Yes: of the words of the row,"
+    );
+    println!(
+        "as many as the first pass came to. Ratio: time of the proved call / time of plain Rust."
     );
     println!();
     println!(
-        "{:10} {:>7} {:14} {:>5} {:>11} {:>11} {:>6}",
+        "{:10} {:>7} {:14} {:>5} {:>11} {:>11} {:>7}",
         "table", "letters", "words", "yes", "proved", "plain", "ratio"
     );
-    for table in [table_t(), repeated(), zones(), dense()] {
+    let tables = [table_t(), repeated(), zones(), dense()];
+    let mut slowest = Vec::new();
+    for table in &tables {
+        let mut singles = Vec::new();
         for length in [8, 32, 254, 255] {
-            let kinds = ["mixed", "one letter", "nearly square"];
-            let kinds = if table.letters == 1 {
-                &kinds[1..2]
-            } else {
-                &kinds[..]
+            // Over one letter all words of a length are the same.
+            let kinds: &[&'static str] = match table.letters {
+                1 => &["one letter"],
+                _ => &["mixed", "one letter", "nearly square"],
             };
             for kind in kinds {
-                row(&table, length, kind);
+                let row = row(table, length, kind);
+                singles.extend(row.into_iter().filter(|single| single.length >= 254));
             }
         }
+        let single = singles
+            .into_iter()
+            .max_by(|a, b| a.proved.total_cmp(&b.proved));
+        slowest.push((table.name, single.expect("a long word")));
     }
     println!();
-    let zones = zones();
     println!(
-        "T is table T; repeated is T with a way back, doubled words one after another; \
-         60 states has 20 letters, {} transitions",
-        zones.machine.transitions
+        "The slowest of the measured words of 254 and 255 letters for the proved call. Milliseconds, best of up to {CALLS} calls."
     );
-    println!("and 10 copy zones; dense has 64 states, 4,000 transitions and one letter.");
+    println!();
+    println!(
+        "{:10} {:>7} {:14} {:>6} {:>10} {:>10} {:>7}",
+        "table", "letters", "word", "answer", "proved", "plain", "ratio"
+    );
+    for (name, single) in slowest {
+        println!(
+            "{name:10} {:7} {:14} {:>6} {:10.3} {:10.3} {:7.2}",
+            single.length,
+            single.kind,
+            if single.yes { "yes" } else { "no" },
+            1e3 * single.proved,
+            1e3 * single.plain,
+            single.proved / single.plain
+        );
+    }
+    println!();
+    println!(
+        "T is table T; repeated is T with a way back, doubled words one after another; 60 states has 20 letters,"
+    );
+    println!(
+        "{} transitions and 10 copy zones; dense has 64 states, {} transitions and one letter.",
+        tables[2].machine.transitions, tables[3].machine.transitions
+    );
 }
 
-/// Prints the row of a table and words of a length and a kind.
-fn row(table: &Table, length: usize, kind: &str) {
+/// Prints the row of a table and words of a length and a kind. Returns the times of its words.
+fn row(table: &Table, length: usize, kind: &'static str) -> Vec<Single> {
     let Table {
         name,
         machine,
         list,
         letters,
     } = table;
-    let words = words(kind, *letters, length);
+    let begin = Instant::now();
+    let left = || BUDGET - begin.elapsed().as_secs_f64();
+    let mut words = words(kind, *letters, length);
     let needed = run_length(machine, length);
     let (mut proved_run, mut plain_run) = (vec![0; needed], vec![0; needed]);
-    let mut yes = 0;
-    let begin = Instant::now();
+    // The first pass: each word alone, and whether the answers are the same and the runs accept.
+    let mut singles = Vec::new();
     for word in &words {
-        let proved = recognize(machine, list, word, &mut proved_run).expect("no refusal");
-        let plain = plain_recognize::recognize(machine, list, word, &mut plain_run);
+        if !singles.is_empty() && left() < 0.0 {
+            break;
+        }
+        let (mut proved, mut plain) = (Ok(None), Ok(None));
+        let proved_time = least_within(CALLS, ENOUGH, || {
+            proved = recognize(machine, list, word, &mut proved_run);
+        });
+        let plain_time = least_within(CALLS, ENOUGH, || {
+            plain = plain_recognize::recognize(machine, list, word, &mut plain_run);
+        });
+        let proved = proved.expect("no refusal");
         let plain = plain.expect("no refusal");
         assert_eq!(proved.is_some(), plain.is_some(), "{name} {word:?}");
         if let (Some(proved), Some(plain)) = (proved, plain) {
             for run in [&proved_run[..proved], &plain_run[..plain]] {
-                assert_eq!(
-                    check_run(machine, list, word, run),
-                    Ok(true),
-                    "{name} {word:?}"
-                );
+                let checked = check_run(machine, list, word, run);
+                assert_eq!(checked, Ok(true), "{name} {word:?}");
             }
-            yes += 1;
         }
+        singles.push(Single {
+            length,
+            kind,
+            yes: proved.is_some(),
+            proved: proved_time,
+            plain: plain_time,
+        });
     }
-    // As many rounds over the words as take about 10 ms by both together.
-    let once = begin.elapsed().as_secs_f64();
-    let rounds = (0.01 / once).clamp(1.0, 2000.0) as usize;
-    let (proved, plain) = best_of_both(
-        || {
-            for word in words.iter().cycle().take(rounds * words.len()) {
-                recognize(machine, list, word, &mut proved_run).expect("no refusal");
-            }
-        },
-        || {
-            for word in words.iter().cycle().take(rounds * words.len()) {
-                plain_recognize::recognize(machine, list, word, &mut plain_run)
-                    .expect("no refusal");
-            }
-        },
-    );
-    let count = (rounds * words.len()) as f64;
+    words.truncate(singles.len());
+    // Samples, each of one or more rounds over the words.
+    let mut proved: f64 = singles.iter().map(|single| single.proved).sum();
+    let mut plain: f64 = singles.iter().map(|single| single.plain).sum();
+    let rounds = |once: f64| (SAMPLE / once).clamp(1.0, ROUNDS).floor();
+    let (proved_rounds, plain_rounds) = (rounds(proved), rounds(plain));
+    let mut sample = || {
+        let start = Instant::now();
+        for word in words
+            .iter()
+            .cycle()
+            .take(proved_rounds as usize * words.len())
+        {
+            black_box(recognize(machine, list, word, &mut proved_run)).expect("no refusal");
+        }
+        let proved = start.elapsed().as_secs_f64() / proved_rounds;
+        let start = Instant::now();
+        for word in words
+            .iter()
+            .cycle()
+            .take(plain_rounds as usize * words.len())
+        {
+            black_box(plain_recognize::recognize(
+                machine,
+                list,
+                word,
+                &mut plain_run,
+            ))
+            .expect("no refusal");
+        }
+        (proved, start.elapsed().as_secs_f64() / plain_rounds)
+    };
+    for number in 0..REPETITIONS {
+        if left() < proved * proved_rounds + plain * plain_rounds {
+            break;
+        }
+        let (proved_sample, plain_sample) = sample();
+        if number == 0 {
+            (proved, plain) = (proved_sample, plain_sample);
+        }
+        proved = proved.min(proved_sample);
+        plain = plain.min(plain_sample);
+    }
+    let count = words.len() as f64;
+    let yes = singles.iter().filter(|single| single.yes).count();
     println!(
-        "{name:10} {length:7} {kind:14} {:>5} {:11.0} {:11.0} {:6.2}",
+        "{name:10} {length:7} {kind:14} {:>5} {:>11} {:>11} {:7.2}",
         format!("{yes}/{}", words.len()),
-        count / proved,
-        count / plain,
+        rate(count / proved),
+        rate(count / plain),
         proved / plain
     );
+    singles
+}
+
+/// The number with three digits or more.
+fn rate(number: f64) -> String {
+    match number {
+        100.0.. => format!("{number:.0}"),
+        10.0.. => format!("{number:.1}"),
+        _ => format!("{number:.2}"),
+    }
 }

@@ -2,8 +2,13 @@
 //! the inputs and print how many cases they compared.
 
 pub mod c;
+pub mod calls;
+pub mod kept;
 
+use kept::Kept;
 use reference::{Machine, Record, Refusal};
+use std::sync::atomic::{AtomicUsize, Ordering};
+use std::thread;
 use zagvirk::records;
 
 /// A pseudo-random generator (splitmix64).
@@ -38,6 +43,23 @@ impl Rng {
     pub fn pick<T: Copy>(&mut self, choices: &[T]) -> T {
         choices[self.below(choices.len())]
     }
+}
+
+/// The results for all items, each item once and in any order, by one thread for each processor.
+pub fn in_threads<T: Sync, R: Send>(items: &[T], find: impl Fn(&T) -> R + Sync) -> Vec<R> {
+    let next = AtomicUsize::new(0);
+    let some = || -> Vec<R> {
+        let items = std::iter::from_fn(|| items.get(next.fetch_add(1, Ordering::Relaxed)));
+        items.map(&find).collect()
+    };
+    let processors = thread::available_parallelism().map_or(1, usize::from);
+    thread::scope(|scope| {
+        let threads: Vec<_> = (0..processors).map(|_| scope.spawn(some)).collect();
+        let results = threads.into_iter().map(|thread| thread.join());
+        results
+            .flat_map(|found| found.expect("the comparison of each item"))
+            .collect()
+    })
 }
 
 /// What a lent slice of 16-bit numbers holds before a call: numbers that no call writes.
@@ -79,15 +101,17 @@ pub fn config_of(config: reference::Config) -> records::Config {
     }
 }
 
-/// A machine and a word ready for many comparisons: whether they are refused is found once.
+/// A machine and a word ready for many comparisons: whether they are refused is found once, and the list and the word
+/// are copied once. After every call the list, the word and the run are compared with their copies.
 pub struct Case<'a> {
     record: &'a Record,
     list: &'a [u16],
     word: &'a [u8],
     judged: Result<Machine, Refusal>,
     proved: zagvirk::Machine,
-    list_before: Vec<u16>,
-    word_before: Vec<u8>,
+    kept_list: Kept<u16>,
+    kept_word: Kept<u8>,
+    kept_run: Kept<u16>,
     /// The number of comparisons made.
     pub cases: u64,
 }
@@ -105,8 +129,9 @@ impl<'a> Case<'a> {
             word,
             judged,
             proved: record_of(record),
-            list_before: list.to_vec(),
-            word_before: word.to_vec(),
+            kept_list: Kept::new("list", list),
+            kept_word: Kept::new("word", word),
+            kept_run: Kept::new("run", &[]),
             cases: 0,
         }
     }
@@ -131,6 +156,7 @@ impl<'a> Case<'a> {
             config: config_of(next.unwrap_or(config)),
         };
         let found = records::step(&self.proved, self.list, self.word, config_of(config), entry);
+        self.same("step");
         if found != expected {
             panic!(
                 "step differs\n{}\nconfig {config:?}\nentry {entry}\nreference {expected:?}\nproved {found:?}",
@@ -151,7 +177,9 @@ impl<'a> Case<'a> {
             refusal: self.refusal(),
             accepting: u8::from(accepting),
         };
+        self.kept_run.again(run);
         let found = records::check_run(&self.proved, self.list, self.word, run);
+        self.same_with_run("check_run", run);
         if found != expected {
             let shown = &run[..run.len().min(200)];
             panic!(
@@ -161,14 +189,6 @@ impl<'a> Case<'a> {
             );
         }
         self.cases += 1;
-        accepting
-    }
-
-    /// Compares the run checker on one run and its copy before and after the call.
-    pub fn check_run_kept(&mut self, run: &[u16]) -> bool {
-        let before = run.to_vec();
-        let accepting = self.check_run(run);
-        assert!(before == run, "the run changed\n{}", self.input());
         accepting
     }
 
@@ -187,6 +207,7 @@ impl<'a> Case<'a> {
             end: config.end,
         };
         let found = zagvirk::step(&self.proved, self.list, self.word, typed, entry);
+        self.same("step");
         let found = found.map(|next| next.map(records::Config::from));
         let judged = self.judged.as_ref();
         let expected = judged.map(|machine| {
@@ -196,7 +217,10 @@ impl<'a> Case<'a> {
             found.map_err(|refusal| refusal.number()),
             expected.map_err(|refusal| refusal.number)
         );
+        self.kept_run.again(run);
         let found = zagvirk::check_run(&self.proved, self.list, self.word, run);
+        self.same_with_run("check_run", run);
+        let judged = self.judged.as_ref();
         let expected = judged.map(|machine| reference::moves::accepting(machine, self.word, run));
         assert_eq!(
             found.map_err(|refusal| refusal.number()),
@@ -205,19 +229,30 @@ impl<'a> Case<'a> {
         self.cases += 2;
     }
 
-    /// Asserts that the calls changed neither list nor word. Returns the number of comparisons made.
+    /// Panics if the call changed the list or the word.
+    fn same(&self, call: &str) {
+        let list = self.kept_list.change(self.list);
+        let word = self.kept_word.change(self.word);
+        if let Some(change) = list.or(word) {
+            panic!("{call}: {change}\nafter the call:\n{}", self.input());
+        }
+    }
+
+    /// Panics if the call changed the list, the word or the run.
+    fn same_with_run(&self, call: &str, run: &[u16]) {
+        self.same(call);
+        if let Some(change) = self.kept_run.change(run) {
+            panic!("{call}: {change}\n{}", self.input());
+        }
+    }
+
+    /// The number of comparisons made.
     pub fn finish(self) -> u64 {
         assert!(
-            self.list_before == self.list,
-            "the list changed\n{}",
+            self.proved == record_of(self.record),
+            "the record changed\n{}",
             self.input()
         );
-        assert!(
-            self.word_before == self.word,
-            "the word changed\n{}",
-            self.input()
-        );
-        assert!(self.proved == record_of(self.record));
         self.cases
     }
 

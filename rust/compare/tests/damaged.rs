@@ -26,10 +26,10 @@ fn refuses(record: &Record, list: &[u16], word: &[u8], number: u8) -> u64 {
     };
     case.step(odd, 7);
     case.wrappers(Config::initial(0), 65_533, &[0]);
-    case.check_run_kept(&[]);
-    case.check_run_kept(&[0]);
-    case.check_run_kept(&[0, 65_533, 0, 1, 65_534, 65_535]);
-    case.check_run_kept(&[65_535; 20]);
+    case.check_run(&[]);
+    case.check_run(&[0]);
+    case.check_run(&[0, 65_533, 0, 1, 65_534, 65_535]);
+    case.check_run(&[65_535; 20]);
     case.finish()
 }
 
@@ -163,7 +163,7 @@ fn limits_and_rubbish() {
                 let mut case = Case::new(&record, &long, word);
                 assert_eq!(case.refusal(), 0);
                 if let Some(run) = published::find_run(&folder.machine, word) {
-                    assert!(case.check_run_kept(&run));
+                    assert!(case.check_run(&run));
                 }
                 // An entry that names an element past the count names nothing.
                 let past = record.transitions as u16;
@@ -229,8 +229,8 @@ fn longest_words() {
     run.extend(half.iter().map(|&letter| 3 + u16::from(letter)));
     run.push(65_535);
     let mut case = Case::new(&record, &list, &word);
-    assert!(case.check_run_kept(&run));
-    assert!(!case.check_run_kept(&run[..run.len() - 1]));
+    assert!(case.check_run(&run));
+    assert!(!case.check_run(&run[..run.len() - 1]));
     for at in [
         0,
         1,
@@ -250,11 +250,11 @@ fn longest_words() {
             5 => 4,
             _ => 6,
         };
-        assert!(!case.check_run_kept(&damaged));
+        assert!(!case.check_run(&damaged));
     }
     let mut longer = run.clone();
     longer.push(65_535);
-    assert!(!case.check_run_kept(&longer));
+    assert!(!case.check_run(&longer));
     for position in [0, 1, longest - 1, longest, longest + 1] {
         for state in 0..3 {
             for mode in 0..3 {
@@ -281,7 +281,7 @@ fn longest_words() {
     cases += case.finish();
     *word.last_mut().unwrap() ^= 3;
     let mut case = Case::new(&record, &list, &word);
-    assert!(!case.check_run_kept(&run));
+    assert!(!case.check_run(&run));
     cases += case.finish();
     println!("words of 1,048,576 and 1,048,577 letters, order of refusals: {cases} cases");
 }

@@ -13,9 +13,9 @@ fn folders() {
             assert_eq!(run.is_some(), *expected, "{} {word:?}", folder.name);
             let mut case = Case::new(&record, &list, word);
             if let Some(run) = run {
-                assert!(case.check_run_kept(&run), "{} {word:?}", folder.name);
+                assert!(case.check_run(&run), "{} {word:?}", folder.name);
                 for length in 0..run.len() {
-                    case.check_run_kept(&run[..length]);
+                    case.check_run(&run[..length]);
                 }
                 yes += 1;
             }
@@ -34,9 +34,9 @@ fn accepts(name: &str, word: &[u8], run: &[u16], entries: usize) {
     let (record, list) = folder::load(name).machine.record();
     let mut case = Case::new(&record, &list, word);
     assert_eq!(run.len(), entries);
-    assert!(case.check_run_kept(run), "{name} {word:?} {run:?}");
+    assert!(case.check_run(run), "{name} {word:?} {run:?}");
     for length in 0..run.len() {
-        assert!(!case.check_run_kept(&run[..length]));
+        assert!(!case.check_run(&run[..length]));
     }
     case.finish();
 }
@@ -51,7 +51,7 @@ fn runs_of_document_01() {
     accepts("marks-1-8-0-10", &[1, 2, 2], &[0, 0, 1, 2], 4);
     let (record, list) = folder::load("some-two").machine.record();
     let mut case = Case::new(&record, &list, &[2, 2]);
-    assert!(case.check_run_kept(&[0, 1, 3]));
+    assert!(case.check_run(&[0, 1, 3]));
     case.finish();
 }
 
@@ -66,10 +66,10 @@ fn runs_of_source_000() {
     accepts("fig-2.6-m3-agta", &word, &run, 13);
     // Figures 2.5 and 2.8: the rows are allowed, the run does not accept.
     let mut case = Case::new(&record, &list, &[2, 6, 3, 2, 7, 3, 3, 6]);
-    assert!(!case.check_run_kept(&[0, 65_533, 1, 5, 9, 65_534, 14]));
+    assert!(!case.check_run(&[0, 65_533, 1, 5, 9, 65_534, 14]));
     case.finish();
     let (record, list) = folder::load("fig-2.3a-m2").machine.record();
     let mut case = Case::new(&record, &list, &[1, 2, 1, 2, 2]);
-    assert!(!case.check_run_kept(&[0, 65_533, 0, 2, 3, 65_534, 5, 6, 65_535]));
+    assert!(!case.check_run(&[0, 65_533, 0, 2, 3, 65_534, 5, 6, 65_535]));
     case.finish();
 }

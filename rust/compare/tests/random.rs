@@ -1,6 +1,6 @@
-//! Random machines, words, runs and configurations with a fixed seed.
+//! Random machines, words, runs and configurations with a fixed seed, and machines that break a rule.
 
-use compare::{random_machine, random_word, Case, Rng};
+use compare::{break_a_rule, random_machine, random_word, Case, Rng};
 use reference::{published, Config, Machine, Record, BEGIN_EMPTYING};
 
 const MACHINES: usize = 120_000;
@@ -16,6 +16,8 @@ struct Counts {
     damaged_accepting: u64,
     allowed: u64,
     malformed: u64,
+    damaged_machines: u64,
+    refused: u64,
 }
 
 /// An entry: mostly one that names something.
@@ -120,7 +122,7 @@ fn compare_machine(rng: &mut Rng, machine: &Machine, words: usize, longest: usiz
             _ => None,
         };
         if let Some(run) = &found {
-            assert!(case.check_run_kept(run));
+            assert!(case.check_run(run));
             c.accepting += 1;
             c.with_copies += u64::from(run.contains(&BEGIN_EMPTYING));
             let (rows, _) = reference::moves::follow(machine, &word, run);
@@ -128,7 +130,7 @@ fn compare_machine(rng: &mut Rng, machine: &Machine, words: usize, longest: usiz
             for _ in 0..8 {
                 let damaged = damage(rng, &record, run);
                 c.damaged += 1;
-                c.damaged_accepting += u64::from(case.check_run_kept(&damaged));
+                c.damaged_accepting += u64::from(case.check_run(&damaged));
             }
         }
         // A run that takes allowed moves as long as it finds some.
@@ -150,7 +152,7 @@ fn compare_machine(rng: &mut Rng, machine: &Machine, words: usize, longest: usiz
             }
         }
         for length in 0..=run.len() {
-            case.check_run_kept(&run[..length]);
+            case.check_run(&run[..length]);
         }
         for whole in [true, true, true, false, false, false] {
             let config = random_config(rng, &record, word.len(), whole);
@@ -165,12 +167,33 @@ fn compare_machine(rng: &mut Rng, machine: &Machine, words: usize, longest: usiz
         }
         c.cases += case.finish();
     }
+    compare_damaged(rng, machine, longest, c);
+}
+
+/// Compares both calls on the machine with a rule broken.
+fn compare_damaged(rng: &mut Rng, machine: &Machine, longest: usize, c: &mut Counts) {
+    let (record, _) = machine.record();
+    let (damaged, list) = break_a_rule(rng, machine);
+    let word = random_word(rng, machine.letters, longest);
+    let mut case = Case::new(&damaged, &list, &word);
+    c.damaged_machines += 1;
+    c.refused += u64::from(case.refusal() == 16);
+    let mut run = vec![rng.below(record.states) as u16];
+    for whole in [true, true, false] {
+        let config = random_config(rng, &record, word.len(), whole);
+        let entry = random_entry(rng, &record);
+        case.step(config, entry);
+        run.push(entry);
+        case.check_run(&run);
+    }
+    c.cases += case.finish();
 }
 
 fn report(name: &str, machines: usize, c: &Counts) {
     println!(
         "{name}: {machines} machines, {} cases; {} accepting runs found ({} with copies, {} with letters copied); \
-         {} damaged runs, {} of them still accepting; {} single moves allowed, {} from no configuration",
+         {} damaged runs, {} of them still accepting; {} single moves allowed, {} from no configuration; \
+         {} damaged machines, {} of them refused",
         c.cases,
         c.accepting,
         c.with_copies,
@@ -178,7 +201,9 @@ fn report(name: &str, machines: usize, c: &Counts) {
         c.damaged,
         c.damaged_accepting,
         c.allowed,
-        c.malformed
+        c.malformed,
+        c.damaged_machines,
+        c.refused
     );
 }
 

@@ -1,6 +1,6 @@
 //! Every machine of one state and every machine of two states over one letter.
 
-use compare::Case;
+use compare::{in_threads, Case};
 use reference::{Config, Machine, Record};
 
 /// The transitions of a machine with `states` states over one letter, in rising order.
@@ -104,45 +104,66 @@ fn every_allowed_run(
     accepting
 }
 
-fn compare_all(
-    machines: &[Machine],
-    longest_word: usize,
+/// How far the comparison of a machine goes.
+#[derive(Clone, Copy)]
+struct Extent {
+    /// The most letters of a word.
+    word: usize,
+    /// The most letters of a word on which every single move is compared.
     word_for_steps: usize,
+    /// The most entries of a run whose entries can be any.
     any_run: usize,
+    /// The most entries of a run whose moves are allowed but for the last.
     allowed_run: usize,
-) -> (u64, u64) {
+}
+
+/// Compares the machine. Returns the number of cases and the number of accepting runs.
+fn compare_machine(machine: &Machine, extent: Extent) -> (u64, u64) {
     let (mut cases, mut accepting) = (0, 0);
-    for machine in machines {
-        let (record, list) = machine.record();
-        let entries = entries(&record);
-        for length in 0..=longest_word {
-            let word = vec![1; length];
-            let mut case = Case::new(&record, &list, &word);
-            if length <= word_for_steps {
-                every_step(&mut case, &record, length, &entries);
-            }
-            case.check_run(&[]);
-            for start in 0..=record.states as u16 {
-                every_run(&mut case, &mut vec![start], &entries, any_run);
-                if machine.has(usize::from(start), reference::INITIAL) {
-                    let config = Config::initial(usize::from(start));
-                    let run = &mut vec![start];
-                    accepting += every_allowed_run(&mut case, run, config, &entries, allowed_run);
-                }
-            }
-            for start in [65_533, 65_534, 65_535] {
-                assert!(!case.check_run(&[start]));
-            }
-            cases += case.finish();
+    let (record, list) = machine.record();
+    let entries = entries(&record);
+    for length in 0..=extent.word {
+        let word = vec![1; length];
+        let mut case = Case::new(&record, &list, &word);
+        if length <= extent.word_for_steps {
+            every_step(&mut case, &record, length, &entries);
         }
+        case.check_run(&[]);
+        for start in 0..=record.states as u16 {
+            let run = &mut vec![start];
+            every_run(&mut case, run, &entries, extent.any_run);
+            if machine.has(usize::from(start), reference::INITIAL) {
+                let config = Config::initial(usize::from(start));
+                let longest = extent.allowed_run;
+                accepting += every_allowed_run(&mut case, run, config, &entries, longest);
+            }
+        }
+        for start in [65_533, 65_534, 65_535] {
+            assert!(!case.check_run(&[start]));
+        }
+        cases += case.finish();
     }
+    (cases, accepting)
+}
+
+/// Compares the machines.
+fn compare_all(machines: &[Machine], extent: Extent) -> (u64, u64) {
+    let counts = in_threads(machines, |machine| compare_machine(machine, extent));
+    let cases = counts.iter().map(|counts| counts.0).sum();
+    let accepting = counts.iter().map(|counts| counts.1).sum();
     (cases, accepting)
 }
 
 #[test]
 fn one_state() {
     let machines = machines(1, 0..4);
-    let (cases, accepting) = compare_all(&machines, 4, 4, 4, 8);
+    let extent = Extent {
+        word: 4,
+        word_for_steps: 4,
+        any_run: 4,
+        allowed_run: 8,
+    };
+    let (cases, accepting) = compare_all(&machines, extent);
     println!(
         "one state, one letter: {} machines, {cases} cases, {accepting} accepting runs",
         machines.len()
@@ -153,7 +174,13 @@ fn one_state() {
 fn two_states_every_step() {
     // A move depends on the marks and on its own transition, so the machines with all transitions suffice here.
     let machines = machines(2, 255..256);
-    let (cases, _) = compare_all(&machines, 3, 3, 1, 1);
+    let extent = Extent {
+        word: 3,
+        word_for_steps: 3,
+        any_run: 1,
+        allowed_run: 1,
+    };
+    let (cases, _) = compare_all(&machines, extent);
     println!(
         "two states, one letter, all transitions: {} machines, {cases} cases, nearly all single moves",
         machines.len()
@@ -163,7 +190,13 @@ fn two_states_every_step() {
 #[test]
 fn two_states_every_run() {
     let machines = machines(2, 0..256);
-    let (cases, accepting) = compare_all(&machines, 3, 0, 2, 7);
+    let extent = Extent {
+        word: 3,
+        word_for_steps: 0,
+        any_run: 2,
+        allowed_run: 7,
+    };
+    let (cases, accepting) = compare_all(&machines, extent);
     println!(
         "two states, one letter: {} machines, {cases} cases, {accepting} accepting runs",
         machines.len()

@@ -2,22 +2,26 @@
 --
 -- rows-least        == rows that no move would lower have least numbers
 -- emptying-best, buffering-best, place-best == and so the rows of each kind of layer are Best
-use Prim.Native.Nat.{ℕ, zero, suc, _+_, _≤_, _<_}
+-- blank-at, blank-size, blank-none == the numbers of a blank row
+-- none-emptying, none-buffering, none-place == where the rows after it say none, a layer is blank
+-- blank-emptying, blank-buffering, blank-place == and so where they are blank
+use Prim.Native.Nat.{ℕ, suc, _+_, _≤_, _<_}
 use mathlib.Core.Path.{_≡_, refl, sym, ap, _∙_, subst}
-use mathlib.Core.Logic.{_⊎_, inl, inr, _↔_}
-use mathlib.Core.Bool.{Bool, true, false, cond}
+use mathlib.Core.Logic.{_⊎_, inl, inr}
+use mathlib.Core.Bool.{true, false, false≢true}
 use mathlib.Core.List.{List, [], _∷_, _++_}
 use native.Mathlib.Omega.{arith}
-use Rattle.graphs.specs.Paths.{here}
-use Rattle.fsbm.specs.Machine.{wellFormed, transitionAt, final, buffering, matching}
+use native.Mathlib.Decide.{decLt}
+use lib.ListN.{length, length-replicate, getD-replicate, List·getD-eq-default}
+use Rattle.fsbm.specs.Machine.{transitionAt, final, buffering, matching}
 use Rattle.fsbm.specs.Published.{fsbmOf, Configuration, config}
 use Rattle.fsbm.specs.declared.machine.Machine.{Machine}
 use Rattle.fsbm.specs.declared.config.Mode.{Mode}
 use Rattle.fsbm.specs.declared.config.Mode.the-variants.{Normal, Buffering, Emptying}
-use Rattle.language.specs.Rules.{Rules, rules}
-use Rattle.layers.specs.Costs.{none, Go, Best, at, RowReal, RowBest, Leads, Bounded, Marked}
+use Rattle.language.specs.Rules.{Rules, buffering-below, matching-below}
+use Rattle.layers.specs.Costs.{none, Go, at, RowReal, RowBest, Leads, Bounded, Marked}
 use Rattle.layers.specs.Costs.Laws.{Cases, silent, normal-letter, buffer-letter, empty-letter, to-buffering, to-emptying, to-normal, layer-least}
-use Rattle.layers.specs.Layers.{headOf, tailOf, Settled, PlaceReal, PlaceBest}
+use Rattle.layers.specs.Layers.{headOf, tailOf, blankRow, NoneBelow, EmptyingLayer, BufferingLayer, Settled, PlaceReal, PlaceBest, PlaceLayer}
 
 never-mode : {A : Type 0} (n : ℕ) → _≡_ {A = ℕ} 0 1 → A
 never-mode n z = absurd (omega arith)
@@ -248,3 +252,76 @@ module _ (m : Machine) (list : List ℕ) (r : Rules m list) where
             emptying-begins = λ l q lt is i g. inl (tt, settled .begin-emptying q is);
             normal-again = λ l z q is i g. inl (tt, settled .back-to-normal q is);
           }
+
+-- Blank rows
+
+pub blank-at : (q : ℕ) → q < 64 → at blankRow q ≡ none
+unfolding blankRow
+blank-at q l = getD-replicate 64 q none 0 l
+
+pub blank-size : length blankRow ≡ 64
+unfolding blankRow
+blank-size = length-replicate 64 none
+
+blank-most : (q : ℕ) → at blankRow q ≤ none
+blank-most q = on (decLt q 64)
+  where
+    on : Dec (q < 64) → at blankRow q ≤ none
+    on (yes l) = let e = blank-at q l in omega arith
+    on (no l) = let s = blank-size in let e = List·getD-eq-default blankRow 0 {n = q} (omega arith) in omega arith
+
+module _ (m : Machine) (list : List ℕ) (r : Rules m list) where
+  pub blank-none : NoneBelow (m .states) blankRow
+  blank-none q l = blank-at q (omega (arith, r .states-fit))
+
+  pub blank-real : (u v : List ℕ) (t : Mode) → RowReal m list u v t blankRow
+  blank-real u v t q lt l = let z = blank-none q lt in absurd (omega arith)
+
+  pub blank-bounded : (t : Mode) (x : ℕ) (next : List ℕ) → NoneBelow (m .states) next → Bounded m list (m .transitions) t x blankRow next
+  blank-bounded t x next h k l = omega (arith, blank-most (transitionAt list k .from), h (transitionAt list k .to) (r .to-below k (l .listed)))
+
+  blank-marked : (next : List ℕ) → NoneBelow (m .states) next → (q : ℕ) → q < m .states → at blankRow q ≤ suc (at next q)
+  blank-marked next h q l = omega (arith, blank-most q, h q l)
+
+  pub blank-settled : Settled m list blankRow blankRow blankRow
+  blank-settled =
+      record {
+        in-normal = blank-bounded Normal 0 blankRow blank-none;
+        in-buffering = blank-bounded Buffering 0 blankRow blank-none;
+        in-emptying = blank-bounded Emptying 0 blankRow blank-none;
+        begin-buffering = λ q is. blank-marked blankRow blank-none q (buffering-below m list r q is);
+        begin-emptying = λ q is. blank-marked blankRow blank-none q (matching-below m list r q is);
+        back-to-normal = λ q is. blank-marked blankRow blank-none q (matching-below m list r q is);
+      }
+
+  -- where the rows after it say none, so does a layer
+  pub none-emptying : (x : ℕ) (next : List ℕ) → NoneBelow (m .states) next → EmptyingLayer m list x next blankRow
+  none-emptying x next h =
+      record {
+        best = λ u v best. emptying-best m list r x u v next blankRow best (blank-real (x ∷ u) (x ∷ v) Emptying) (λ l. blank-bounded Emptying x next h)
+            (blank-bounded Emptying 0 blankRow blank-none);
+      }
+
+  pub none-buffering : (x : ℕ) (next emptied : List ℕ) → NoneBelow (m .states) next → NoneBelow (m .states) emptied → BufferingLayer m list x next emptied blankRow
+  none-buffering x next emptied h g =
+      record {
+        best = λ u v head best-next best. buffering-best m list r x u v next emptied blankRow head best-next best (blank-real u v Buffering) (λ l. blank-bounded Buffering x next h)
+            (λ q is. blank-marked emptied g q (matching-below m list r q is)) (blank-bounded Buffering 0 blankRow blank-none);
+      }
+
+  pub none-place : (x : ℕ) (next-n next-b : List ℕ) → NoneBelow (m .states) next-n → NoneBelow (m .states) next-b → PlaceLayer m list false x next-n next-b blankRow blankRow blankRow
+  none-place x next-n next-b h g =
+      record {
+        best = λ u iff head best-n best-b. place-best m list r x u next-n next-b blankRow blankRow blankRow head best-n best-b
+            (record { normal = blank-real u [] Normal; buffering = blank-real u [] Buffering; emptying = blank-real u [] Emptying })
+            (λ e. absurd (false≢true (iff .1 e))) (λ l. blank-bounded Normal x next-n h) (λ l. blank-bounded Buffering x next-b g) blank-settled;
+      }
+
+  pub blank-emptying : (x : ℕ) → EmptyingLayer m list x blankRow blankRow
+  blank-emptying x = none-emptying x blankRow blank-none
+
+  pub blank-buffering : (x : ℕ) → BufferingLayer m list x blankRow blankRow blankRow
+  blank-buffering x = none-buffering x blankRow blankRow blank-none blank-none
+
+  pub blank-place : (x : ℕ) → PlaceLayer m list false x blankRow blankRow blankRow blankRow blankRow
+  blank-place x = none-place x blankRow blankRow blank-none blank-none

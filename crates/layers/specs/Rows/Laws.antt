@@ -9,20 +9,18 @@
 use Prim.Native.Nat.{ℕ, zero, suc, _+_, _≤_, _<_}
 use mathlib.Core.Path.{_≡_, refl, sym, ap, _∙_, subst}
 use mathlib.Core.Logic.{_⊎_, inl, inr}
-use mathlib.Core.Bool.{Bool, true, false, cond, _||_, false≢true}
+use mathlib.Core.Bool.{Bool, true, false, false≢true}
 use mathlib.Core.List.{List, [], _∷_}
 use native.Mathlib.Omega.{arith}
 use native.Mathlib.Decide.{ℕ-discrete, decLt}
-use lib.ListN.{length, set, getD, length-set, List·getD-eq-default}
+use lib.ListN.{length, set, length-set, List·getD-eq-default}
 use lib.Seq.{getD-set-same, getD-set-other}
-use lib.Dec.{ltb, eqb}
 use borrow.Author.Tests.{ltb-true, ltb-false}
 use Rattle.fsbm.specs.Machine.{transitionAt}
 use Rattle.fsbm.specs.Published.{fsbmOf, Configuration, config, Yields}
 use Rattle.fsbm.specs.declared.machine.Machine.{Machine}
 use Rattle.fsbm.specs.declared.config.Mode.{Mode}
-use Rattle.fsbm.specs.declared.config.Mode.the-variants.{Normal, Buffering, Emptying}
-use Rattle.language.specs.NoWord.{passable}
+use Rattle.fsbm.specs.declared.config.Mode.the-variants.{Normal}
 use Rattle.layers.specs.Costs.{none, Go, at, Leads, Bounded, Marked, RowReal}
 use Rattle.layers.specs.Costs.Laws.{silent-yields, go-step}
 use Rattle.layers.specs.Rows.{weight, lowered, Lowered, Lowering, ByPass, ByChange, Closed}
@@ -156,6 +154,10 @@ module _ {m : Machine} {list : List ℕ} {t : Mode} {x : ℕ} {next : List ℕ} 
   pub pass-start : (row : List ℕ) → Lowering (ByPass m list t x next 0 0) row row false
   pass-start row = lowering-none row (λ q v (c : ByPass m list t x next 0 0 q v). omega (arith, c .leads .listed))
 
+  -- no transition from j on leads
+  pub pass-skip : (row : List ℕ) (j n : ℕ) → ((k : ℕ) → j ≤ k → Leads m list n t x k → ⊥) → Lowering (ByPass m list t x next j n) row row false
+  pass-skip row j n never = lowering-none row (λ q v c. never (c .number) (c .from-on) (c .leads))
+
   pub pass-none : (row : List ℕ) (k : ℕ) → (Leads m list (k + 1) t x k → ⊥) → Lowering (ByPass m list t x next k (k + 1)) row row false
   pass-none row k never = lowering-none row (λ q v c. never (subst (λ (j : ℕ). Leads m list (k + 1) t x j) (here q v c) (c .leads)))
     where
@@ -220,11 +222,9 @@ module _ {test : ℕ → Bool} {next : List ℕ} where
   pub change-start : (row : List ℕ) → Lowering (ByChange test next 0 0) row row false
   change-start row = lowering-none row (λ q v (c : ByChange test next 0 0 q v). omega (arith, c .below))
 
-  pub change-none : (row : List ℕ) (k : ℕ) → (test k ≡ true → ⊥) → Lowering (ByChange test next k (k + 1)) row row false
-  change-none row k never = lowering-none row (λ q v c. never (subst (λ (j : ℕ). test j ≡ true) (here q v c) (c .kind)))
-    where
-      here : (q v : ℕ) (c : ByChange test next k (k + 1) q v) → q ≡ k
-      here q v c = omega (arith, c .from-on, c .below)
+  -- no state from j on is of the kind
+  pub change-skip : (row : List ℕ) (j n : ℕ) → ((q : ℕ) → j ≤ q → q < n → test q ≡ true → ⊥) → Lowering (ByChange test next j n) row row false
+  change-skip row j n never = lowering-none row (λ q v c. never q (c .from-on) (c .below) (c .kind))
 
   pub change-one : (row row′ : List ℕ) (k : ℕ) (r : Bool) → test k ≡ true → Lowered row k (at next k) row′ r → Lowering (ByChange test next k (k + 1)) row row′ r
   change-one row row′ k r is h =

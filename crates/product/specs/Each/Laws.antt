@@ -4,6 +4,7 @@
 -- each-same, each-none    == equal parts make equal lists; empty parts none
 -- each-split              == a range cut in two
 -- each-block              == parts that are empty outside lo .. hi
+-- each-skip               == parts from i on that are empty up to j
 -- each-to, each-of        == x stands in each i n f exactly if it stands in some part
 -- each-single             == element k of a list of one-element parts
 -- length-each             == the length is the sum of the parts' lengths
@@ -69,6 +70,16 @@ module _ {A : Type 0} where
       ∙ ap (λ (l : List A). each lo (hi - lo) f ++ l)
       (ap (λ (k : ℕ). each k (n - hi) f) end ∙ each-none hi (n - hi) f (λ k a b. after k a (omega arith)))
       ∙ append-nil (each lo (hi - lo) f)
+
+  -- parts that are empty need not be looked at
+  pub each-skip : (i j n : ℕ) (f : ℕ → List A) → i ≤ j → j ≤ n → ((k : ℕ) → i ≤ k → k < j → f k ≡ []) → each i (n - i) f ≡ each j (n - j) f
+  each-skip i j n f low high none =
+      let cut : n - i ≡ (j - i) + (n - j) = omega arith in
+      let end : i + (j - i) ≡ j = omega arith in
+      ap (λ (k : ℕ). each i k f) cut
+      ∙ each-split i (j - i) (n - j) f
+      ∙ ap (λ (l : List A). l ++ each (i + (j - i)) (n - j) f) (each-none i (j - i) f (λ k a b. none k a (omega arith)))
+      ∙ ap (λ (k : ℕ). each k (n - j) f) end
 
   pub each-to : {x : A} (i n : ℕ) (f : ℕ → List A) → List·Memᴰ x (each i n f) → (k : ℕ) × (i ≤ k) × (k < i + n) × List·Memᴰ x (f k)
   unfolding each

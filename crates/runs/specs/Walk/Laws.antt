@@ -41,7 +41,7 @@ use Rattle.language.specs.NoWord.{nextMode}
 use Rattle.layers.specs.Costs.{none, at, Go, Best, RowBest}
 use Rattle.layers.specs.Costs.Laws.{Fits, go-fit, go-step}
 use Rattle.layers.specs.Layers.{blankRow, PlaceBest}
-use Rattle.layers.proofs.LayerCases.{blank-at}
+use Rattle.layers.specs.Layers.Laws.{blank-at}
 use Rattle.tables.specs.Tables.{rowAt, PlaceRows, EmptyRow, BufferRow, Sized}
 use Rattle.tables.specs.Tables.Laws.{slice-at, front-letters, buffer-past}
 use Rattle.runs.specs.Walk.{endOf, Second, Ready, changeEntry, Scanned, Entered, Fresh, Refreshed, Started, Written}

@@ -1,6 +1,7 @@
 -- The laws of specs/Tables.antt.
 --
 -- empty-start, empty-next    == the rows of a second half, from its end back
+-- blank-on                   == a blank row of a second half stays blank
 -- halves-slices, slices-halves == equal halves as strings
 -- emptied-row, unmatched-row == the row after the change of mode, where the halves match and where they do not
 -- buffer-past                == the row of a buffer that is longer than what is left of the word
@@ -11,6 +12,7 @@ use mathlib.Core.Bool.{Bool, true, false}
 use mathlib.Core.List.{List, [], _∷_, _++_}
 use native.Mathlib.Omega.{arith}
 use native.Mathlib.Numerals.{add-one}
+use native.Mathlib.Decide.{ℕ-discrete}
 use lib.ListN.{length, getD, take, drop, length-drop, List·getD-append}
 use lib.Seq.{slice, slice-cons, slice-empty, length-slice, drop-cons, take-suc, getD-drop, getD-take, ext-getD, take-length, drop-length, drop-append-le, length-take-le}
 use Rattle.fsbm.specs.Published.{Configuration, config}
@@ -21,8 +23,9 @@ use Rattle.language.specs.Rules.{Rules}
 use Rattle.layers.specs.Costs.{none, at, Go, Best, RowBest}
 use Rattle.layers.specs.Costs.Laws.{Fits, go-fit, best-none}
 use Rattle.layers.specs.Layers.{headOf, tailOf, blankRow, EmptyingLayer, BufferingLayer, PlaceLayer, PlaceBest}
-use Rattle.layers.proofs.LayerCases.{blank-at}
-use Rattle.tables.specs.Tables.{rowAt, PlaceRows, EmptyRow, BufferRow, Halves, EmptyingRows, BufferingRows, Filled}
+use Rattle.layers.specs.Layers.Laws.{blank-at, blank-emptying}
+use Rattle.tables.specs.Halves.{Halves}
+use Rattle.tables.specs.Tables.{rowAt, PlaceRows, EmptyRow, BufferRow, BlankFrom}
 
 module _ (m : Machine) (list w : List ℕ) where
   pub empty-start : (t : List (List ℕ)) (e : ℕ) → PlaceRows m list w t e → EmptyRow m list w e 0 (rowAt t (e * 3 + 2))
@@ -38,6 +41,23 @@ module _ (m : Machine) (list w : List ℕ) where
       let input : drop (e - (r + 1)) w ≡ x ∷ drop (e - r) w = drop-cons w (e - (r + 1)) 0 (omega arith) ∙ rw (here, x-is) refl in
       let stored : slice (e - (r + 1)) e w ≡ x ∷ slice (e - r) e w = slice-cons (e - (r + 1)) e w 0 (omega arith) le ∙ rw (here, x-is) refl in
       rw (input, stored) (layer .best (drop (e - r) w) (slice (e - r) e w) best)
+
+  pub blank-on : Rules m list → (e k : ℕ) → e ≤ length w → EmptyRow m list w e k blankRow → BlankFrom m list w e k
+  blank-on rules e k le best zero l b = subst (λ (z : ℕ). EmptyRow m list w e z blankRow) (k-zero k l) best
+    where
+      k-zero : (k : ℕ) → k ≤ 0 → k ≡ 0
+      k-zero k l = omega arith
+  blank-on rules e k le best (suc r) l b = at (ℕ-discrete k (suc r)) (λ n. blank-on rules e k le best r (below n) (omega arith))
+    where
+      below : (k ≡ suc r → ⊥) → k ≤ r
+      below n = omega arith
+
+      at : Dec (k ≡ suc r) → ((k ≡ suc r → ⊥) → EmptyRow m list w e r blankRow) → EmptyRow m list w e (suc r) blankRow
+      at (yes z) before = subst (λ (z : ℕ). EmptyRow m list w e z blankRow) z best
+      at (no z) before =
+          let x = getD w (e - (r + 1)) 0 in
+          let s : r + 1 ≡ suc r = omega arith in
+          subst (λ (z : ℕ). EmptyRow m list w e z blankRow) s (empty-next e r x blankRow blankRow (omega arith) le refl (before z) (blank-emptying m list rules x))
 
   -- a stretch by its letters
   pub slice-at : (i j k : ℕ) → i + k < j → getD (slice i j w) k 0 ≡ getD w (i + k) 0

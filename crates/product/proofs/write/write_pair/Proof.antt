@@ -1,66 +1,78 @@
-use Prim.Native.Nat.{ℕ, _≤_, _<_, _-_, _+_, _*_}
-use mathlib.Core.Path.{_≡_, refl, sym, ap, _∙_}
-use mathlib.Core.List.{List}
-use native.Mathlib.Omega.{arith}
-use lib.ListN.{length}
 use borrow.Author.Needs.{needs}
-use Rattle.fsbm.specs.declared.machine.Machine.{Machine}
-use Rattle.product.specs.Order.{letterKey, Block, Moving}
-use Rattle.product.specs.Product.{flat, joinedFrom}
+use Rattle.product.proofs.WriteCases.{Meeting, meeting-searching, Pairing, pairing-start, pairing-moving, pairing-room, pairing-next, pairing-end}
 use Rattle.product.specs.Tables.{Joinable, joinable}
-use Rattle.product.proofs.WriteCases.{Pairing, pairing-start, pairing-moving, pairing-room, pairing-next, pairing-end}
+use Rattle.product.specs.Product.{flat, joinedFrom}
+use Rattle.product.specs.Letters.{NextMove}
+use Rattle.fsbm.specs.declared.machine.Machine.{Machine}
+use lib.ListN.{length}
+use native.Mathlib.Omega.{arith}
+use Prim.Native.Nat.{ℕ, _≤_, _-_, _+_}
 use Rattle.product.proofs.write.write_pair.Statement.{statement}
 use Rattle.product.proofs.write.write_pair.Tie as tie
 use Rattle.product.proofs.write.write_pair.Reads as reads
 use Rattle.product.proofs.write.write_pair.Lts as lts
 use Rattle.fsbm.proofs.machine.transition_at.Reads as transition-at-reads
+use Rattle.product.proofs.letters.common_letters.Reads as common-letters-reads
+use Rattle.product.proofs.write.next_move.Reads as next-move-reads
 use Rattle.product.proofs.write.write_moves.Reads as write-moves-reads
 
 abbrev Inv-loop : tie.InvT-loop
-Inv-loop first-list second second-list p r list₀ n state hi f₀ i₀ list f i = (m : Machine) (j : Joinable m first-list second second-list) → Block first-list (m .transitions) p i₀ hi → f₀ .at + length (flat (joinedFrom m first-list second second-list p r)) ≤ length list₀ → Pairing j p r i₀ hi list₀ (f₀ .at) list (f .at) (f .seen) i
+Inv-loop first-list first-starts first-keys second second-list second-starts second-keys p r list₀ k n state hi letters at₀ i₀ list at i = (m : Machine) (j : Joinable m first-list second second-list) (lo : ℕ) → Meeting j first-starts first-keys second-starts second-keys letters p r lo hi → k + length (flat (joinedFrom m first-list second second-list p r)) ≤ length list₀ → NextMove first-list letters lo hi i₀ → Pairing j letters p r lo hi list₀ k list at i
 
 abbrev μ-loop : tie.MeasureT-loop
-μ-loop first-list second second-list p r list₀ n state hi f₀ i₀ list f i = hi - i
+μ-loop first-list first-starts first-keys second second-list second-starts second-keys p r list₀ k n state hi letters at₀ i₀ list at i = hi - i
 
--- src/write.rt:148:13
+-- src/write.rt:178:13
 cast-n : tie.Need-cast-n Inv-loop μ-loop
 cast-n c = let j = joinable (c .before .before .before .before .args .first) ((c .before .before .before .before .args .first-list) .now) (c .before .before .before .before .args .second) ((c .before .before .before .before .args .second-list) .now) ((c .before .before .before .before .pre) .0) in omega (arith, j .second .states-fit)
 
--- src/write.rt:149:17
+-- src/write.rt:179:17
 cast-state : tie.Need-cast-state Inv-loop μ-loop
-cast-state c = let j = joinable (c .before .before .before .before .args .first) ((c .before .before .before .before .args .first-list) .now) (c .before .before .before .before .args .second) ((c .before .before .before .before .args .second-list) .now) ((c .before .before .before .before .pre) .0) in omega (arith, j .second .states-fit, (c .before .before .before .before .pre) .1 .1 .0 .0)
+cast-state c = let j = joinable (c .before .before .before .before .args .first) ((c .before .before .before .before .args .first-list) .now) (c .before .before .before .before .args .second) ((c .before .before .before .before .args .second-list) .now) ((c .before .before .before .before .pre) .0) in omega (arith, j .second .states-fit, (c .before .before .before .before .pre) .1 .1 .1 .1 .0 .1)
 
--- src/write.rt:153:5
+-- src/write.rt:181:19
+common-letters-requires : tie.Need-common-letters-requires Inv-loop μ-loop
+common-letters-requires c κs = let j = joinable (c .before .before .before .before .args .first) ((c .before .before .before .before .args .first-list) .now) (c .before .before .before .before .args .second) ((c .before .before .before .before .args .second-list) .now) ((c .before .before .before .before .pre) .0) in (omega (arith, j .first .states-fit, (c .before .before .before .before .pre) .1 .1 .1 .1 .0 .0), omega (arith, j .second .states-fit, (c .before .before .before .before .pre) .1 .1 .1 .1 .0 .1))
+
+-- src/write.rt:183:9
+next-move-requires : tie.Need-next-move-requires Inv-loop μ-loop
+next-move-requires c κs = let j = joinable (c .before .before .before .before .before .before .args .first) ((c .before .before .before .before .before .before .args .first-list) .now) (c .before .before .before .before .before .before .args .second) ((c .before .before .before .before .before .before .args .second-list) .now) ((c .before .before .before .before .before .before .pre) .0) in let g : Meeting j ((c .before .before .before .before .before .before .args .first-starts) .now) ((c .before .before .before .before .before .before .args .first-keys) .now) ((c .before .before .before .before .before .before .args .second-starts) .now) ((c .before .before .before .before .before .before .args .second-keys) .now) (c .before .common-letters .result) (c .before .before .before .before .before .before .args .p) (c .before .before .before .before .before .before .args .r) ((c .before .before .before .before .before .before .args .span) .lo) ((c .before .before .before .before .before .before .args .span) .hi) = record { first-index = (c .before .before .before .before .before .before .pre) .1 .0; second-index = (c .before .before .before .before .before .before .pre) .1 .1 .0; block = (c .before .before .before .before .before .before .pre) .1 .1 .1 .0; first-state = (c .before .before .before .before .before .before .pre) .1 .1 .1 .1 .0 .0; second-state = (c .before .before .before .before .before .before .pre) .1 .1 .1 .1 .0 .1; common = (c .before .common-letters .ensures) } in meeting-searching j g ((c .before .before .before .before .before .before .args .span) .lo) (omega arith) ((c .before .before .before .before .before .before .pre) .1 .1 .1 .0 .low)
+
+-- src/write.rt:184:5
 loop-holds : tie.Need-loop-holds Inv-loop μ-loop
-loop-holds c = λ m j b room. pairing-start j (c .before .before .before .before .args .p) (c .before .before .before .before .args .r) ((c .before .before .before .before .args .span) .lo) ((c .before .before .before .before .args .span) .hi) ((c .before .before .before .before .args .front) .at) ((c .before .before .before .before .args .front) .seen) ((c .before .before .before .before .args .list) .now) b ((c .before .before .before .before .pre) .1 .1 .0 .0) ((c .before .before .before .before .pre) .1 .1 .0 .1) ((c .before .before .before .before .pre) .1 .1 .0 .2) room
+loop-holds c = λ m j lo g room next. pairing-start j g (c .before .before .before .before .before .before .before .args .k) (c .next-move .result) ((c .before .before .before .before .before .before .before .args .list) .now) room next
 
--- src/write.rt:154:13
+-- src/write.rt:185:13
 transition-at-requires : tie.Need-transition-at-requires Inv-loop μ-loop
 transition-at-requires c κs = search needs
 
--- src/write.rt:155:13
+-- src/write.rt:186:9
 write-moves-requires : tie.Need-write-moves-requires Inv-loop μ-loop
-write-moves-requires c κs = let j = joinable (c .before .before .before .before .before .before .before .before .args .first) ((c .before .before .before .before .before .before .before .before .args .first-list) .now) (c .before .before .before .before .before .before .before .before .args .second) ((c .before .before .before .before .before .before .before .before .args .second-list) .now) ((c .before .before .before .before .before .before .before .before .pre) .0) in let s = (c .before .before .before .loop .inv) (c .before .before .before .before .before .before .before .before .args .first) j ((c .before .before .before .before .before .before .before .before .pre) .1 .0) ((c .before .before .before .before .before .before .before .before .pre) .1 .1 .1) in (pairing-moving j s (c .before .before .loop-test .taken) (c .before .transition-at .result) (c .before .transition-at .ensures), pairing-room j s (c .before .before .loop-test .taken) (c .before .transition-at .result) (c .before .transition-at .ensures))
+write-moves-requires c κs = let j = joinable (c .before .before .before .before .before .before .before .before .before .before .before .args .first) ((c .before .before .before .before .before .before .before .before .before .before .before .args .first-list) .now) (c .before .before .before .before .before .before .before .before .before .before .before .args .second) ((c .before .before .before .before .before .before .before .before .before .before .before .args .second-list) .now) ((c .before .before .before .before .before .before .before .before .before .before .before .pre) .0) in let g : Meeting j ((c .before .before .before .before .before .before .before .before .before .before .before .args .first-starts) .now) ((c .before .before .before .before .before .before .before .before .before .before .before .args .first-keys) .now) ((c .before .before .before .before .before .before .before .before .before .before .before .args .second-starts) .now) ((c .before .before .before .before .before .before .before .before .before .before .before .args .second-keys) .now) (c .before .before .before .before .before .before .common-letters .result) (c .before .before .before .before .before .before .before .before .before .before .before .args .p) (c .before .before .before .before .before .before .before .before .before .before .before .args .r) ((c .before .before .before .before .before .before .before .before .before .before .before .args .span) .lo) ((c .before .before .before .before .before .before .before .before .before .before .before .args .span) .hi) = record { first-index = (c .before .before .before .before .before .before .before .before .before .before .before .pre) .1 .0; second-index = (c .before .before .before .before .before .before .before .before .before .before .before .pre) .1 .1 .0; block = (c .before .before .before .before .before .before .before .before .before .before .before .pre) .1 .1 .1 .0; first-state = (c .before .before .before .before .before .before .before .before .before .before .before .pre) .1 .1 .1 .1 .0 .0; second-state = (c .before .before .before .before .before .before .before .before .before .before .before .pre) .1 .1 .1 .1 .0 .1; common = (c .before .before .before .before .before .before .common-letters .ensures) } in let s = (c .before .before .before .loop .inv) (c .before .before .before .before .before .before .before .before .before .before .before .args .first) j ((c .before .before .before .before .before .before .before .before .before .before .before .args .span) .lo) g ((c .before .before .before .before .before .before .before .before .before .before .before .pre) .1 .1 .1 .1 .1) (c .before .before .before .before .next-move .ensures) in (pairing-moving j g s (c .before .before .loop-test .taken) (c .before .transition-at .result) (c .before .transition-at .ensures), pairing-room j g s (c .before .before .loop-test .taken) (c .before .transition-at .result) (c .before .transition-at .ensures))
 
--- src/write.rt:157:9
-add-i : tie.Need-add-i Inv-loop μ-loop
-add-i c = let j = joinable (c .before .before .before .before .before .before .before .before .before .before .before .args .first) ((c .before .before .before .before .before .before .before .before .before .before .before .args .first-list) .now) (c .before .before .before .before .before .before .before .before .before .before .before .args .second) ((c .before .before .before .before .before .before .before .before .before .before .before .args .second-list) .now) ((c .before .before .before .before .before .before .before .before .before .before .before .pre) .0) in omega (arith, (c .before .before .before .before .before .before .before .before .before .before .before .pre) .1 .0 .high, j .first .transitions-fit, (c .before .before .before .before .before .loop-test .taken))
+-- src/write.rt:196:62
+add-next-move : tie.Need-add-next-move Inv-loop μ-loop
+add-next-move c = omega (arith, (c .before .before .before .before .before .before .before .before .before .before .before .before .before .before .before .good))
 
--- src/write.rt:153:5
+-- src/write.rt:196:9
+next-move-requires-2 : tie.Need-next-move-requires-2 Inv-loop μ-loop
+next-move-requires-2 c κs = let j = joinable (c .before .before .before .before .before .before .before .before .before .before .before .before .before .before .before .args .first) ((c .before .before .before .before .before .before .before .before .before .before .before .before .before .before .before .args .first-list) .now) (c .before .before .before .before .before .before .before .before .before .before .before .before .before .before .before .args .second) ((c .before .before .before .before .before .before .before .before .before .before .before .before .before .before .before .args .second-list) .now) ((c .before .before .before .before .before .before .before .before .before .before .before .before .before .before .before .pre) .0) in let g : Meeting j ((c .before .before .before .before .before .before .before .before .before .before .before .before .before .before .before .args .first-starts) .now) ((c .before .before .before .before .before .before .before .before .before .before .before .before .before .before .before .args .first-keys) .now) ((c .before .before .before .before .before .before .before .before .before .before .before .before .before .before .before .args .second-starts) .now) ((c .before .before .before .before .before .before .before .before .before .before .before .before .before .before .before .args .second-keys) .now) (c .before .before .before .before .before .before .before .before .before .before .common-letters .result) (c .before .before .before .before .before .before .before .before .before .before .before .before .before .before .before .args .p) (c .before .before .before .before .before .before .before .before .before .before .before .before .before .before .before .args .r) ((c .before .before .before .before .before .before .before .before .before .before .before .before .before .before .before .args .span) .lo) ((c .before .before .before .before .before .before .before .before .before .before .before .before .before .before .before .args .span) .hi) = record { first-index = (c .before .before .before .before .before .before .before .before .before .before .before .before .before .before .before .pre) .1 .0; second-index = (c .before .before .before .before .before .before .before .before .before .before .before .before .before .before .before .pre) .1 .1 .0; block = (c .before .before .before .before .before .before .before .before .before .before .before .before .before .before .before .pre) .1 .1 .1 .0; first-state = (c .before .before .before .before .before .before .before .before .before .before .before .before .before .before .before .pre) .1 .1 .1 .1 .0 .0; second-state = (c .before .before .before .before .before .before .before .before .before .before .before .before .before .before .before .pre) .1 .1 .1 .1 .0 .1; common = (c .before .before .before .before .before .before .before .before .before .before .common-letters .ensures) } in let s = (c .before .before .before .before .before .before .before .loop .inv) (c .before .before .before .before .before .before .before .before .before .before .before .before .before .before .before .args .first) j ((c .before .before .before .before .before .before .before .before .before .before .before .before .before .before .before .args .span) .lo) g ((c .before .before .before .before .before .before .before .before .before .before .before .before .before .before .before .pre) .1 .1 .1 .1 .1) (c .before .before .before .before .before .before .before .before .next-move .ensures) in let low = s .low in meeting-searching j g ((c .before .before .before .before .before .before .before .loop .i) + 1) (omega arith) (omega (arith, (c .before .before .before .before .before .before .loop-test .taken)))
+
+-- src/write.rt:184:5
 loop-less : tie.Need-loop-less Inv-loop μ-loop
-loop-less c = omega arith
+loop-less c = let next = (c .next-move2 .ensures) in let on = next .low in let high = next .high in omega arith
 
--- src/write.rt:153:5
+-- src/write.rt:184:5
 loop-again : tie.Need-loop-again Inv-loop μ-loop
-loop-again c = λ m j b room. pairing-next j ((c .before .before .before .before .before .before .loop .inv) m j b room) (c .before .before .before .before .before .loop-test .taken) (c .before .before .before .before .transition-at .result) (c .before .before .before .before .transition-at .ensures) _ ((c .before .before .write-moves .result) .at) ((c .before .before .write-moves .result) .seen) ((c .before .before .write-moves .ensures) .0) ((c .before .before .write-moves .ensures) .1 .0) ((c .before .before .write-moves .ensures) .1 .1)
+loop-again c = λ m j lo g room next. pairing-next j g ((c .before .before .before .before .before .before .before .before .loop .inv) m j lo g room next) (c .before .before .before .before .before .before .before .loop-test .taken) (c .before .before .before .before .before .before .transition-at .result) (c .before .before .before .before .before .before .transition-at .ensures) _ (c .before .before .before .before .write-moves .result) (c .next-move2 .result) ((c .before .before .before .before .write-moves .ensures) .0) ((c .before .before .before .before .write-moves .ensures) .1) (c .next-move2 .ensures)
 
--- src/write.rt:129:1
+-- src/write.rt:154:1
 same-length : tie.Need-same-length Inv-loop μ-loop
-same-length c = let j = joinable (c .before .before .before .before .before .before .args .first) ((c .before .before .before .before .before .before .args .first-list) .now) (c .before .before .before .before .before .before .args .second) ((c .before .before .before .before .before .before .args .second-list) .now) ((c .before .before .before .before .before .before .pre) .0) in (c .before .loop .inv) (c .before .before .before .before .before .before .args .first) j ((c .before .before .before .before .before .before .pre) .1 .0) ((c .before .before .before .before .before .before .pre) .1 .1 .1) .putting .size
+same-length c = let j = joinable (c .before .before .before .before .before .before .before .before .before .args .first) ((c .before .before .before .before .before .before .before .before .before .args .first-list) .now) (c .before .before .before .before .before .before .before .before .before .args .second) ((c .before .before .before .before .before .before .before .before .before .args .second-list) .now) ((c .before .before .before .before .before .before .before .before .before .pre) .0) in let g : Meeting j ((c .before .before .before .before .before .before .before .before .before .args .first-starts) .now) ((c .before .before .before .before .before .before .before .before .before .args .first-keys) .now) ((c .before .before .before .before .before .before .before .before .before .args .second-starts) .now) ((c .before .before .before .before .before .before .before .before .before .args .second-keys) .now) (c .before .before .before .before .common-letters .result) (c .before .before .before .before .before .before .before .before .before .args .p) (c .before .before .before .before .before .before .before .before .before .args .r) ((c .before .before .before .before .before .before .before .before .before .args .span) .lo) ((c .before .before .before .before .before .before .before .before .before .args .span) .hi) = record { first-index = (c .before .before .before .before .before .before .before .before .before .pre) .1 .0; second-index = (c .before .before .before .before .before .before .before .before .before .pre) .1 .1 .0; block = (c .before .before .before .before .before .before .before .before .before .pre) .1 .1 .1 .0; first-state = (c .before .before .before .before .before .before .before .before .before .pre) .1 .1 .1 .1 .0 .0; second-state = (c .before .before .before .before .before .before .before .before .before .pre) .1 .1 .1 .1 .0 .1; common = (c .before .before .before .before .common-letters .ensures) } in let s = (c .before .loop .inv) (c .before .before .before .before .before .before .before .before .before .args .first) j ((c .before .before .before .before .before .before .before .before .before .args .span) .lo) g ((c .before .before .before .before .before .before .before .before .before .pre) .1 .1 .1 .1 .1) (c .before .before .next-move .ensures) in s .putting .size
 
--- src/write.rt:129:1
+-- src/write.rt:154:1
 returns : tie.Need-returns Inv-loop μ-loop
-returns c = let j = joinable (c .before .before .before .before .before .before .args .first) ((c .before .before .before .before .before .before .args .first-list) .now) (c .before .before .before .before .before .before .args .second) ((c .before .before .before .before .before .before .args .second-list) .now) ((c .before .before .before .before .before .before .pre) .0) in let s = (c .before .loop .inv) (c .before .before .before .before .before .before .args .first) j ((c .before .before .before .before .before .before .pre) .1 .0) ((c .before .before .before .before .before .before .pre) .1 .1 .1) in let e = pairing-end j s (c .loop-test .left) in (e .0, (e .1, (s .seen-in, s .behind)))
+returns c = let j = joinable (c .before .before .before .before .before .before .before .before .before .args .first) ((c .before .before .before .before .before .before .before .before .before .args .first-list) .now) (c .before .before .before .before .before .before .before .before .before .args .second) ((c .before .before .before .before .before .before .before .before .before .args .second-list) .now) ((c .before .before .before .before .before .before .before .before .before .pre) .0) in let g : Meeting j ((c .before .before .before .before .before .before .before .before .before .args .first-starts) .now) ((c .before .before .before .before .before .before .before .before .before .args .first-keys) .now) ((c .before .before .before .before .before .before .before .before .before .args .second-starts) .now) ((c .before .before .before .before .before .before .before .before .before .args .second-keys) .now) (c .before .before .before .before .common-letters .result) (c .before .before .before .before .before .before .before .before .before .args .p) (c .before .before .before .before .before .before .before .before .before .args .r) ((c .before .before .before .before .before .before .before .before .before .args .span) .lo) ((c .before .before .before .before .before .before .before .before .before .args .span) .hi) = record { first-index = (c .before .before .before .before .before .before .before .before .before .pre) .1 .0; second-index = (c .before .before .before .before .before .before .before .before .before .pre) .1 .1 .0; block = (c .before .before .before .before .before .before .before .before .before .pre) .1 .1 .1 .0; first-state = (c .before .before .before .before .before .before .before .before .before .pre) .1 .1 .1 .1 .0 .0; second-state = (c .before .before .before .before .before .before .before .before .before .pre) .1 .1 .1 .1 .0 .1; common = (c .before .before .before .before .common-letters .ensures) } in let s = (c .before .loop .inv) (c .before .before .before .before .before .before .before .before .before .args .first) j ((c .before .before .before .before .before .before .before .before .before .args .span) .lo) g ((c .before .before .before .before .before .before .before .before .before .pre) .1 .1 .1 .1 .1) (c .before .before .next-move .ensures) in pairing-end j s (c .loop-test .left)
 
 pub write-pair-spec : {M : Type 1} → statement M
 write-pair-spec =
@@ -70,10 +82,13 @@ write-pair-spec =
     μ-loop
     cast-n
     cast-state
+    common-letters-requires
+    next-move-requires
     loop-holds
     transition-at-requires
     write-moves-requires
-    add-i
+    add-next-move
+    next-move-requires-2
     loop-less
     loop-again
     same-length

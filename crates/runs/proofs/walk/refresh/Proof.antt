@@ -1,81 +1,77 @@
-use Prim.Native.Nat.{ℕ, _≤_, _<_, _-_, _+_, _*_}
-use mathlib.Core.Path.{_≡_, refl, sym, ap, _∙_, subst}
-use native.Mathlib.Omega.{arith}
-use Rattle.tables.specs.Tables.{EmptyRow}
-use Rattle.tables.specs.Tables.Laws.{empty-start}
 use Rattle.runs.proofs.WalkCases.{refresh-kept, refresh-buffering, refresh-end, refresh-emptying, refresh-normal}
+use Rattle.tables.specs.Tables.Laws.{empty-start}
+use Rattle.tables.specs.Tables.{EmptyRow}
+use native.Mathlib.Omega.{arith}
+use mathlib.Core.Path.{_≡_, refl, sym, ap, _∙_, subst}
+use Prim.Native.Nat.{ℕ, _≤_, _<_, _-_, _+_, _*_}
 use borrow.Author.Needs.{needs}
 use Rattle.runs.proofs.walk.refresh.Statement.{statement}
 use Rattle.runs.proofs.walk.refresh.Tie as tie
 use Rattle.runs.proofs.walk.refresh.Reads as reads
 use Rattle.runs.proofs.walk.refresh.Lts as lts
-use Rattle.tables.proofs.table.buffering_rows.Reads as buffering-rows-reads
-use Rattle.tables.proofs.table.emptying_rows.Reads as emptying-rows-reads
-use Rattle.tables.proofs.table.load.Reads as load-reads
+use Rattle.tables.proofs.copy.buffering_rows.Reads as buffering-rows-reads
+use Rattle.tables.proofs.copy.emptying_rows.Reads as emptying-rows-reads
+use Rattle.tables.proofs.copy.load.Reads as load-reads
 
--- src/walk.rt:115:9
+-- src/walk.rt:182:9
 returns : tie.Need-returns
-returns c = refresh-kept _ _ _ _ _ _ _ _ ((c .before .before .before .pre) .1) (c .if1 .taken)
+returns c = refresh-kept _ _ _ _ _ _ _ _ ((c .before .before .before .before .pre) .2) (c .if1 .taken)
 
--- src/walk.rt:122:13
+-- src/walk.rt:189:13
 buffering-rows-requires : tie.Need-buffering-rows-requires
-buffering-rows-requires c κs = ((c .before .before .before .before .before .before .before .pre) .0, (c .before .before .if3 .taken), (c .before .before .before .before .before .before .before .pre) .1 .sized, λ p a b. (c .before .before .before .before .before .before .before .pre) .1 .places p b)
+buffering-rows-requires c κs = ((c .before .before .before .before .before .before .before .pre) .0, (c .before .before .before .before .before .before .before .pre) .1, (c .before .if3 .taken), (c .before .before .before .before .before .before .before .pre) .2 .sized .places, (c .before .before .before .before .before .before .before .pre) .2 .sized .stored-rows, λ p a b. (c .before .before .before .before .before .before .before .pre) .2 .places p b)
 
--- src/walk.rt:124:9
+-- src/walk.rt:191:9
 same-length : tie.Need-same-length
-same-length c = (c .before .before .buffering-rows .ensures) .other-size
+same-length c = (c .before .buffering-rows .ensures) .size
 
--- src/walk.rt:124:9
-same-length-2 : tie.Need-same-length-2
-same-length-2 c = (c .before .before .buffering-rows .ensures) .size
-
--- src/walk.rt:124:9
+-- src/walk.rt:191:9
 returns-2 : tie.Need-returns-2
-returns-2 c = refresh-buffering _ _ _ _ _ _ _ _ ((c .before .before .before .before .before .before .before .before .before .before .pre) .1) _ _ _ (c .before .before .before .before .before .before .if2 .taken) (c .before .before .buffering-rows .ensures)
+returns-2 c = refresh-buffering _ _ _ _ _ _ _ _ ((c .before .before .before .before .before .before .before .before .before .pre) .2) _ (c .before .before .before .before .if2 .taken) (c .before .buffering-rows .ensures)
 
--- src/walk.rt:124:9
+-- src/walk.rt:191:9
 returns-3 : tie.Need-returns-3
-returns-3 c = refresh-end _ _ _ _ _ _ _ _ ((c .before .before .before .before .before .pre) .1) (c .before .if2 .taken) (c .if3 .left)
+returns-3 c = refresh-end _ _ _ _ _ _ _ _ ((c .before .before .before .before .before .before .pre) .2) (c .before .if2 .taken) (c .if3 .left)
 
--- src/walk.rt:127:17
+-- src/walk.rt:194:17
 sub-d : tie.Need-sub-d
-sub-d c = omega (arith, (c .before .before .before .before .before .pre) .1 .placed .0)
+sub-d c = omega (arith, (c .before .before .before .before .before .before .pre) .2 .placed .0)
 
--- src/walk.rt:128:36
+-- src/walk.rt:195:35
 add-load : tie.Need-add-load
-add-load c = omega (arith, (c .before .before .before .before .before .pre) .1 .matching (c .if4 .taken) .1, (c .before .before .before .before .before .pre) .1 .sized .places, (c .before .before .before .before .before .good))
+add-load c = omega (arith, (c .before .before .before .before .before .before .pre) .2 .matching (c .if4 .taken) .1, (c .before .before .before .before .before .before .pre) .2 .sized .places, (c .before .before .before .before .before .before .good))
 
--- src/walk.rt:128:35
+-- src/walk.rt:195:34
 mul-load : tie.Need-mul-load
-mul-load c = omega (arith, (c .before .before .before .before .before .pre) .1 .matching (c .if4 .taken) .1, (c .before .before .before .before .before .pre) .1 .sized .places, (c .before .before .before .before .before .good))
+mul-load c = omega (arith, (c .before .before .before .before .before .before .pre) .2 .matching (c .if4 .taken) .1, (c .before .before .before .before .before .before .pre) .2 .sized .places, (c .before .before .before .before .before .before .good))
 
--- src/walk.rt:128:35
+-- src/walk.rt:195:34
 add-load-2 : tie.Need-add-load-2
-add-load-2 c = omega (arith, (c .before .before .before .before .before .pre) .1 .matching (c .if4 .taken) .1, (c .before .before .before .before .before .pre) .1 .sized .places, (c .before .before .before .before .before .good))
+add-load-2 c = omega (arith, (c .before .before .before .before .before .before .pre) .2 .matching (c .if4 .taken) .1, (c .before .before .before .before .before .before .pre) .2 .sized .places, (c .before .before .before .before .before .before .good))
 
--- src/walk.rt:128:13
+-- src/walk.rt:195:13
 load-requires : tie.Need-load-requires
-load-requires c κs = omega (arith, (c .before .before .before .before .before .pre) .1 .matching (c .if4 .taken) .1, (c .before .before .before .before .before .pre) .1 .sized .places)
+load-requires c κs = omega (arith, (c .before .before .before .before .before .before .pre) .2 .matching (c .if4 .taken) .1, (c .before .before .before .before .before .before .pre) .2 .sized .places)
 
--- src/walk.rt:129:51
+-- src/walk.rt:196:56
 add-emptying-rows : tie.Need-add-emptying-rows
-add-emptying-rows c = omega (arith, (c .before .before .before .before .before .before .pre) .1 .matching (c .before .if4 .taken) .1, (c .before .before .before .before .before .before .pre) .1 .sized .places, (c .before .before .before .before .before .before .good))
+add-emptying-rows c = omega (arith, (c .before .before .before .before .before .before .before .pre) .2 .matching (c .before .if4 .taken) .1, (c .before .before .before .before .before .before .before .pre) .2 .sized .places, (c .before .before .before .before .before .before .before .good))
 
--- src/walk.rt:129:9
+-- src/walk.rt:196:9
 emptying-rows-requires : tie.Need-emptying-rows-requires
-emptying-rows-requires c κs = ((c .before .before .before .before .before .before .before .pre) .0, omega arith, (c .before .before .before .before .before .before .before .pre) .1 .matching (c .before .before .if4 .taken) .1, omega (arith, (c .before .before .before .before .before .before .before .pre) .1 .matching (c .before .before .if4 .taken) .1, (c .before .before .before .before .before .before .before .pre) .1 .sized .emptied-rows, (c .before .before .before .before .before .before .before .pre) .1 .placed .0, (c .before .before .before .before .before .before .before .pre) .1 .placed .1), subst (EmptyRow (c .before .before .before .before .before .before .before .args .m) ((c .before .before .before .before .before .before .before .args .list) .now) ((c .before .before .before .before .before .before .before .args .word) .now) ((c .before .before .before .before .before .before .before .args .c) .position + ((c .before .before .before .before .before .before .before .args .c) .end - (c .before .before .before .before .before .before .before .args .c) .start)) 0) (sym (c .before .load .ensures)) (empty-start (c .before .before .before .before .before .before .before .args .m) ((c .before .before .before .before .before .before .before .args .list) .now) ((c .before .before .before .before .before .before .before .args .word) .now) ((c .before .before .before .before .before .before .before .args .t) .now) ((c .before .before .before .before .before .before .before .args .c) .position + ((c .before .before .before .before .before .before .before .args .c) .end - (c .before .before .before .before .before .before .before .args .c) .start)) ((c .before .before .before .before .before .before .before .pre) .1 .places ((c .before .before .before .before .before .before .before .args .c) .position + ((c .before .before .before .before .before .before .before .args .c) .end - (c .before .before .before .before .before .before .before .args .c) .start)) ((c .before .before .before .before .before .before .before .pre) .1 .matching (c .before .before .if4 .taken) .1))))
+emptying-rows-requires c κs = ((c .before .before .before .before .before .before .before .before .pre) .0, (c .before .before .before .before .before .before .before .before .pre) .1, omega arith, (c .before .before .before .before .before .before .before .before .pre) .2 .matching (c .before .before .if4 .taken) .1, omega (arith, (c .before .before .before .before .before .before .before .before .pre) .2 .matching (c .before .before .if4 .taken) .1, (c .before .before .before .before .before .before .before .before .pre) .2 .sized .emptied-rows, (c .before .before .before .before .before .before .before .before .pre) .2 .placed .0, (c .before .before .before .before .before .before .before .before .pre) .2 .placed .1), subst (EmptyRow (c .before .before .before .before .before .before .before .before .args .m) ((c .before .before .before .before .before .before .before .before .args .list) .now) ((c .before .before .before .before .before .before .before .before .args .word) .now) ((c .before .before .before .before .before .before .before .before .args .c) .position + ((c .before .before .before .before .before .before .before .before .args .c) .end - (c .before .before .before .before .before .before .before .before .args .c) .start)) 0) (sym (c .before .load .ensures)) (empty-start (c .before .before .before .before .before .before .before .before .args .m) ((c .before .before .before .before .before .before .before .before .args .list) .now) ((c .before .before .before .before .before .before .before .before .args .word) .now) ((c .before .before .before .before .before .before .before .before .args .t) .now) ((c .before .before .before .before .before .before .before .before .args .c) .position + ((c .before .before .before .before .before .before .before .before .args .c) .end - (c .before .before .before .before .before .before .before .before .args .c) .start)) ((c .before .before .before .before .before .before .before .before .pre) .2 .places ((c .before .before .before .before .before .before .before .before .args .c) .position + ((c .before .before .before .before .before .before .before .before .args .c) .end - (c .before .before .before .before .before .before .before .before .args .c) .start)) ((c .before .before .before .before .before .before .before .before .pre) .2 .matching (c .before .before .if4 .taken) .1))))
 
--- src/walk.rt:110:1
-same-length-3 : tie.Need-same-length-3
-same-length-3 c = (c .before .emptying-rows .ensures) .size
+-- src/walk.rt:167:1
+same-length-2 : tie.Need-same-length-2
+same-length-2 c = (c .before .emptying-rows .ensures) .size
 
--- src/walk.rt:110:1
+-- src/walk.rt:167:1
 returns-4 : tie.Need-returns-4
-returns-4 c = refresh-emptying _ _ _ _ _ _ _ _ ((c .before .before .before .before .before .before .before .before .before .pre) .1) _ (c .before .before .before .before .if4 .taken) (c .before .emptying-rows .ensures)
+returns-4 c = refresh-emptying _ _ _ _ _ _ _ _ ((c .before .before .before .before .before .before .before .before .before .before .pre) .2) _ (c .before .before .before .before .if4 .taken) (c .before .emptying-rows .ensures)
 
--- src/walk.rt:110:1
+-- src/walk.rt:167:1
 returns-5 : tie.Need-returns-5
-returns-5 c = refresh-normal _ _ _ _ _ _ _ _ ((c .before .before .before .before .before .pre) .1) (omega (arith, (c .before .before .if1 .left), (c .before .if2 .left), (c .if4 .left), (c .before .before .before .before .before .fits)))
+returns-5 c = refresh-normal _ _ _ _ _ _ _ _ ((c .before .before .before .before .before .before .pre) .2) (omega (arith, (c .before .before .if1 .left), (c .before .if2 .left), (c .if4 .left), (c .before .before .before .before .before .before .fits)))
 
 pub refresh-spec : {M : Type 1} → statement M
 refresh-spec =
@@ -84,7 +80,6 @@ refresh-spec =
     returns
     buffering-rows-requires
     same-length
-    same-length-2
     returns-2
     returns-3
     sub-d
@@ -94,6 +89,6 @@ refresh-spec =
     load-requires
     add-emptying-rows
     emptying-rows-requires
-    same-length-3
+    same-length-2
     returns-4
     returns-5)

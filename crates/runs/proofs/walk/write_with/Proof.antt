@@ -1,60 +1,72 @@
-use mathlib.Core.Path.{_≡_, refl, sym, ap, _∙_, subst}
-use native.Mathlib.Omega.{arith}
-use lib.ListN.{length}
-use Rattle.language.specs.Rules.{rules}
 use Rattle.runs.specs.Walk.Laws.{begun}
-use Rattle.tables.proofs.TableCases.{sized-kept}
+use Rattle.language.specs.Rules.{rules}
+use lib.ListN.{length}
+use native.Mathlib.Omega.{arith}
+use mathlib.Core.Path.{_≡_, refl, sym, ap, _∙_, subst}
 use borrow.Author.Needs.{needs}
 use Rattle.runs.proofs.walk.write_with.Statement.{statement}
 use Rattle.runs.proofs.walk.write_with.Tie as tie
 use Rattle.runs.proofs.walk.write_with.Reads as reads
 use Rattle.runs.proofs.walk.write_with.Lts as lts
-use Rattle.tables.proofs.table.fill.Reads as fill-reads
-use Rattle.tables.proofs.table.load.Reads as load-reads
+use Rattle.adjacency.proofs.index.Reads as index-reads
 use Rattle.runs.proofs.walk.start.Reads as start-reads
 use Rattle.runs.proofs.walk.walk.Reads as walk-reads
+use Rattle.tables.proofs.copy.load.Reads as load-reads
+use Rattle.tables.proofs.table.fill.Reads as fill-reads
 
--- src/walk.rt:193:5
+-- src/walk.rt:284:5
 fill-requires : tie.Need-fill-requires
 fill-requires c κs = search needs
 
--- src/walk.rt:194:15
+-- src/walk.rt:285:13
+index-requires : tie.Need-index-requires
+index-requires c κs = search needs
+
+-- src/walk.rt:286:15
 load-requires : tie.Need-load-requires
-load-requires c κs = omega (arith, (c .before .before .before .before .before .before .before .before .before .before .before .pre) .4 .places, (c .before .before .before .before .fill .ensures) .size)
+load-requires c κs = search needs
 
--- src/walk.rt:195:9
+-- src/walk.rt:287:9
 start-requires : tie.Need-start-requires
-start-requires c κs = rules _ _ ((c .before .before .before .before .before .before .before .before .before .before .before .before .before .pre) .0) .states-fit
+start-requires c κs = rules _ _ ((c .before .before .before .before .before .before .before .before .before .before .before .before .before .before .before .before .before .pre) .0) .states-fit
 
--- src/walk.rt:196:13
+-- src/walk.rt:288:13
 mul-d : tie.Need-mul-d
-mul-d c = let b = begun (c .before .before .before .before .before .before .before .before .before .before .before .before .before .before .args .m) ((c .before .before .before .before .before .before .before .before .before .before .before .before .before .before .args .list) .now) ((c .before .before .before .before .before .before .before .before .before .before .before .before .before .before .args .word) .now) _ _ _ _ ((c .before .before .before .before .before .before .before .before .before .before .before .before .before .before .pre) .0) ((c .before .before .before .before .before .before .before .before .before .before .before .before .before .before .pre) .1) ((c .before .before .before .before .before .before .before .before .before .before .before .before .before .before .pre) .2) ((c .before .before .before .before .before .before .before .before .before .before .before .before .before .before .pre) .3) ((c .before .before .before .before .before .before .before .fill .ensures) .each 0 (omega arith) (omega arith)) (c .before .before .load .ensures) (c .start .ensures) in omega (arith, b .below, rules _ _ ((c .before .before .before .before .before .before .before .before .before .before .before .before .before .before .pre) .0) .states-fit)
+mul-d c = let b = begun (c .before .before .before .before .before .before .before .before .before .before .before .before .before .before .before .before .before .before .args .m) ((c .before .before .before .before .before .before .before .before .before .before .before .before .before .before .before .before .before .before .args .list) .now) ((c .before .before .before .before .before .before .before .before .before .before .before .before .before .before .before .before .before .before .args .word) .now) _ _ _ _ ((c .before .before .before .before .before .before .before .before .before .before .before .before .before .before .before .before .before .before .pre) .0) ((c .before .before .before .before .before .before .before .before .before .before .before .before .before .before .before .before .before .before .pre) .1) ((c .before .before .before .before .before .before .before .before .before .before .before .before .before .before .before .before .before .before .pre) .2) ((c .before .before .before .before .before .before .before .before .before .before .before .before .before .before .before .before .before .before .pre) .3) ((c .before .before .before .before .before .before .before .before .before .fill .ensures) 0 (omega arith)) (c .before .before .load .ensures) (c .start .ensures) in omega (arith, b .below, rules _ _ ((c .before .before .before .before .before .before .before .before .before .before .before .before .before .before .before .before .before .before .pre) .0) .states-fit)
 
--- src/walk.rt:196:13
+-- src/walk.rt:288:13
 array-read-d : tie.Need-array-read-d
-array-read-d c = let b = begun (c .before .before .before .before .before .before .before .before .before .before .before .before .before .before .args .m) ((c .before .before .before .before .before .before .before .before .before .before .before .before .before .before .args .list) .now) ((c .before .before .before .before .before .before .before .before .before .before .before .before .before .before .args .word) .now) _ _ _ _ ((c .before .before .before .before .before .before .before .before .before .before .before .before .before .before .pre) .0) ((c .before .before .before .before .before .before .before .before .before .before .before .before .before .before .pre) .1) ((c .before .before .before .before .before .before .before .before .before .before .before .before .before .before .pre) .2) ((c .before .before .before .before .before .before .before .before .before .before .before .before .before .before .pre) .3) ((c .before .before .before .before .before .before .before .fill .ensures) .each 0 (omega arith) (omega arith)) (c .before .before .load .ensures) (c .start .ensures) in omega (arith, b .below, rules _ _ ((c .before .before .before .before .before .before .before .before .before .before .before .before .before .before .pre) .0) .states-fit)
+array-read-d c = let b = begun (c .before .before .before .before .before .before .before .before .before .before .before .before .before .before .before .before .before .before .args .m) ((c .before .before .before .before .before .before .before .before .before .before .before .before .before .before .before .before .before .before .args .list) .now) ((c .before .before .before .before .before .before .before .before .before .before .before .before .before .before .before .before .before .before .args .word) .now) _ _ _ _ ((c .before .before .before .before .before .before .before .before .before .before .before .before .before .before .before .before .before .before .pre) .0) ((c .before .before .before .before .before .before .before .before .before .before .before .before .before .before .before .before .before .before .pre) .1) ((c .before .before .before .before .before .before .before .before .before .before .before .before .before .before .before .before .before .before .pre) .2) ((c .before .before .before .before .before .before .before .before .before .before .before .before .before .before .before .before .before .before .pre) .3) ((c .before .before .before .before .before .before .before .before .before .fill .ensures) 0 (omega arith)) (c .before .before .load .ensures) (c .start .ensures) in omega (arith, b .below, rules _ _ ((c .before .before .before .before .before .before .before .before .before .before .before .before .before .before .before .before .before .before .pre) .0) .states-fit)
 
--- src/walk.rt:197:5
+-- src/walk.rt:289:5
 walk-requires : tie.Need-walk-requires
-walk-requires c κs = let b = begun (c .before .before .before .before .before .before .before .before .before .before .before .before .before .before .before .before .before .before .args .m) ((c .before .before .before .before .before .before .before .before .before .before .before .before .before .before .before .before .before .before .args .list) .now) ((c .before .before .before .before .before .before .before .before .before .before .before .before .before .before .before .before .before .before .args .word) .now) _ _ _ _ ((c .before .before .before .before .before .before .before .before .before .before .before .before .before .before .before .before .before .before .pre) .0) ((c .before .before .before .before .before .before .before .before .before .before .before .before .before .before .before .before .before .before .pre) .1) ((c .before .before .before .before .before .before .before .before .before .before .before .before .before .before .before .before .before .before .pre) .2) ((c .before .before .before .before .before .before .before .before .before .before .before .before .before .before .before .before .before .before .pre) .3) ((c .before .before .before .before .before .before .before .before .before .before .before .fill .ensures) .each 0 (omega arith) (omega arith)) (c .before .before .before .before .before .before .load .ensures) (c .before .before .before .before .start .ensures) in ((c .before .before .before .before .before .before .before .before .before .before .before .before .before .before .before .before .before .before .pre) .0, b .below, b .is-initial, sized-kept (c .before .before .before .before .before .before .before .before .before .before .before .before .before .before .before .before .before .before .args .m) ((c .before .before .before .before .before .before .before .before .before .before .before .before .before .before .before .before .before .before .args .list) .now) ((c .before .before .before .before .before .before .before .before .before .before .before .before .before .before .before .before .before .before .args .word) .now) _ _ _ _ _ _ ((c .before .before .before .before .before .before .before .before .before .before .before .fill .ensures) .size) ((c .before .before .before .before .before .before .before .before .before .before .before .fill .ensures) .emptied-size) ((c .before .before .before .before .before .before .before .before .before .before .before .fill .ensures) .stored-size) ((c .before .before .before .before .before .before .before .before .before .before .before .before .before .before .before .before .before .before .pre) .4), (λ p l. (c .before .before .before .before .before .before .before .before .before .before .before .fill .ensures) .each p (omega arith) l), b .best, b .small, b .room, b .fewest)
+walk-requires c κs = let b = begun (c .before .before .before .before .before .before .before .before .before .before .before .before .before .before .before .before .before .before .before .before .before .before .before .before .args .m) ((c .before .before .before .before .before .before .before .before .before .before .before .before .before .before .before .before .before .before .before .before .before .before .before .before .args .list) .now) ((c .before .before .before .before .before .before .before .before .before .before .before .before .before .before .before .before .before .before .before .before .before .before .before .before .args .word) .now) _ _ _ _ ((c .before .before .before .before .before .before .before .before .before .before .before .before .before .before .before .before .before .before .before .before .before .before .before .before .pre) .0) ((c .before .before .before .before .before .before .before .before .before .before .before .before .before .before .before .before .before .before .before .before .before .before .before .before .pre) .1) ((c .before .before .before .before .before .before .before .before .before .before .before .before .before .before .before .before .before .before .before .before .before .before .before .before .pre) .2) ((c .before .before .before .before .before .before .before .before .before .before .before .before .before .before .before .before .before .before .before .before .before .before .before .before .pre) .3) ((c .before .before .before .before .before .before .before .before .before .before .before .before .before .before .before .fill .ensures) 0 (omega arith)) (c .before .before .before .before .before .before .before .before .load .ensures) (c .before .before .before .before .before .before .start .ensures) in ((c .before .before .before .before .before .before .before .before .before .before .before .before .before .before .before .before .before .before .before .before .before .before .before .before .pre) .0, b .below, b .is-initial, record { places = omega (arith, (c .before .before .before .before .before .before .before .before .before .before .before .before .before .before .before .before .before .before .before .before .before .before .before .before .pre) .6 .places, (c .before .before .before .before .before .before .before .before .before .before .before .before .before .before .t .given)); emptied-rows = (c .before .before .before .before .before .before .before .before .before .before .before .before .before .before .before .before .before .before .before .before .before .before .before .before .pre) .6 .emptied-rows; stored-rows = (c .before .before .before .before .before .before .before .before .before .before .before .before .before .before .before .before .before .before .before .before .before .before .before .before .pre) .6 .stored-rows }, (c .before .before .before .before .before .before .before .before .before .before .before .before .before .before .before .fill .ensures), b .best, b .small, b .room, b .fewest, (c .before .before .before .before .before .before .before .before .before .before .before .before .before .before .before .before .before .before .before .before .before .before .before .before .pre) .4, (c .before .before .before .before .before .before .before .before .before .before .index .ensures))
 
--- src/walk.rt:188:1
+-- src/walk.rt:268:1
 same-length : tie.Need-same-length
 same-length c = search needs
 
--- src/walk.rt:188:1
+-- src/walk.rt:268:1
 same-length-2 : tie.Need-same-length-2
 same-length-2 c = search needs
 
--- src/walk.rt:188:1
+-- src/walk.rt:268:1
 same-length-3 : tie.Need-same-length-3
 same-length-3 c = search needs
 
--- src/walk.rt:188:1
+-- src/walk.rt:268:1
 same-length-4 : tie.Need-same-length-4
 same-length-4 c = search needs
 
--- src/walk.rt:188:1
+-- src/walk.rt:268:1
+same-length-5 : tie.Need-same-length-5
+same-length-5 c = search needs
+
+-- src/walk.rt:268:1
+same-length-6 : tie.Need-same-length-6
+same-length-6 c = search needs
+
+-- src/walk.rt:268:1
 returns : tie.Need-returns
 returns c = search needs
 
@@ -63,6 +75,7 @@ write-with-spec =
     tie.close
     (tie.spec
     fill-requires
+    index-requires
     load-requires
     start-requires
     mul-d
@@ -72,4 +85,6 @@ write-with-spec =
     same-length-2
     same-length-3
     same-length-4
+    same-length-5
+    same-length-6
     returns)

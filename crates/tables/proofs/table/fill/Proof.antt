@@ -1,61 +1,62 @@
-use Prim.Native.Nat.{ℕ, _≤_, _<_, _-_, _+_, _/_}
-use mathlib.Core.Path.{_≡_, refl, sym, ap, _∙_}
-use native.Mathlib.Omega.{arith}
-use borrow.Author.Needs.{needs}
+use Rattle.tables.proofs.FillCases.{filling-before, filled-end, zero-at}
+use Rattle.tables.specs.Halves.Laws.{shared-end}
+use Rattle.tables.specs.Tables.{Filling}
 use lib.ListN.{length}
-use Rattle.tables.specs.Tables.{Filled}
-use Rattle.tables.proofs.TableCases.{filled-start, filled-again, filled-end, sized-kept}
+use native.Mathlib.Omega.{arith}
+use mathlib.Core.Path.{_≡_, refl, sym, ap, _∙_, subst}
+use Prim.Native.Nat.{ℕ, _+_, _-_, _≤_}
 use Rattle.tables.proofs.table.fill.Statement.{statement}
 use Rattle.tables.proofs.table.fill.Tie as tie
 use Rattle.tables.proofs.table.fill.Reads as reads
 use Rattle.tables.proofs.table.fill.Lts as lts
+use Rattle.tables.proofs.table.fill_end.Reads as fill-end-reads
 use Rattle.tables.proofs.table.fill_place.Reads as fill-place-reads
 
 abbrev Inv-loop : tie.InvT-loop
-Inv-loop m list word t₀ emptied₀ stored₀ p₀ t emptied stored p = (p ≤ length word + 1) × Filled m list word p t₀ t emptied₀ emptied stored₀ stored
+Inv-loop m list ways word t₀ ends₀ left₀ counts₀ live₀ p₀ t ends left counts live p = Filling m list word p t ends left counts live × (p ≤ length word) × (length t ≡ length t₀) × (length ends ≡ length ends₀) × (length left ≡ length left₀)
 
 abbrev μ-loop : tie.MeasureT-loop
-μ-loop m list word t₀ emptied₀ stored₀ p₀ t emptied stored p = p
+μ-loop m list ways word t₀ ends₀ left₀ counts₀ live₀ p₀ t ends left counts live p = p
 
--- src/table.rt:133:17
-add-p : tie.Need-add-p Inv-loop μ-loop
-add-p c = omega (arith, (c .before .before .good))
+-- src/table.rt:127:9
+fill-end-requires : tie.Need-fill-end-requires Inv-loop μ-loop
+fill-end-requires c κs = ((c .before .before .before .before .before .before .before .pre) .0, (c .before .before .before .before .before .before .before .pre) .1, (c .before .before .before .before .before .before .before .pre) .3)
 
--- src/table.rt:134:5
+-- src/table.rt:129:5
 loop-holds : tie.Need-loop-holds Inv-loop μ-loop
-loop-holds c = (omega arith, filled-start _ _ _ _ _ _)
+loop-holds c = ((c .before .before .before .before .fill-end .ensures) _ (shared-end _ _ refl zero-at), omega arith, refl, refl, refl)
 
--- src/table.rt:135:9
+-- src/table.rt:130:9
 sub-p : tie.Need-sub-p Inv-loop μ-loop
 sub-p c = omega (arith, (c .loop-test .taken))
 
--- src/table.rt:136:9
+-- src/table.rt:131:9
 fill-place-requires : tie.Need-fill-place-requires Inv-loop μ-loop
-fill-place-requires c κs = ((c .before .before .before .before .before .before .before .pre) .0, omega (arith, (c .before .before .before .before .loop .inv) .0, (c .before .before .before .loop-test .taken)), sized-kept (c .before .before .before .before .before .before .before .args .m) ((c .before .before .before .before .before .before .before .args .list) .now) ((c .before .before .before .before .before .before .before .args .word) .now) _ _ _ _ _ _ ((c .before .before .before .before .loop .inv) .1 .size) ((c .before .before .before .before .loop .inv) .1 .emptied-size) ((c .before .before .before .before .loop .inv) .1 .stored-size) ((c .before .before .before .before .before .before .before .pre) .1), λ k a b. (c .before .before .before .before .loop .inv) .1 .each k (omega (arith, (c .before .before .before .loop-test .taken))) b)
+fill-place-requires c κs = ((c .before .before .before .before .before .before .before .before .before .before .before .before .before .before .before .before .before .before .pre) .0, (c .before .before .before .before .before .before .before .before .before .before .before .before .before .before .before .before .before .before .pre) .1, omega (arith, (c .before .before .before .before .loop-test .taken), (c .before .before .before .before .before .loop .inv) .1), (c .before .before .before .before .before .before .before .before .before .before .before .before .before .before .before .before .before .before .pre) .2, filling-before _ _ _ _ _ _ _ _ _ (c .before .before .before .before .loop-test .taken) ((c .before .before .before .before .before .loop .inv) .0))
 
--- src/table.rt:134:5
+-- src/table.rt:129:5
 loop-less : tie.Need-loop-less Inv-loop μ-loop
-loop-less c = omega (arith, (c .before .before .before .before .before .before .before .loop-test .taken))
+loop-less c = omega (arith, (c .before .before .before .before .before .before .before .before .before .loop-test .taken))
 
--- src/table.rt:134:5
+-- src/table.rt:129:5
 loop-again : tie.Need-loop-again Inv-loop μ-loop
-loop-again c = (omega (arith, (c .before .before .before .before .before .before .before .before .loop .inv) .0), filled-again _ _ _ _ _ _ _ _ _ _ _ _ _ (c .before .before .before .before .before .before .before .loop-test .taken) ((c .before .before .before .before .before .before .before .before .loop .inv) .1) (c .before .before .before .fill-place .ensures))
+loop-again c = ((c .before .before .before .before .fill-place .ensures), omega (arith, (c .before .before .before .before .before .before .before .before .before .before .loop .inv) .1), (c .before .before .before .t2 .given) ∙ (c .before .before .before .before .before .before .before .before .before .before .loop .inv) .2, (c .before .before .ends2 .given) ∙ (c .before .before .before .before .before .before .before .before .before .before .loop .inv) .3, (c .before .left2 .given) ∙ (c .before .before .before .before .before .before .before .before .before .before .loop .inv) .4)
 
--- src/table.rt:129:1
+-- src/table.rt:114:1
 same-length : tie.Need-same-length Inv-loop μ-loop
-same-length c = (c .before .loop .inv) .1 .size
+same-length c = (c .before .loop .inv) .2 ∙ (c .before .before .before .before .before .t .given)
 
--- src/table.rt:129:1
+-- src/table.rt:114:1
 same-length-2 : tie.Need-same-length-2 Inv-loop μ-loop
-same-length-2 c = (c .before .loop .inv) .1 .emptied-size
+same-length-2 c = (c .before .loop .inv) .3 ∙ (c .before .before .before .before .ends .given)
 
--- src/table.rt:129:1
+-- src/table.rt:114:1
 same-length-3 : tie.Need-same-length-3 Inv-loop μ-loop
-same-length-3 c = (c .before .loop .inv) .1 .stored-size
+same-length-3 c = (c .before .loop .inv) .4 ∙ (c .before .before .before .left .given)
 
--- src/table.rt:129:1
+-- src/table.rt:114:1
 returns : tie.Need-returns Inv-loop μ-loop
-returns c = filled-end _ _ _ _ _ _ _ _ _ _ (c .loop-test .left) ((c .before .loop .inv) .1)
+returns c = filled-end _ _ _ _ _ _ _ _ _ (c .loop-test .left) ((c .before .loop .inv) .0)
 
 pub fill-spec : {M : Type 1} → statement M
 fill-spec =
@@ -63,7 +64,7 @@ fill-spec =
     (tie.spec
     Inv-loop
     μ-loop
-    add-p
+    fill-end-requires
     loop-holds
     sub-p
     fill-place-requires

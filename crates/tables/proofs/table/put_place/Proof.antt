@@ -3,7 +3,7 @@ use Rattle.tables.proofs.table.put_place.Statement.{statement}
 use Rattle.tables.proofs.table.put_place.Tie as tie
 use Rattle.tables.proofs.table.put_place.Reads as reads
 use Rattle.tables.proofs.table.put_place.Lts as lts
-use Rattle.tables.proofs.table.save.Reads as save-reads
+use Rattle.tables.proofs.copy.save.Reads as save-reads
 
 -- src/table.rt:104:13
 mul-save : tie.Need-mul-save

@@ -1,0 +1,39 @@
+use Rattle.layers.proofs.LayerCases.{storing-zero, storing-letter, storing-none, lives}
+use borrow.Author.Tests.{not-true}
+use Rattle.language.specs.Rules.{rules}
+use borrow.Author.Needs.{needs}
+use Rattle.layers.proofs.layer.storing_layer.Statement.{statement}
+use Rattle.layers.proofs.layer.storing_layer.Tie as tie
+use Rattle.layers.proofs.layer.storing_layer.Reads as reads
+use Rattle.layers.proofs.layer.storing_layer.Lts as lts
+use Rattle.layers.proofs.layer.blank.Reads as blank-reads
+use Rattle.layers.proofs.row.close.Reads as close-reads
+use Rattle.layers.proofs.row.pass.Reads as pass-reads
+
+-- src/layer.rt:100:19
+blank-requires : tie.Need-blank-requires
+blank-requires c κs = search needs
+
+-- src/layer.rt:102:9
+returns : tie.Need-returns
+returns c = storing-zero _ _ (rules _ _ ((c .before .before .before .before .pre) .0)) _ _ _ (c .before .blank .ensures) (c .if1 .taken)
+
+-- src/layer.rt:104:9
+pass-requires : tie.Need-pass-requires
+pass-requires c κs = search needs
+
+-- src/layer.rt:105:9
+returns-2 : tie.Need-returns-2
+returns-2 c = storing-none _ _ (rules _ _ ((c .before .before .before .before .before .before .before .pre) .0)) _ _ _ (c .before .before .before .before .blank .ensures) (c .before .before .before .if1 .left) _ _ (c .before .pass .ensures) (not-true _ (c .if2 .taken))
+
+-- src/layer.rt:107:5
+close-requires : tie.Need-close-requires
+close-requires c κs = search needs
+
+-- src/layer.rt:96:1
+returns-3 : tie.Need-returns-3
+returns-3 c = lives (storing-letter _ _ (rules _ _ ((c .before .before .before .before .before .before .before .before .before .pre) .0)) _ _ _ (c .before .before .before .before .before .before .blank .ensures) (c .before .before .before .before .before .if1 .left) _ _ (c .before .before .before .pass .ensures) _ (c .close .ensures))
+
+pub storing-layer-spec : {M : Type 1} → statement M
+storing-layer-spec =
+    tie.close (tie.spec blank-requires returns pass-requires returns-2 close-requires returns-3)

@@ -1,0 +1,14 @@
+use mathlib.Core.Path.{refl}
+use Rattle.product.specs.Each.{zerosOf}
+use Rattle.product.proofs.letters.no_keys.Statement.{statement}
+use Rattle.product.proofs.letters.no_keys.Tie as tie
+use Rattle.product.proofs.letters.no_keys.Reads as reads
+use Rattle.product.proofs.letters.no_keys.Lts as lts
+
+-- src/letters.rt:29:1
+returns : tie.Need-returns
+unfolding zerosOf
+returns c = refl
+
+pub no-keys-spec : {M : Type 1} → statement M
+no-keys-spec = tie.close (tie.spec returns)

@@ -1,0 +1,75 @@
+use native.Mathlib.Omega.{arith}
+use borrow.Author.Needs.{needs}
+use Rattle.runs.proofs.walk.write_short.Statement.{statement}
+use Rattle.runs.proofs.walk.write_short.Tie as tie
+use Rattle.runs.proofs.walk.write_short.Reads as reads
+use Rattle.runs.proofs.walk.write_short.Lts as lts
+use Rattle.runs.proofs.walk.few_ends.Reads as few-ends-reads
+use Rattle.runs.proofs.walk.few_places.Reads as few-places-reads
+use Rattle.runs.proofs.walk.few_rows.Reads as few-rows-reads
+use Rattle.runs.proofs.walk.write_with.Reads as write-with-reads
+
+-- src/walk.rt:394:17
+few-places-requires : tie.Need-few-places-requires
+few-places-requires c κs = search needs
+
+-- src/walk.rt:395:20
+few-ends-requires : tie.Need-few-ends-requires
+few-ends-requires c κs = search needs
+
+-- src/walk.rt:397:23
+few-rows-requires : tie.Need-few-rows-requires
+few-rows-requires c κs = search needs
+
+-- src/walk.rt:398:22
+few-rows-requires-2 : tie.Need-few-rows-requires-2
+few-rows-requires-2 c κs = search needs
+
+-- src/walk.rt:404:9
+slice-aggregate-write-with : tie.Need-slice-aggregate-write-with
+slice-aggregate-write-with c = search needs
+
+-- src/walk.rt:405:9
+slice-aggregate-write-with-2 : tie.Need-slice-aggregate-write-with-2
+slice-aggregate-write-with-2 c = search needs
+
+-- src/walk.rt:406:9
+slice-aggregate-write-with-3 : tie.Need-slice-aggregate-write-with-3
+slice-aggregate-write-with-3 c = search needs
+
+-- src/walk.rt:407:9
+slice-aggregate-write-with-4 : tie.Need-slice-aggregate-write-with-4
+slice-aggregate-write-with-4 c = search needs
+
+-- src/walk.rt:408:9
+slice-aggregate-write-with-5 : tie.Need-slice-aggregate-write-with-5
+slice-aggregate-write-with-5 c = search needs
+
+-- src/walk.rt:399:5
+write-with-requires : tie.Need-write-with-requires
+write-with-requires c κs = ((c .before .before .before .before .before .before .before .before .before .before .before .before .before .before .pre) .0, omega (arith, (c .before .before .before .before .before .before .before .before .before .before .before .before .before .before .pre) .1), (c .before .before .before .before .before .before .before .before .before .before .before .before .before .before .pre) .2, (c .before .before .before .before .before .before .before .before .before .before .before .before .before .before .pre) .3, (c .before .before .before .before .before .before .before .before .before .before .before .before .before .before .pre) .4, record { places = omega (arith, (c .before .before .before .before .before .before .before .before .before .before .before .before .before .before .pre) .1); rows = omega (arith, (c .before .before .before .before .before .before .before .before .before .before .before .before .before .before .pre) .1); counts = omega (arith, (c .before .before .before .before .before .before .before .before .before .before .before .before .before .before .pre) .1) }, record { places = omega (arith, (c .before .before .before .before .before .before .before .before .before .before .before .before .before .before .pre) .1); emptied-rows = omega (arith, (c .before .before .before .before .before .before .before .before .before .before .before .before .before .before .pre) .1); stored-rows = omega (arith, (c .before .before .before .before .before .before .before .before .before .before .before .before .before .before .pre) .1) })
+
+-- src/walk.rt:390:1
+same-length : tie.Need-same-length
+same-length c = search needs
+
+-- src/walk.rt:390:1
+returns : tie.Need-returns
+returns c = search needs
+
+pub write-short-spec : {M : Type 1} → statement M
+write-short-spec =
+    tie.close
+    (tie.spec
+    few-places-requires
+    few-ends-requires
+    few-rows-requires
+    few-rows-requires-2
+    slice-aggregate-write-with
+    slice-aggregate-write-with-2
+    slice-aggregate-write-with-3
+    slice-aggregate-write-with-4
+    slice-aggregate-write-with-5
+    write-with-requires
+    same-length
+    returns)

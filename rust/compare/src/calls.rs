@@ -1,0 +1,267 @@
+//! The proved calls as the tests make them, with the names they have in `zagvirk`. After each call every slice that it
+//! was lent is compared with a copy of its contents before: a slice to read whole, a slice to write past the elements
+//! that the result says are written. [`crate::Case`] does the same for many calls on one machine and word.
+
+use crate::kept::Kept;
+use zagvirk::copies::{Copies, CopiesRecord};
+use zagvirk::product::JoinedRecord;
+use zagvirk::recognize::RecognizedRecord;
+use zagvirk::sheet::{ReadRecord, WrittenRecord};
+use zagvirk::spelling::TranslatedRecord;
+use zagvirk::{Machine, Refusal};
+
+/// The elements of the list that a machine has written.
+fn list_length(machine: &Machine) -> usize {
+    machine.transitions.saturating_mul(3)
+}
+
+/// `zagvirk::check_run`.
+pub fn check_run(
+    machine: &Machine,
+    list: &[u16],
+    word: &[u8],
+    run: &[u16],
+) -> Result<bool, Refusal> {
+    let kept_list = Kept::new("list", list);
+    let kept_word = Kept::new("word", word);
+    let kept_run = Kept::new("run", run);
+    let found = zagvirk::check_run(machine, list, word, run);
+    kept_list.same("check_run", list);
+    kept_word.same("check_run", word);
+    kept_run.same("check_run", run);
+    found
+}
+
+/// Makes a call that reads a list and a word and writes a run.
+fn recognizing<R>(
+    (list, word, run): (&[u16], &[u8], &mut [u16]),
+    call: impl FnOnce(&mut [u16]) -> R,
+    written: impl FnOnce(&R) -> usize,
+) -> R {
+    let kept_list = Kept::new("list", list);
+    let kept_word = Kept::new("word", word);
+    let kept_run = Kept::new("run slice", run);
+    let found = call(run);
+    kept_list.same("recognize", list);
+    kept_word.same("recognize", word);
+    kept_run.same_past("recognize", written(&found), run);
+    found
+}
+
+/// `zagvirk::recognize::recognize_record`.
+pub fn recognize_record(
+    machine: &Machine,
+    list: &[u16],
+    word: &[u8],
+    run: &mut [u16],
+) -> RecognizedRecord {
+    recognizing(
+        (list, word, run),
+        |run| zagvirk::recognize::recognize_record(machine, list, word, run),
+        |found| found.entries,
+    )
+}
+
+/// `zagvirk::recognize::recognize`.
+pub fn recognize(
+    machine: &Machine,
+    list: &[u16],
+    word: &[u8],
+    run: &mut [u16],
+) -> Result<Option<usize>, Refusal> {
+    recognizing(
+        (list, word, run),
+        |run| zagvirk::recognize::recognize(machine, list, word, run),
+        |found| found.ok().flatten().unwrap_or(0),
+    )
+}
+
+/// Makes a call that reads a list, a word and a run and writes copies.
+fn listing<R>(
+    (list, word, run, copies): (&[u16], &[u8], &[u16], &mut [u16]),
+    call: impl FnOnce(&mut [u16]) -> R,
+    count: impl FnOnce(&R) -> usize,
+) -> R {
+    let kept_list = Kept::new("list", list);
+    let kept_word = Kept::new("word", word);
+    let kept_run = Kept::new("run", run);
+    let kept_copies = Kept::new("slice for copies", copies);
+    let found = call(copies);
+    kept_list.same("list_copies", list);
+    kept_word.same("list_copies", word);
+    kept_run.same("list_copies", run);
+    kept_copies.same_past("list_copies", count(&found).saturating_mul(2), copies);
+    found
+}
+
+/// `zagvirk::copies::list_copies_record`.
+pub fn list_copies_record(
+    machine: &Machine,
+    list: &[u16],
+    word: &[u8],
+    run: &[u16],
+    copies: &mut [u16],
+) -> CopiesRecord {
+    listing(
+        (list, word, run, copies),
+        |copies| zagvirk::copies::list_copies_record(machine, list, word, run, copies),
+        |found| found.copies,
+    )
+}
+
+/// `zagvirk::copies::list_copies`.
+pub fn list_copies(
+    machine: &Machine,
+    list: &[u16],
+    word: &[u8],
+    run: &[u16],
+    copies: &mut [u16],
+) -> Result<Copies, Refusal> {
+    listing(
+        (list, word, run, copies),
+        |copies| zagvirk::copies::list_copies(machine, list, word, run, copies),
+        |found| found.map_or(0, |listed| listed.count),
+    )
+}
+
+/// Makes a call that reads two lists and writes a third.
+fn joining<R>(
+    (first, second, list): (&[u16], &[u16], &mut [u16]),
+    call: impl FnOnce(&mut [u16]) -> R,
+    written: impl FnOnce(&R) -> usize,
+) -> R {
+    let kept_first = Kept::new("first list", first);
+    let kept_second = Kept::new("second list", second);
+    let kept_list = Kept::new("list for the product", list);
+    let found = call(list);
+    kept_first.same("join", first);
+    kept_second.same("join", second);
+    kept_list.same_past("join", written(&found), list);
+    found
+}
+
+/// `zagvirk::product::join_record`.
+pub fn join_record(
+    first: &Machine,
+    first_list: &[u16],
+    second: &Machine,
+    second_list: &[u16],
+    list: &mut [u16],
+) -> JoinedRecord {
+    joining(
+        (first_list, second_list, list),
+        |list| zagvirk::product::join_record(first, first_list, second, second_list, list),
+        |found| list_length(&found.machine),
+    )
+}
+
+/// `zagvirk::product::join`.
+pub fn join(
+    first: &Machine,
+    first_list: &[u16],
+    second: &Machine,
+    second_list: &[u16],
+    list: &mut [u16],
+) -> Result<Machine, Refusal> {
+    joining(
+        (first_list, second_list, list),
+        |list| zagvirk::product::join(first, first_list, second, second_list, list),
+        |found| found.as_ref().map_or(0, list_length),
+    )
+}
+
+/// Makes a call that reads a sheet and writes a list.
+fn reading<R>(
+    (sheet, list): (&[u8], &mut [u16]),
+    call: impl FnOnce(&mut [u16]) -> R,
+    written: impl FnOnce(&R) -> usize,
+) -> R {
+    let kept_sheet = Kept::new("sheet", sheet);
+    let kept_list = Kept::new("list", list);
+    let found = call(list);
+    kept_sheet.same("read", sheet);
+    kept_list.same_past("read", written(&found), list);
+    found
+}
+
+/// `zagvirk::sheet::read_record`.
+pub fn read_record(sheet: &[u8], list: &mut [u16]) -> ReadRecord {
+    reading(
+        (sheet, list),
+        |list| zagvirk::sheet::read_record(sheet, list),
+        |found| list_length(&found.machine),
+    )
+}
+
+/// `zagvirk::sheet::read`.
+pub fn read(sheet: &[u8], list: &mut [u16]) -> Result<Machine, Refusal> {
+    reading(
+        (sheet, list),
+        |list| zagvirk::sheet::read(sheet, list),
+        |found| found.as_ref().map_or(0, list_length),
+    )
+}
+
+/// Makes a call that reads a list and writes a sheet.
+fn writing<R>(
+    (list, sheet): (&[u16], &mut [u8]),
+    call: impl FnOnce(&mut [u8]) -> R,
+    written: impl FnOnce(&R) -> usize,
+) -> R {
+    let kept_list = Kept::new("list", list);
+    let kept_sheet = Kept::new("slice for the sheet", sheet);
+    let found = call(sheet);
+    kept_list.same("write", list);
+    kept_sheet.same_past("write", written(&found), sheet);
+    found
+}
+
+/// `zagvirk::sheet::write_record`.
+pub fn write_record(machine: &Machine, list: &[u16], sheet: &mut [u8]) -> WrittenRecord {
+    writing(
+        (list, sheet),
+        |sheet| zagvirk::sheet::write_record(machine, list, sheet),
+        |found| found.bytes,
+    )
+}
+
+/// `zagvirk::sheet::write`.
+pub fn write(machine: &Machine, list: &[u16], sheet: &mut [u8]) -> Result<usize, Refusal> {
+    writing(
+        (list, sheet),
+        |sheet| zagvirk::sheet::write(machine, list, sheet),
+        |found| found.unwrap_or(0),
+    )
+}
+
+/// Makes a call that reads bytes and writes a word.
+fn translating<R>(
+    (bytes, word): (&[u8], &mut [u8]),
+    call: impl FnOnce(&mut [u8]) -> R,
+    written: impl FnOnce(&R) -> usize,
+) -> R {
+    let kept_bytes = Kept::new("written word", bytes);
+    let kept_word = Kept::new("slice for the word", word);
+    let found = call(word);
+    kept_bytes.same("translate", bytes);
+    kept_word.same_past("translate", written(&found), word);
+    found
+}
+
+/// `zagvirk::spelling::translate_record`.
+pub fn translate_record(bytes: &[u8], word: &mut [u8]) -> TranslatedRecord {
+    translating(
+        (bytes, word),
+        |word| zagvirk::spelling::translate_record(bytes, word),
+        |found| found.letters,
+    )
+}
+
+/// `zagvirk::spelling::translate`.
+pub fn translate(bytes: &[u8], word: &mut [u8]) -> Result<usize, Refusal> {
+    translating(
+        (bytes, word),
+        |word| zagvirk::spelling::translate(bytes, word),
+        |found| found.unwrap_or(0),
+    )
+}
