@@ -94,7 +94,7 @@ module _ (b : ℕ) where
       blank-other (λ (e : b ≡ 32). omega arith)
       ∙ ap (λ (z : Bool). cond z nought (cond (isDigit b) (digits (b - 48)) broken)) (eq-eqb b 48 h)
 
-  blank-rest : (b ≡ 32 → ⊥) → (b ≡ 48 → ⊥) → next blank b ≡ cond (isDigit b) (digits (b - 48)) broken
+  pub blank-rest : (b ≡ 32 → ⊥) → (b ≡ 48 → ⊥) → next blank b ≡ cond (isDigit b) (digits (b - 48)) broken
   blank-rest h n = blank-other h ∙ ap (λ (z : Bool). cond z nought (cond (isDigit b) (digits (b - 48)) broken)) (ne-eqb b 48 n)
 
   pub blank-low : (b ≡ 32 → ⊥) → b < 48 → next blank b ≡ broken

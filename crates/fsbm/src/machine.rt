@@ -1,9 +1,14 @@
 // The machine as a record and a lent list of transitions, and the rules that both obey.
+ghost use Prim.Native.Nat.{ℕ, _+_, _*_, _<_, _≤_};
 ghost use mathlib.Core.Path.{_≡_};
-ghost use lib.ListN.{getD};
+ghost use mathlib.Core.Bool.{cond};
+ghost use mathlib.Core.Logic.{_↔_};
+ghost use lib.ListN.{getD, length};
+ghost use lib.Dec.{eqb};
 ghost use Rattle.graphs.specs.Search.{allBelow};
 ghost use Rattle.fsbm.specs.Machine.{markOf, initial, final, buffering, matching, bothMatching, transitionAt};
-ghost use Rattle.fsbm.specs.Machine.{maxStates, goodMark, named, precedes, goodTransition, wellFormed};
+ghost use Rattle.fsbm.specs.Machine.{maxStates, goodMark, named, goodTransition, wellFormed};
+ghost use Rattle.fsbm.specs.declared.machine.Machine.{Machine};
 
 // A finite-state buffered machine without its transitions, which stand in a lent list (document 01: a table's record).
 #[repr(C)]
@@ -97,35 +102,45 @@ pub fn transition_at(list: &[u16], k: usize) -> Transition
     }
 }
 
-// Whether the mark of state q obeys the rules: at most 15, never buffering and matching together, 0 past the last state.
-fn good_mark(m: Machine, q: usize) -> bool
-    ensures { λ r. ⌜ r ≡ goodMark m q ⌝ }
+// The greater of two numbers.
+fn greater(a: u8, b: u8) -> u8
+    ensures { λ r. ⌜ ((k : ℕ) → (r ≤ k) ↔ ((a ≤ k) × (b ≤ k))) ⌝ }
 {
-    let v = mark(&m.marks, q);
-    if m.states <= q {
-        return v == 0;
+    if a < b {
+        return b;
     }
-    if 15 < v {
-        return false;
-    }
-    if is_buffering(&m.marks, q) {
-        return !is_matching(&m.marks, q);
-    }
-    true
+    a
 }
 
-// Whether the marks of all 64 states obey the rules.
-fn good_marks(m: Machine) -> bool
-    ensures { λ r. ⌜ r ≡ allBelow maxStates (goodMark m) ⌝ }
+// The least number of states with which state q may have the mark v: none is needed for mark 0.
+fn states_for(q: u8, v: u8) -> u8
+    requires { ⌜ q < 64 ⌝ }
+    ensures { λ r. ⌜ r ≡ cond (eqb v 0) 0 (q + 1) ⌝ }
 {
-    let mut k: usize = 64;
-    while 0 < k {
-        k -= 1;
-        if !good_mark(m, k) {
-            return false;
-        }
+    if v == 0 {
+        return 0;
     }
-    true
+    q + 1
+}
+
+// Whether the marks of all 64 states obey the rules: at most 15, never buffering and matching together (so at most 11), 0 past the
+// last state. The loop has no early exit, so that many marks can be tested at once.
+fn good_marks(states: usize, marks: &[u8; 64]) -> bool
+    ensures { λ r. ⌜ ((m : Machine) → m .states ≡ states → m .marks ≡ now (marks .entry) → r ≡ allBelow maxStates (goodMark m)) ⌝ }
+{
+    let mut largest: u8 = 0;
+    let mut needed: u8 = 0;
+    let mut q: usize = 0;
+    while q < 64 {
+        let v = marks[q];
+        largest = greater(largest, v);
+        needed = greater(needed, states_for(q as u8, v));
+        q += 1;
+    }
+    if 11 < largest {
+        return false;
+    }
+    needed as usize <= states
 }
 
 // Whether the states and the letter that a transition names are there.
@@ -141,43 +156,44 @@ fn is_named(states: usize, letters: usize, t: Transition) -> bool
     (t.to as usize) < states
 }
 
-// Whether a transition comes strictly before another: by from, then letter, then to.
-fn comes_before(s: Transition, t: Transition) -> bool
-    ensures { λ r. ⌜ r ≡ precedes s t ⌝ }
+// A number that is the smaller the earlier a transition comes: by from, then letter, then to.
+fn rank(t: Transition) -> u64
+    ensures { λ r. ⌜ r ≡ (t .from * 65536 + t .letter) * 65536 + t .to ⌝ }
 {
-    if s.from != t.from {
-        return s.from < t.from;
-    }
-    if s.letter != t.letter {
-        return s.letter < t.letter;
-    }
-    s.to < t.to
+    (t.from as u64 * 65536 + t.letter as u64) * 65536 + t.to as u64
 }
 
-// Whether transition number k names only what is there and comes strictly after the one before it.
-fn good_transition(states: usize, letters: usize, list: &[u16], k: usize) -> bool
-    ensures { λ r. ⌜ r ≡ goodTransition states letters (now (list .entry)) k ⌝ }
+// Transition number k of a lent list that has it.
+fn present_transition(list: &[u16], k: usize) -> Transition
+    requires { ⌜ k * 3 + 3 ≤ length (now list) ⌝ }
+    ensures { λ r. ⌜ r ≡ transitionAt (now (list .entry)) k ⌝ }
 {
-    let t = transition_at(list, k);
-    if !is_named(states, letters, t) {
-        return false;
+    let i = k * 3;
+    Transition {
+        from: list[i],
+        letter: list[i + 1],
+        to: list[i + 2],
     }
-    if k == 0 {
-        return true;
-    }
-    comes_before(transition_at(list, k - 1), t)
 }
 
 // Whether the first n transitions of a lent list name only what is there and rise strictly.
 fn good_transitions(states: usize, letters: usize, list: &[u16], n: usize) -> bool
+    requires { ⌜ n * 3 ≤ length (now list) ⌝ }
     ensures { λ r. ⌜ r ≡ allBelow n (goodTransition states letters (now (list .entry))) ⌝ }
 {
-    let mut k = n;
-    while 0 < k {
-        k -= 1;
-        if !good_transition(states, letters, list, k) {
+    let mut least: u64 = 0;
+    let mut k: usize = 0;
+    while k < n {
+        let t = present_transition(list, k);
+        if !is_named(states, letters, t) {
             return false;
         }
+        let here = rank(t);
+        if here < least {
+            return false;
+        }
+        least = here + 1;
+        k += 1;
     }
     true
 }
@@ -202,7 +218,7 @@ pub fn is_well_formed(m: Machine, list: &[u16]) -> bool
     if list.len() < m.transitions * 3 {
         return false;
     }
-    if !good_marks(m) {
+    if !good_marks(m.states, &m.marks) {
         return false;
     }
     good_transitions(m.states, m.letters, list, m.transitions)

@@ -326,3 +326,6 @@ module _ (s : List ℕ) (h : ℕ) (h-is : h ≡ headerFault s) where
 
 pub header-long : (s : List ℕ) (h : ℕ) → h ≡ headerFault s → h ≡ 0 → 16 ≤ length s
 header-long s h e z = header-none s .0 (sym e ∙ z) .line .long
+
+pub header-short : (s : List ℕ) (h : ℕ) → h ≡ headerFault s → h ≡ 0 → (columnAt s 0 < 1000) × (columnAt s 5 < 1000)
+header-short s h e z = let c = header-none s .0 (sym e ∙ z) .counts in (omega (arith, c .few-states), omega (arith, c .few-letters))

@@ -1,6 +1,6 @@
 -- What a sheet without fault gives its reader.
 --
--- header-there, states-few, transitions-few == line one is there, its counts are small
+-- header-there, states-few, transitions-few, header-short == line one is there, its counts are small
 -- mark-there, mark-small                 == the mark of a state is there, and small
 -- marks-none, marks-more, marks-done     == the marks that were read
 -- transition-there, from-small ..        == a transition's numbers are there, and small
@@ -44,6 +44,9 @@ module _ (s : List ℕ) (none : firstFault s ≡ 0) where
 
   pub states-few : (states : ℕ) → states ≡ columnAt s 0 → states ≤ 64
   states-few states e = let h = no-fault s .0 none .header .counts .few-states in omega arith
+
+  pub header-short : (columnAt s 0 < 1000) × (columnAt s 5 < 1000)
+  header-short = let h = no-fault s .0 none .header .counts in (omega (arith, h .few-states), omega (arith, h .few-letters))
 
   pub transitions-few : (n : ℕ) → n ≡ columnAt s 10 → n ≤ 4000
   transitions-few n e = let h = no-fault s .0 none .header .counts .few-transitions in omega arith
@@ -98,10 +101,10 @@ module _ (s : List ℕ) (none : firstFault s ≡ 0) where
     transition-there = let h = good-transition .line .long in omega arith
 
     -- the numbers are those of states and letters
-    small : (columnAt s at < 65536) × (columnAt s (at + 5) < 65536) × (columnAt s (at + 10) < 65536)
+    small : (columnAt s at < 1000) × (columnAt s (at + 5) < 1000) × (columnAt s (at + 10) < 1000)
     unfolding transitionIn
     small =
-        subst (λ (i : ℕ). (columnAt s i < 65536) × (columnAt s (i + 5) < 65536) × (columnAt s (i + 10) < 65536)) (sym start-is)
+        subst (λ (i : ℕ). (columnAt s i < 1000) × (columnAt s (i + 5) < 1000) × (columnAt s (i + 10) < 1000)) (sym start-is)
         (let i : ℕ = transitionStart (columnAt s 0) k in
         let x = and-true (ltb (columnAt s i) (columnAt s 0)) (leb (columnAt s (i + 5)) (columnAt s 5) && ltb (columnAt s (i + 10)) (columnAt s 0)) (good-transition .names) in
         let y = and-true (leb (columnAt s (i + 5)) (columnAt s 5)) (ltb (columnAt s (i + 10)) (columnAt s 0)) (x .1) in
@@ -111,13 +114,13 @@ module _ (s : List ℕ) (none : firstFault s ≡ 0) where
         let c = no-fault s .0 none .header .counts in
         (omega (arith, c .few-states), omega (arith, c .few-letters), omega (arith, c .few-states)))
 
-    pub from-small : (v : ℕ) → v ≡ columnAt s at → v < 65536
+    pub from-small : (v : ℕ) → v ≡ columnAt s at → v < 1000
     from-small v e = let h = small .0 in omega arith
 
-    pub letter-small : (v : ℕ) → v ≡ columnAt s (at + 5) → v < 65536
+    pub letter-small : (v : ℕ) → v ≡ columnAt s (at + 5) → v < 1000
     letter-small v e = let h = small .1 in omega arith
 
-    pub to-small : (v : ℕ) → v ≡ columnAt s (at + 10) → v < 65536
+    pub to-small : (v : ℕ) → v ≡ columnAt s (at + 10) → v < 1000
     to-small v e = let h = small .2 in omega arith
 
     pub numbers-are : (a b d : ℕ) → a ≡ columnAt s at → b ≡ columnAt s (at + 5) → d ≡ columnAt s (at + 10) → _≡_ {A = List ℕ} (a ∷ b ∷ d ∷ []) (numbersPiece s k)

@@ -1,16 +1,21 @@
 -- The sheet of a table (document 01, "The sheet").
 --
+-- Short t                == the numbers of the transition t have at most two, three and two digits
 -- lineOf numbers         == a line: each number in a column of five bytes, and byte 10
 -- stateStart q           == the byte where the line of state q starts
 -- transitionStart n k    == the byte where the line of transition k starts, with n states
 -- sheetLength m          == the length of the table's sheet
 -- sheetOf m list         == the sheet of a table
-use Prim.Native.Nat.{ℕ, _+_, _*_}
+use Prim.Native.Nat.{ℕ, _+_, _*_, _<_}
 use mathlib.Core.List.{List, [], _∷_, _++_}
 use Rattle.columns.specs.Column.{columnOf}
 use Rattle.fsbm.specs.Machine.{markOf, transitionAt}
 use Rattle.fsbm.specs.declared.machine.Machine.{Machine}
+use Rattle.fsbm.specs.declared.machine.Transition.{Transition}
 use Rattle.sheet.specs.Series.{eachBelow}
+
+abbrev pub Short : Transition → Type 0
+Short t = (t .from < 100) × (t .letter < 1000) × (t .to < 100)
 
 unfoldable pub lineOf : List ℕ → List ℕ
 lineOf [] = 10 ∷ []

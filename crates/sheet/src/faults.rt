@@ -21,7 +21,15 @@ pub fn column(sheet: &[u8], at: usize) -> usize
     requires { ⌜ at + 5 ≤ length (now sheet) ⌝ }
     ensures { λ r. ⌜ r ≡ columnAt (now (sheet .entry)) at ⌝ }
 {
-    columns::number(sheet, at, 5)
+    columns::number_in_five(sheet, at)
+}
+
+// The number in the column of five bytes that starts at byte at, which holds one below 1000.
+pub fn short_column(sheet: &[u8], at: usize) -> usize
+    requires { ⌜ (at + 5 ≤ length (now sheet)) × (columnAt (now sheet) at < 1000) ⌝ }
+    ensures { λ r. ⌜ r ≡ columnAt (now (sheet .entry)) at ⌝ }
+{
+    columns::short_number(sheet, at) as usize
 }
 
 // 3 where a count is outside its range, else 0.
@@ -222,8 +230,8 @@ pub fn first_fault(sheet: &[u8]) -> u8
     if header != 0 {
         return header;
     }
-    let states = column(sheet, 0);
-    let letters = column(sheet, 5);
+    let states = short_column(sheet, 0);
+    let letters = short_column(sheet, 5);
     let transitions = column(sheet, 10);
     let state = state_faults(sheet, states);
     if state != 0 {

@@ -39,7 +39,7 @@ fn read_marks(sheet: &[u8], states: usize) -> [u8; 64]
     let mut at: usize = 21;
     let mut q: usize = 0;
     while q < states {
-        marks[q] = faults::column(sheet, at) as u8;
+        marks[q] = faults::short_column(sheet, at) as u8;
         at += 11;
         q += 1;
     }
@@ -55,9 +55,9 @@ fn read_transitions(sheet: &[u8], states: usize, transitions: usize, list: &mut 
     let mut k: usize = 0;
     while k < transitions {
         let i = k * 3;
-        list[i] = faults::column(sheet, at) as u16;
-        list[i + 1] = faults::column(sheet, at + 5) as u16;
-        list[i + 2] = faults::column(sheet, at + 10) as u16;
+        list[i] = faults::short_column(sheet, at) as u16;
+        list[i + 1] = faults::short_column(sheet, at + 5) as u16;
+        list[i + 2] = faults::short_column(sheet, at + 10) as u16;
         at += 16;
         k += 1;
     }
@@ -66,7 +66,7 @@ fn read_transitions(sheet: &[u8], states: usize, transitions: usize, list: &mut 
 // The public call that reads a sheet: its machine, with the transitions at the front of the list, three numbers each. It refuses
 // the first fault in reading order, 1 to 7, then 15 (the list is too short) with the length needed. A refusal leaves the list as
 // it was; so does a sheet that is read with all that stands past its transitions.
-// Time: the sheet once to find a fault, and once more to write the list. Memory: the machine.
+// Time: the sheet once to find a fault, and the digits of a sheet without fault once more to write the list. Memory: the machine.
 pub fn read_sheet(sheet: &[u8], list: &mut [u16]) -> Sheet
     ensures { λ r. ⌜ (r ≡ readAnswer (now (sheet .entry)) (length (now (list .entry)))) × (now (list .exit) ≡ readList (now (sheet .entry)) (now (list .entry))) ⌝ }
 {
@@ -74,8 +74,8 @@ pub fn read_sheet(sheet: &[u8], list: &mut [u16]) -> Sheet
     if fault != 0 {
         return refused(fault, 0);
     }
-    let states = faults::column(sheet, 0);
-    let letters = faults::column(sheet, 5);
+    let states = faults::short_column(sheet, 0);
+    let letters = faults::short_column(sheet, 5);
     let transitions = faults::column(sheet, 10);
     if list.len() < transitions * 3 {
         return refused(15, transitions * 3);

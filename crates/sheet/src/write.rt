@@ -1,11 +1,12 @@
 // The writer of sheets.
-ghost use Prim.Native.Nat.{ℕ, _+_, _*_, _≤_};
+ghost use Prim.Native.Nat.{ℕ, _+_, _*_, _<_, _≤_};
 ghost use mathlib.Core.Path.{_≡_};
 ghost use mathlib.Core.List.{[], _∷_};
 ghost use lib.ListN.{length};
 ghost use Rattle.columns.specs.Column.{put};
 ghost use Rattle.sheet.specs.Series.{eachBelow};
-ghost use Rattle.sheet.specs.Format.{lineOf, stateLine, transitionLine};
+ghost use Rattle.fsbm.specs.Machine.{transitionAt};
+ghost use Rattle.sheet.specs.Format.{Short, lineOf, stateLine, transitionLine};
 ghost use Rattle.sheet.specs.Writing.{writeAnswer, writeSheet};
 use fsbm::answer::Refusal;
 use fsbm::machine;
@@ -17,24 +18,35 @@ pub enum Written {
     Bytes(usize),
 }
 
-// A line of two columns, written from byte at on.
-fn write_two(sheet: &mut [u8], at: usize, a: usize, b: usize)
-    requires { ⌜ at + 11 ≤ length (now sheet) ⌝ }
-    ensures { λ r. ⌜ now (sheet .exit) ≡ put at (now (sheet .entry)) (lineOf (a ∷ b ∷ [])) ⌝ }
+// Line one, written to the front.
+fn write_header(sheet: &mut [u8], states: usize, letters: usize, transitions: usize)
+    requires { ⌜ (16 ≤ length (now sheet)) × (states < 100) × (letters < 1000) ⌝ }
+    ensures { λ r. ⌜ now (sheet .exit) ≡ put 0 (now (sheet .entry)) (lineOf (states ∷ letters ∷ transitions ∷ [])) ⌝ }
 {
-    columns::write_number(sheet, at, a);
-    columns::write_number(sheet, at + 5, b);
+    columns::write_shorter(sheet, 0, states as u16);
+    columns::write_short(sheet, 5, letters as u16);
+    columns::write_number(sheet, 10, transitions);
+    sheet[15] = 10;
+}
+
+// The line of a state, written from byte at on.
+fn write_state(sheet: &mut [u8], at: usize, q: u16, mark: u16)
+    requires { ⌜ (at + 11 ≤ length (now sheet)) × (q < 100) × (mark < 1000) ⌝ }
+    ensures { λ r. ⌜ now (sheet .exit) ≡ put at (now (sheet .entry)) (lineOf (q ∷ mark ∷ [])) ⌝ }
+{
+    columns::write_shorter(sheet, at, q);
+    columns::write_short(sheet, at + 5, mark);
     sheet[at + 10] = 10;
 }
 
-// A line of three columns, written from byte at on.
-fn write_three(sheet: &mut [u8], at: usize, a: usize, b: usize, c: usize)
-    requires { ⌜ at + 16 ≤ length (now sheet) ⌝ }
-    ensures { λ r. ⌜ now (sheet .exit) ≡ put at (now (sheet .entry)) (lineOf (a ∷ b ∷ c ∷ [])) ⌝ }
+// The line of a transition, written from byte at on.
+fn write_transition(sheet: &mut [u8], at: usize, from: u16, letter: u16, to: u16)
+    requires { ⌜ (at + 16 ≤ length (now sheet)) × (from < 100) × (letter < 1000) × (to < 100) ⌝ }
+    ensures { λ r. ⌜ now (sheet .exit) ≡ put at (now (sheet .entry)) (lineOf (from ∷ letter ∷ to ∷ [])) ⌝ }
 {
-    columns::write_number(sheet, at, a);
-    columns::write_number(sheet, at + 5, b);
-    columns::write_number(sheet, at + 10, c);
+    columns::write_shorter(sheet, at, from);
+    columns::write_short(sheet, at + 5, letter);
+    columns::write_shorter(sheet, at + 10, to);
     sheet[at + 15] = 10;
 }
 
@@ -46,7 +58,7 @@ fn write_states(sheet: &mut [u8], marks: &[u8; 64], states: usize)
     let mut at: usize = 16;
     let mut q: usize = 0;
     while q < states {
-        write_two(sheet, at, q, machine::mark(marks, q) as usize);
+        write_state(sheet, at, q as u16, machine::mark(marks, q) as u16);
         at += 11;
         q += 1;
     }
@@ -54,20 +66,14 @@ fn write_states(sheet: &mut [u8], marks: &[u8; 64], states: usize)
 
 // The lines of the transitions, written from byte start on.
 fn write_transitions(sheet: &mut [u8], list: &[u16], start: usize, transitions: usize)
-    requires { ⌜ (transitions * 3 ≤ length (now list)) × (start + 16 * transitions ≤ length (now sheet)) ⌝ }
+    requires { ⌜ (transitions * 3 ≤ length (now list)) × (start + 16 * transitions ≤ length (now sheet)) × ((k : ℕ) → k < transitions → Short (transitionAt (now list) k)) ⌝ }
     ensures { λ r. ⌜ now (sheet .exit) ≡ put start (now (sheet .entry)) (eachBelow transitions (transitionLine (now (list .entry)))) ⌝ }
 {
     let mut at: usize = start;
     let mut k: usize = 0;
     while k < transitions {
         let i = k * 3;
-        write_three(
-            sheet,
-            at,
-            list[i] as usize,
-            list[i + 1] as usize,
-            list[i + 2] as usize,
-        );
+        write_transition(sheet, at, list[i], list[i + 1], list[i + 2]);
         at += 16;
         k += 1;
     }
@@ -91,7 +97,7 @@ pub fn write_sheet(m: Machine, list: &[u16], sheet: &mut [u8]) -> Written
     if sheet.len() < needed {
         return Written::Refused(Refusal { number: 19, needed });
     }
-    write_three(sheet, 0, m.states, m.letters, m.transitions);
+    write_header(sheet, m.states, m.letters, m.transitions);
     write_states(sheet, &m.marks, m.states);
     write_transitions(sheet, list, start, m.transitions);
     Written::Bytes(needed)

@@ -1,52 +1,73 @@
-use Rattle.graphs.specs.Search.Loops.{all-fails, all-goes-on, all-done}
-use borrow.Author.Tests.{not-true, not-false}
-use mathlib.Core.Path.{refl}
-use Prim.Native.Nat.{_≤_}
-use mathlib.Core.Path.{_≡_, sym, _∙_}
+use Prim.Native.Nat.{_≤_, _-_}
+use mathlib.Core.Path.{_≡_, refl, sym, _∙_}
+use mathlib.Core.Bool.{_&&_}
 use native.Mathlib.Omega.{arith}
+use lib.ListN.{getD}
+use lib.Dec.{leb}
 use borrow.Author.Needs.{needs}
 use Rattle.graphs.specs.Search.{allBelow}
-use Rattle.graphs.specs.Search.Loops.{allBelow-before}
 use Rattle.fsbm.specs.Machine.{goodMark, maxStates}
+use Rattle.fsbm.proofs.MachineCases.{marked, marked-by, marks-none, marks-next, marks-large, marks-end, states-few}
 use Rattle.fsbm.proofs.machine.good_marks.Statement.{statement}
 use Rattle.fsbm.proofs.machine.good_marks.Tie as tie
 use Rattle.fsbm.proofs.machine.good_marks.Reads as reads
 use Rattle.fsbm.proofs.machine.good_marks.Lts as lts
-use Rattle.fsbm.proofs.machine.good_mark.Reads as good-mark-reads
+use Rattle.fsbm.proofs.machine.greater.Reads as greater-reads
+use Rattle.fsbm.proofs.machine.states_for.Reads as states-for-reads
 
 abbrev Inv-loop : tie.InvT-loop
-Inv-loop m k₀ k = (k ≤ 64) × (allBelow k (goodMark m) ≡ allBelow maxStates (goodMark m))
+Inv-loop states marks largest₀ needed₀ q₀ largest needed q = (q ≤ 64) × (needed ≤ 64) × ((leb largest 11 && leb needed states) ≡ allBelow q (goodMark (marked states marks)))
 
 abbrev μ-loop : tie.MeasureT-loop
-μ-loop m k₀ k = k
+μ-loop states marks largest₀ needed₀ q₀ largest needed q = 64 - q
 
--- src/machine.rt:122:5
+-- src/machine.rt:134:5
 loop-holds : tie.Need-loop-holds Inv-loop μ-loop
-loop-holds c = (omega arith, refl)
+loop-holds c = (omega arith, omega arith, marks-none (marked (c .args .states) ((c .args .marks) .now)))
 
--- src/machine.rt:123:9
-sub-k : tie.Need-sub-k Inv-loop μ-loop
-sub-k c = omega arith
+-- src/machine.rt:135:17
+element-copy-out-v : tie.Need-element-copy-out-v Inv-loop μ-loop
+element-copy-out-v c = omega arith
 
--- src/machine.rt:124:13
-good-mark-requires : tie.Need-good-mark-requires Inv-loop μ-loop
-good-mark-requires c κs = search needs
+-- src/machine.rt:136:9
+greater-requires : tie.Need-greater-requires Inv-loop μ-loop
+greater-requires c κs = search needs
 
--- src/machine.rt:125:13
-returns : tie.Need-returns Inv-loop μ-loop
-returns c = all-fails (goodMark (c .before .before .before .before .args .m)) maxStates (c .before .before .before .loop .k) (c .before .good-mark .result) ((c .before .before .before .loop .inv) .1) (omega arith) (c .before .good-mark .ensures) (not-true _ (c .if1 .taken))
+-- src/machine.rt:137:45
+cast-states-for : tie.Need-cast-states-for Inv-loop μ-loop
+cast-states-for c = omega arith
 
--- src/machine.rt:122:5
+-- src/machine.rt:137:34
+states-for-requires : tie.Need-states-for-requires Inv-loop μ-loop
+states-for-requires c κs = search needs
+
+-- src/machine.rt:137:9
+greater-requires-2 : tie.Need-greater-requires-2 Inv-loop μ-loop
+greater-requires-2 c κs = search needs
+
+-- src/machine.rt:138:9
+add-q : tie.Need-add-q Inv-loop μ-loop
+add-q c = omega arith
+
+-- src/machine.rt:134:5
 loop-less : tie.Need-loop-less Inv-loop μ-loop
 loop-less c = omega arith
 
--- src/machine.rt:122:5
+-- src/machine.rt:134:5
 loop-again : tie.Need-loop-again Inv-loop μ-loop
-loop-again c = (omega arith, all-goes-on (goodMark (c .before .before .before .before .args .m)) maxStates (c .before .before .before .loop .k) (c .before .good-mark .result) ((c .before .before .before .loop .inv) .1) (omega arith) (c .before .good-mark .ensures) (not-false _ (c .if1 .left)))
+loop-again c = (omega arith, (c .greater2 .ensures) 64 .1 ((c .before .before .before .before .before .loop .inv) .1, states-few (c .before .before .before .before .before .loop .q) (getD ((c .before .before .before .before .before .before .args .marks) .now) (c .before .before .before .before .before .loop .q) 0) (c .before .states-for .result) (c .before .before .before .before .loop-test .taken) (c .before .states-for .ensures)), marks-next (marked (c .before .before .before .before .before .before .args .states) ((c .before .before .before .before .before .before .args .marks) .now)) (c .before .before .before .before .before .loop .q) _ (c .before .states-for .result) (c .before .before .before .before .before .loop .largest) (c .before .before .greater .result) (c .before .before .before .before .before .loop .needed) (c .greater2 .result) (c .before .before .before .before .loop-test .taken) refl (c .before .states-for .ensures) (c .before .before .greater .ensures) (c .greater2 .ensures) ((c .before .before .before .before .before .loop .inv) .2))
 
--- src/machine.rt:118:1
+-- src/machine.rt:141:9
+returns : tie.Need-returns Inv-loop μ-loop
+returns c = λ m e f. marks-large (marked (c .before .before .before .args .states) ((c .before .before .before .args .marks) .now)) (c .before .before .loop .q) (c .before .before .loop .largest) (c .before .before .loop .needed) ((c .before .before .loop .inv) .2) (omega arith) (c .if1 .taken) ∙ marked-by m (c .before .before .before .args .states) ((c .before .before .before .args .marks) .now) e f
+
+-- src/machine.rt:143:5
+cast-result : tie.Need-cast-result Inv-loop μ-loop
+cast-result c = omega (arith, (c .before .before .loop .inv) .1)
+
+-- src/machine.rt:128:1
 returns-2 : tie.Need-returns-2 Inv-loop μ-loop
-returns-2 c = all-done (goodMark (c .before .before .args .m)) maxStates (c .before .loop .k) ((c .before .loop .inv) .1) (omega arith)
+returns-2 c = λ m e f. marks-end (marked (c .before .before .before .args .states) ((c .before .before .before .args .marks) .now)) (c .before .before .loop .q) (c .before .before .loop .largest) (c .before .before .loop .needed) ((c .before .before .loop .inv) .2) (omega arith) (c .if1 .left) ∙ marked-by m (c .before .before .before .args .states) ((c .before .before .before .args .marks) .now) e f
 
 pub good-marks-spec : {M : Type 1} → statement M
 good-marks-spec =
@@ -55,9 +76,14 @@ good-marks-spec =
     Inv-loop
     μ-loop
     loop-holds
-    sub-k
-    good-mark-requires
-    returns
+    element-copy-out-v
+    greater-requires
+    cast-states-for
+    states-for-requires
+    greater-requires-2
+    add-q
     loop-less
     loop-again
+    returns
+    cast-result
     returns-2)

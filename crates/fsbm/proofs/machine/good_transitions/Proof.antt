@@ -1,50 +1,69 @@
-use Prim.Native.Nat.{_≤_}
-use mathlib.Core.Path.{_≡_, refl}
+use Prim.Native.Nat.{ℕ, _+_, _≤_, _-_}
+use mathlib.Core.Path.{_≡_, refl, sym, ap, _∙_}
+use mathlib.Core.Bool.{true}
 use native.Mathlib.Omega.{arith}
 use borrow.Author.Needs.{needs}
 use borrow.Author.Tests.{not-true, not-false}
 use Rattle.graphs.specs.Search.{allBelow}
-use Rattle.graphs.specs.Search.Loops.{all-fails, all-goes-on, all-done}
 use Rattle.fsbm.specs.Machine.{goodTransition}
+use Rattle.fsbm.proofs.MachineCases.{leastAt, least-next, transitions-unnamed, transitions-fall, transitions-next, transitions-none, transitions-done, rank-small}
 use Rattle.fsbm.proofs.machine.good_transitions.Statement.{statement}
 use Rattle.fsbm.proofs.machine.good_transitions.Tie as tie
 use Rattle.fsbm.proofs.machine.good_transitions.Reads as reads
 use Rattle.fsbm.proofs.machine.good_transitions.Lts as lts
-use Rattle.fsbm.proofs.machine.good_transition.Reads as good-transition-reads
+use Rattle.fsbm.proofs.machine.is_named.Reads as is-named-reads
+use Rattle.fsbm.proofs.machine.present_transition.Reads as present-transition-reads
+use Rattle.fsbm.proofs.machine.rank.Reads as rank-reads
 
 abbrev Inv-loop : tie.InvT-loop
-Inv-loop states letters list n k₀ k = (k ≤ n) × (allBelow k (goodTransition states letters list) ≡ allBelow n (goodTransition states letters list))
+Inv-loop states letters list n least₀ k₀ least k = (k ≤ n) × (allBelow k (goodTransition states letters list) ≡ true) × (least ≡ leastAt list k)
 
 abbrev μ-loop : tie.MeasureT-loop
-μ-loop states letters list n k₀ k = k
+μ-loop states letters list n least₀ k₀ least k = n - k
 
--- src/machine.rt:176:5
+-- src/machine.rt:186:5
 loop-holds : tie.Need-loop-holds Inv-loop μ-loop
-loop-holds c = (omega arith, refl)
+loop-holds c = (omega arith, transitions-none _, refl)
 
--- src/machine.rt:177:9
-sub-k : tie.Need-sub-k Inv-loop μ-loop
-sub-k c = omega arith
+-- src/machine.rt:187:13
+present-transition-requires : tie.Need-present-transition-requires Inv-loop μ-loop
+present-transition-requires c κs = omega (arith, (c .loop-test .taken), (c .before .before .before .pre))
 
--- src/machine.rt:178:13
-good-transition-requires : tie.Need-good-transition-requires Inv-loop μ-loop
-good-transition-requires c κs = search needs
+-- src/machine.rt:188:13
+is-named-requires : tie.Need-is-named-requires Inv-loop μ-loop
+is-named-requires c κs = search needs
 
--- src/machine.rt:179:13
+-- src/machine.rt:189:13
 returns : tie.Need-returns Inv-loop μ-loop
-returns c = all-fails (goodTransition (c .before .before .before .before .before .args .states) (c .before .before .before .before .before .args .letters) ((c .before .before .before .before .before .args .list) .now)) (c .before .before .before .before .before .args .n) (c .before .before .before .loop .k) (c .before .good-transition .result) ((c .before .before .before .loop .inv) .1) (omega arith) (c .before .good-transition .ensures) (not-true _ (c .if1 .taken))
+returns c = transitions-unnamed (c .before .before .before .before .before .before .args .states) (c .before .before .before .before .before .before .args .letters) ((c .before .before .before .before .before .before .args .list) .now) (c .before .before .before .before .loop .k) (c .before .before .before .before .loop .least) (c .before .before .present-transition .result) (c .before .before .present-transition .ensures) ((c .before .before .before .before .loop .inv) .2) (λ i. omega (arith, (c .before .before .before .before .before .shared-slice-known .given) i)) (c .before .is-named .result) (c .before .is-named .ensures) (c .before .before .before .before .before .before .args .n) (c .before .before .before .loop-test .taken) (not-true _ (c .if1 .taken))
 
--- src/machine.rt:176:5
+-- src/machine.rt:191:13
+rank-requires : tie.Need-rank-requires Inv-loop μ-loop
+rank-requires c κs = search needs
+
+-- src/machine.rt:193:13
+returns-2 : tie.Need-returns-2 Inv-loop μ-loop
+returns-2 c = transitions-fall (c .before .before .before .before .before .before .before .before .args .states) (c .before .before .before .before .before .before .before .before .args .letters) ((c .before .before .before .before .before .before .before .before .args .list) .now) (c .before .before .before .before .before .before .loop .k) (c .before .before .before .before .before .before .loop .least) (c .before .before .before .before .present-transition .result) (c .before .before .before .before .present-transition .ensures) ((c .before .before .before .before .before .before .loop .inv) .2) (λ i. omega (arith, (c .before .before .before .before .before .before .before .shared-slice-known .given) i)) (c .before .before .before .is-named .result) (c .before .before .before .is-named .ensures) (c .before .before .before .before .before .before .before .before .args .n) (c .before .before .before .before .before .loop-test .taken) (omega (arith, (c .if2 .taken), (c .before .rank .ensures)))
+
+-- src/machine.rt:195:17
+add-least : tie.Need-add-least Inv-loop μ-loop
+add-least c = omega (arith, (c .before .rank .ensures), rank-small (c .before .before .before .before .before .before .before .before .args .states) (c .before .before .before .before .before .before .before .before .args .letters) ((c .before .before .before .before .before .before .before .before .args .list) .now) (c .before .before .before .before .before .before .loop .k) (c .before .before .before .before .before .before .loop .least) (c .before .before .before .before .present-transition .result) (c .before .before .before .before .present-transition .ensures) ((c .before .before .before .before .before .before .loop .inv) .2) (λ i. omega (arith, (c .before .before .before .before .before .before .before .shared-slice-known .given) i)) (c .before .before .before .is-named .result) (c .before .before .before .is-named .ensures))
+
+-- src/machine.rt:196:9
+add-k : tie.Need-add-k Inv-loop μ-loop
+add-k c = omega arith
+
+-- src/machine.rt:186:5
 loop-less : tie.Need-loop-less Inv-loop μ-loop
 loop-less c = omega arith
 
--- src/machine.rt:176:5
+-- src/machine.rt:186:5
 loop-again : tie.Need-loop-again Inv-loop μ-loop
-loop-again c = (omega arith, all-goes-on (goodTransition (c .before .before .before .before .before .args .states) (c .before .before .before .before .before .args .letters) ((c .before .before .before .before .before .args .list) .now)) (c .before .before .before .before .before .args .n) (c .before .before .before .loop .k) (c .before .good-transition .result) ((c .before .before .before .loop .inv) .1) (omega arith) (c .before .good-transition .ensures) (not-false _ (c .if1 .left)))
+loop-again c = (omega arith, transitions-next (c .before .before .before .before .before .before .before .before .args .states) (c .before .before .before .before .before .before .before .before .args .letters) ((c .before .before .before .before .before .before .before .before .args .list) .now) (c .before .before .before .before .before .before .loop .k) (c .before .before .before .before .before .before .loop .least) (c .before .before .before .before .present-transition .result) (c .before .before .before .before .present-transition .ensures) ((c .before .before .before .before .before .before .loop .inv) .2) (λ i. omega (arith, (c .before .before .before .before .before .before .before .shared-slice-known .given) i)) (c .before .before .before .is-named .result) (c .before .before .before .is-named .ensures) (not-false _ (c .before .before .if1 .left)) (omega (arith, (c .if2 .left), (c .before .rank .ensures))) ((c .before .before .before .before .before .before .loop .inv) .1), ap (λ (x : ℕ). x + 1) (c .before .rank .ensures) ∙ least-next ((c .before .before .before .before .before .before .before .before .args .list) .now) (c .before .before .before .before .before .before .loop .k) (c .before .before .before .before .present-transition .result) (c .before .before .before .before .present-transition .ensures))
 
--- src/machine.rt:172:1
-returns-2 : tie.Need-returns-2 Inv-loop μ-loop
-returns-2 c = all-done (goodTransition (c .before .before .before .args .states) (c .before .before .before .args .letters) ((c .before .before .before .args .list) .now)) (c .before .before .before .args .n) (c .before .loop .k) ((c .before .loop .inv) .1) (omega arith)
+-- src/machine.rt:180:1
+returns-3 : tie.Need-returns-3 Inv-loop μ-loop
+returns-3 c = transitions-done (goodTransition (c .before .before .before .args .states) (c .before .before .before .args .letters) ((c .before .before .before .args .list) .now)) (c .before .loop .k) (c .before .before .before .args .n) ((c .before .loop .inv) .1) (omega arith)
 
 pub good-transitions-spec : {M : Type 1} → statement M
 good-transitions-spec =
@@ -53,9 +72,13 @@ good-transitions-spec =
     Inv-loop
     μ-loop
     loop-holds
-    sub-k
-    good-transition-requires
+    present-transition-requires
+    is-named-requires
     returns
+    rank-requires
+    returns-2
+    add-least
+    add-k
     loop-less
     loop-again
-    returns-2)
+    returns-3)

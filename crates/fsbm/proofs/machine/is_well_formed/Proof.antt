@@ -1,4 +1,5 @@
-use mathlib.Core.Path.{_≡_, sym, _∙_}
+use native.Mathlib.Omega.{arith}
+use mathlib.Core.Path.{_≡_, refl, sym, _∙_}
 use borrow.Author.Tests.{le-leb, lt-leb, not-true, not-false}
 use Rattle.fsbm.specs.Machine.{wellFormed}
 use Rattle.graphs.specs.Search.Loops.{pass, stop}
@@ -18,17 +19,17 @@ returns c = stop _ (lt-leb _ _ (c .if1 .taken))
 -- src/machine.rt:194:9
 returns-2 : tie.Need-returns-2
 unfolding wellFormed
-returns-2 c = pass (le-leb _ _ (c .before .before .if1 .left)) (stop _ (lt-leb _ _ (c .if2 .taken)))
+returns-2 c = pass (le-leb _ _ (c .before .if1 .left)) (stop _ (lt-leb _ _ (c .if2 .taken)))
 
 -- src/machine.rt:197:9
 returns-3 : tie.Need-returns-3
 unfolding wellFormed
-returns-3 c = pass (le-leb _ _ (c .before .before .before .before .if1 .left)) (pass (le-leb _ _ (c .before .before .if2 .left)) (stop _ (lt-leb _ _ (c .if3 .taken))))
+returns-3 c = pass (le-leb _ _ (c .before .before .if1 .left)) (pass (le-leb _ _ (c .before .if2 .left)) (stop _ (lt-leb _ _ (c .if3 .taken))))
 
 -- src/machine.rt:200:9
 returns-4 : tie.Need-returns-4
 unfolding wellFormed
-returns-4 c = pass (le-leb _ _ (c .before .before .before .before .before .before .if1 .left)) (pass (le-leb _ _ (c .before .before .before .before .if2 .left)) (pass (le-leb _ _ (c .before .before .if3 .left)) (stop _ (lt-leb _ _ (c .if4 .taken)))))
+returns-4 c = pass (le-leb _ _ (c .before .before .before .if1 .left)) (pass (le-leb _ _ (c .before .before .if2 .left)) (pass (le-leb _ _ (c .before .if3 .left)) (stop _ (lt-leb _ _ (c .if4 .taken)))))
 
 -- src/machine.rt:202:21
 mul-if5 : tie.Need-mul-if5
@@ -37,7 +38,7 @@ mul-if5 c = search needs
 -- src/machine.rt:203:9
 returns-5 : tie.Need-returns-5
 unfolding wellFormed
-returns-5 c = pass (le-leb _ _ (c .before .before .before .before .before .before .before .before .if1 .left)) (pass (le-leb _ _ (c .before .before .before .before .before .before .if2 .left)) (pass (le-leb _ _ (c .before .before .before .before .if3 .left)) (pass (le-leb _ _ (c .before .before .if4 .left)) (stop _ (lt-leb _ _ (c .if5 .taken))))))
+returns-5 c = pass (le-leb _ _ (c .before .before .before .before .if1 .left)) (pass (le-leb _ _ (c .before .before .before .if2 .left)) (pass (le-leb _ _ (c .before .before .if3 .left)) (pass (le-leb _ _ (c .before .if4 .left)) (stop _ (lt-leb _ _ (c .if5 .taken))))))
 
 -- src/machine.rt:205:9
 good-marks-requires : tie.Need-good-marks-requires
@@ -46,16 +47,16 @@ good-marks-requires c κs = search needs
 -- src/machine.rt:206:9
 returns-6 : tie.Need-returns-6
 unfolding wellFormed
-returns-6 c = pass (le-leb _ _ (c .before .before .before .before .before .before .before .before .before .before .if1 .left)) (pass (le-leb _ _ (c .before .before .before .before .before .before .before .before .if2 .left)) (pass (le-leb _ _ (c .before .before .before .before .before .before .if3 .left)) (pass (le-leb _ _ (c .before .before .before .before .if4 .left)) (pass (le-leb _ _ (c .before .before .if5 .left)) (stop _ (sym (c .before .good-marks .ensures) ∙ not-true _ (c .if6 .taken)))))))
+returns-6 c = pass (le-leb _ _ (c .before .before .before .before .before .before .before .before .if1 .left)) (pass (le-leb _ _ (c .before .before .before .before .before .before .before .if2 .left)) (pass (le-leb _ _ (c .before .before .before .before .before .before .if3 .left)) (pass (le-leb _ _ (c .before .before .before .before .before .if4 .left)) (pass (le-leb _ _ (c .before .before .before .before .if5 .left)) (stop _ (sym ((c .before .good-marks .ensures) ((c .before .before .before .before .before .before .before .before .before .before .args) .t1) refl refl) ∙ not-true _ (c .if6 .taken)))))))
 
 -- src/machine.rt:208:5
 good-transitions-requires : tie.Need-good-transitions-requires
-good-transitions-requires c κs = search needs
+good-transitions-requires c κs = omega (arith, (c .before .before .before .before .if5 .left))
 
 -- src/machine.rt:187:1
 returns-7 : tie.Need-returns-7
 unfolding wellFormed
-returns-7 c = pass (le-leb _ _ (c .before .before .before .before .before .before .before .before .before .before .before .if1 .left)) (pass (le-leb _ _ (c .before .before .before .before .before .before .before .before .before .if2 .left)) (pass (le-leb _ _ (c .before .before .before .before .before .before .before .if3 .left)) (pass (le-leb _ _ (c .before .before .before .before .before .if4 .left)) (pass (le-leb _ _ (c .before .before .before .if5 .left)) (pass (sym (c .before .before .good-marks .ensures) ∙ not-false _ (c .before .if6 .left)) (c .good-transitions .ensures))))))
+returns-7 c = pass (le-leb _ _ (c .before .before .before .before .before .before .before .before .before .if1 .left)) (pass (le-leb _ _ (c .before .before .before .before .before .before .before .before .if2 .left)) (pass (le-leb _ _ (c .before .before .before .before .before .before .before .if3 .left)) (pass (le-leb _ _ (c .before .before .before .before .before .before .if4 .left)) (pass (le-leb _ _ (c .before .before .before .before .before .if5 .left)) (pass (sym ((c .before .before .good-marks .ensures) ((c .before .before .before .before .before .before .before .before .before .before .before .args) .t1) refl refl) ∙ not-false _ (c .before .if6 .left)) (c .good-transitions .ensures))))))
 
 pub is-well-formed-spec : {M : Type 1} → statement M
 is-well-formed-spec =

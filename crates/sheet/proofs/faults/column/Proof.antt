@@ -4,16 +4,16 @@ use Rattle.sheet.proofs.faults.column.Statement.{statement}
 use Rattle.sheet.proofs.faults.column.Tie as tie
 use Rattle.sheet.proofs.faults.column.Reads as reads
 use Rattle.sheet.proofs.faults.column.Lts as lts
-use Rattle.columns.proofs.number.Reads as number-reads
+use Rattle.columns.proofs.number_in_five.Reads as number-in-five-reads
 
 -- src/faults.rt:16:5
-number-requires : tie.Need-number-requires
-number-requires c κs = search needs
+number-in-five-requires : tie.Need-number-in-five-requires
+number-in-five-requires c κs = search needs
 
 -- src/faults.rt:12:1
 returns : tie.Need-returns
 unfolding columnAt
-returns c = (c .number .ensures)
+returns c = (c .number-in-five .ensures)
 
 pub column-spec : {M : Type 1} → statement M
-column-spec = tie.close (tie.spec number-requires returns)
+column-spec = tie.close (tie.spec number-in-five-requires returns)

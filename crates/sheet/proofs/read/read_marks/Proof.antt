@@ -1,14 +1,14 @@
-use Prim.Native.Nat.{_≤_, _<_, _+_, _-_, _*_}
-use mathlib.Core.Path.{_≡_, refl, sym, ap, _∙_}
-use native.Mathlib.Omega.{arith}
-use lib.ListN.{length}
-use Rattle.sheet.specs.Reading.{marksOf, columnAt}
 use Rattle.sheet.proofs.ReadCases.{mark-there, mark-small, marks-none, marks-more, marks-done, states-few}
+use Rattle.sheet.specs.Reading.{marksOf, columnAt}
+use lib.ListN.{length}
+use native.Mathlib.Omega.{arith}
+use mathlib.Core.Path.{_≡_, refl, sym, ap, _∙_}
+use Prim.Native.Nat.{_≤_, _<_, _+_, _-_, _*_}
 use Rattle.sheet.proofs.read.read_marks.Statement.{statement}
 use Rattle.sheet.proofs.read.read_marks.Tie as tie
 use Rattle.sheet.proofs.read.read_marks.Reads as reads
 use Rattle.sheet.proofs.read.read_marks.Lts as lts
-use Rattle.sheet.proofs.faults.column.Reads as column-reads
+use Rattle.sheet.proofs.faults.short_column.Reads as short-column-reads
 
 abbrev Inv-loop : tie.InvT-loop
 Inv-loop sheet states marks₀ at₀ q₀ marks at q = (q ≤ states) × (at ≡ 21 + 11 * q) × (marks ≡ marksOf sheet q)
@@ -21,12 +21,12 @@ loop-holds : tie.Need-loop-holds Inv-loop μ-loop
 loop-holds c = (omega arith, refl, marks-none _)
 
 -- src/read.rt:42:20
-column-requires : tie.Need-column-requires Inv-loop μ-loop
-column-requires c κs = mark-there ((c .before .before .before .args .sheet) .now) ((c .before .before .before .pre) .0) (c .before .before .before .args .states) (c .before .loop .q) (c .before .loop .at) ((c .before .before .before .pre) .1) (c .loop-test .taken) ((c .before .loop .inv) .1)
+short-column-requires : tie.Need-short-column-requires Inv-loop μ-loop
+short-column-requires c κs = (mark-there ((c .before .before .before .args .sheet) .now) ((c .before .before .before .pre) .0) (c .before .before .before .args .states) (c .before .loop .q) (c .before .loop .at) ((c .before .before .before .pre) .1) (c .loop-test .taken) ((c .before .loop .inv) .1), omega (arith, mark-small ((c .before .before .before .args .sheet) .now) ((c .before .before .before .pre) .0) (c .before .before .before .args .states) (c .before .loop .q) (c .before .loop .at) ((c .before .before .before .pre) .1) (c .loop-test .taken) ((c .before .loop .inv) .1) (columnAt ((c .before .before .before .args .sheet) .now) (c .before .loop .at)) refl))
 
 -- src/read.rt:42:20
 cast-marks : tie.Need-cast-marks Inv-loop μ-loop
-cast-marks c = omega (arith, mark-small ((c .before .before .before .before .args .sheet) .now) ((c .before .before .before .before .pre) .0) (c .before .before .before .before .args .states) (c .before .before .loop .q) (c .before .before .loop .at) ((c .before .before .before .before .pre) .1) (c .before .loop-test .taken) ((c .before .before .loop .inv) .1) (c .column .result) (c .column .ensures))
+cast-marks c = omega (arith, mark-small ((c .before .before .before .before .args .sheet) .now) ((c .before .before .before .before .pre) .0) (c .before .before .before .before .args .states) (c .before .before .loop .q) (c .before .before .loop .at) ((c .before .before .before .before .pre) .1) (c .before .loop-test .taken) ((c .before .before .loop .inv) .1) (c .short-column .result) (c .short-column .ensures))
 
 -- src/read.rt:42:9
 array-write-marks : tie.Need-array-write-marks Inv-loop μ-loop
@@ -46,7 +46,7 @@ loop-less c = omega (arith, (c .before .loop-test .taken))
 
 -- src/read.rt:41:5
 loop-again : tie.Need-loop-again Inv-loop μ-loop
-loop-again c = (omega (arith, (c .before .loop-test .taken)), omega (arith, (c .before .before .loop .inv) .1), marks-more ((c .before .before .before .before .args .sheet) .now) ((c .before .before .before .before .pre) .0) (c .before .before .before .before .args .states) (c .before .before .loop .q) (c .before .before .loop .at) ((c .before .before .before .before .pre) .1) (c .before .loop-test .taken) ((c .before .before .loop .inv) .1) (c .before .before .loop .marks) (c .column .result) ((c .before .before .loop .inv) .2) (c .column .ensures))
+loop-again c = (omega (arith, (c .before .loop-test .taken)), omega (arith, (c .before .before .loop .inv) .1), marks-more ((c .before .before .before .before .args .sheet) .now) ((c .before .before .before .before .pre) .0) (c .before .before .before .before .args .states) (c .before .before .loop .q) (c .before .before .loop .at) ((c .before .before .before .before .pre) .1) (c .before .loop-test .taken) ((c .before .before .loop .inv) .1) (c .before .before .loop .marks) (c .short-column .result) ((c .before .before .loop .inv) .2) (c .short-column .ensures))
 
 -- src/read.rt:34:1
 returns : tie.Need-returns Inv-loop μ-loop
@@ -59,7 +59,7 @@ read-marks-spec =
     Inv-loop
     μ-loop
     loop-holds
-    column-requires
+    short-column-requires
     cast-marks
     array-write-marks
     add-at

@@ -1,8 +1,8 @@
-use Prim.Native.Nat.{ℕ}
-use mathlib.Core.Path.{_≡_, refl, sym, ap, _∙_}
-use native.Mathlib.Omega.{arith}
+use Rattle.sheet.proofs.ReadCases.{header-there, header-short, transitions-few, refusal-fault, refusal-short, refusal-none, answer-refused, list-kept, answer-read, list-read}
 use lib.ListN.{length}
-use Rattle.sheet.proofs.ReadCases.{header-there, transitions-few, refusal-fault, refusal-short, refusal-none, answer-refused, list-kept, answer-read, list-read}
+use native.Mathlib.Omega.{arith}
+use mathlib.Core.Path.{_≡_, refl, sym, ap, _∙_}
+use Prim.Native.Nat.{ℕ}
 use borrow.Author.Needs.{needs}
 use Rattle.sheet.proofs.read.read_sheet.Statement.{statement}
 use Rattle.sheet.proofs.read.read_sheet.Tie as tie
@@ -10,6 +10,7 @@ use Rattle.sheet.proofs.read.read_sheet.Reads as reads
 use Rattle.sheet.proofs.read.read_sheet.Lts as lts
 use Rattle.sheet.proofs.faults.column.Reads as column-reads
 use Rattle.sheet.proofs.faults.first_fault.Reads as first-fault-reads
+use Rattle.sheet.proofs.faults.short_column.Reads as short-column-reads
 use Rattle.sheet.proofs.read.read_marks.Reads as read-marks-reads
 use Rattle.sheet.proofs.read.read_transitions.Reads as read-transitions-reads
 use Rattle.sheet.proofs.read.refused.Reads as refused-reads
@@ -27,24 +28,24 @@ returns : tie.Need-returns
 returns c = (answer-refused ((c .before .before .before .before .before .args .sheet) .now) (length ((c .before .before .before .before .before .args .list) .now)) _ (refusal-fault ((c .before .before .before .before .before .args .sheet) .now) (length ((c .before .before .before .before .before .args .list) .now)) (c .before .before .first-fault .result) (c .before .before .first-fault .ensures) (c .before .if1 .taken)) (c .refused .result) (c .refused .ensures) (c .before .if1 .taken), list-kept ((c .before .before .before .before .before .args .sheet) .now) (length ((c .before .before .before .before .before .args .list) .now)) _ (refusal-fault ((c .before .before .before .before .before .args .sheet) .now) (length ((c .before .before .before .before .before .args .list) .now)) (c .before .before .first-fault .result) (c .before .before .first-fault .ensures) (c .before .if1 .taken)) ((c .before .before .before .before .before .args .list) .now) refl (c .before .if1 .taken))
 
 -- src/read.rt:77:9
-column-requires : tie.Need-column-requires
-column-requires c κs = omega (arith, header-there ((c .before .before .before .before .args .sheet) .now) (sym (c .before .first-fault .ensures) ∙ (c .if1 .left)))
+short-column-requires : tie.Need-short-column-requires
+short-column-requires c κs = (omega (arith, header-there ((c .before .before .before .before .args .sheet) .now) (sym (c .before .first-fault .ensures) ∙ (c .if1 .left))), header-short ((c .before .before .before .before .args .sheet) .now) (sym (c .before .first-fault .ensures) ∙ (c .if1 .left)) .0)
 
 -- src/read.rt:78:9
-column-requires-2 : tie.Need-column-requires-2
-column-requires-2 c κs = omega (arith, header-there ((c .before .before .before .before .before .args .sheet) .now) (sym (c .before .before .first-fault .ensures) ∙ (c .before .if1 .left)))
+short-column-requires-2 : tie.Need-short-column-requires-2
+short-column-requires-2 c κs = (omega (arith, header-there ((c .before .before .before .before .before .args .sheet) .now) (sym (c .before .before .first-fault .ensures) ∙ (c .before .if1 .left))), header-short ((c .before .before .before .before .before .args .sheet) .now) (sym (c .before .before .first-fault .ensures) ∙ (c .before .if1 .left)) .1)
 
 -- src/read.rt:79:9
-column-requires-3 : tie.Need-column-requires-3
-column-requires-3 c κs = omega (arith, header-there ((c .before .before .before .before .before .before .args .sheet) .now) (sym (c .before .before .before .first-fault .ensures) ∙ (c .before .before .if1 .left)))
+column-requires : tie.Need-column-requires
+column-requires c κs = omega (arith, header-there ((c .before .before .before .before .before .before .args .sheet) .now) (sym (c .before .before .before .first-fault .ensures) ∙ (c .before .before .if1 .left)))
 
 -- src/read.rt:80:21
 mul-if2 : tie.Need-mul-if2
-mul-if2 c = omega (arith, transitions-few ((c .before .before .before .before .before .before .before .args .sheet) .now) (sym (c .before .before .before .before .first-fault .ensures) ∙ (c .before .before .before .if1 .left)) (c .column3 .result) (c .column3 .ensures))
+mul-if2 c = omega (arith, transitions-few ((c .before .before .before .before .before .before .before .args .sheet) .now) (sym (c .before .before .before .before .first-fault .ensures) ∙ (c .before .before .before .if1 .left)) (c .column .result) (c .column .ensures))
 
 -- src/read.rt:81:28
 mul-refused : tie.Need-mul-refused
-mul-refused c = omega (arith, transitions-few ((c .before .before .before .before .before .before .before .before .args .sheet) .now) (sym (c .before .before .before .before .before .first-fault .ensures) ∙ (c .before .before .before .before .if1 .left)) (c .before .column3 .result) (c .before .column3 .ensures))
+mul-refused c = omega (arith, transitions-few ((c .before .before .before .before .before .before .before .before .args .sheet) .now) (sym (c .before .before .before .before .before .first-fault .ensures) ∙ (c .before .before .before .before .if1 .left)) (c .before .column .result) (c .before .column .ensures))
 
 -- src/read.rt:81:9
 refused-requires-2 : tie.Need-refused-requires-2
@@ -52,15 +53,15 @@ refused-requires-2 c κs = search needs
 
 -- src/read.rt:81:9
 returns-2 : tie.Need-returns-2
-returns-2 c = (answer-refused ((c .before .before .before .before .before .before .before .before .before .args .sheet) .now) (length ((c .before .before .before .before .before .before .before .before .before .args .list) .now)) _ (refusal-short ((c .before .before .before .before .before .before .before .before .before .args .sheet) .now) (length ((c .before .before .before .before .before .before .before .before .before .args .list) .now)) (sym (c .before .before .before .before .before .before .first-fault .ensures) ∙ (c .before .before .before .before .before .if1 .left)) (c .before .before .column3 .result) (c .before .before .column3 .ensures) (c .before .if2 .taken)) (c .refused2 .result) (c .refused2 .ensures) (λ (q : 15 ≡ 0). omega arith), list-kept ((c .before .before .before .before .before .before .before .before .before .args .sheet) .now) (length ((c .before .before .before .before .before .before .before .before .before .args .list) .now)) _ (refusal-short ((c .before .before .before .before .before .before .before .before .before .args .sheet) .now) (length ((c .before .before .before .before .before .before .before .before .before .args .list) .now)) (sym (c .before .before .before .before .before .before .first-fault .ensures) ∙ (c .before .before .before .before .before .if1 .left)) (c .before .before .column3 .result) (c .before .before .column3 .ensures) (c .before .if2 .taken)) ((c .before .before .before .before .before .before .before .before .before .args .list) .now) refl (λ (q : 15 ≡ 0). omega arith))
+returns-2 c = (answer-refused ((c .before .before .before .before .before .before .before .before .before .args .sheet) .now) (length ((c .before .before .before .before .before .before .before .before .before .args .list) .now)) _ (refusal-short ((c .before .before .before .before .before .before .before .before .before .args .sheet) .now) (length ((c .before .before .before .before .before .before .before .before .before .args .list) .now)) (sym (c .before .before .before .before .before .before .first-fault .ensures) ∙ (c .before .before .before .before .before .if1 .left)) (c .before .before .column .result) (c .before .before .column .ensures) (c .before .if2 .taken)) (c .refused2 .result) (c .refused2 .ensures) (λ (q : 15 ≡ 0). omega arith), list-kept ((c .before .before .before .before .before .before .before .before .before .args .sheet) .now) (length ((c .before .before .before .before .before .before .before .before .before .args .list) .now)) _ (refusal-short ((c .before .before .before .before .before .before .before .before .before .args .sheet) .now) (length ((c .before .before .before .before .before .before .before .before .before .args .list) .now)) (sym (c .before .before .before .before .before .before .first-fault .ensures) ∙ (c .before .before .before .before .before .if1 .left)) (c .before .before .column .result) (c .before .before .column .ensures) (c .before .if2 .taken)) ((c .before .before .before .before .before .before .before .before .before .args .list) .now) refl (λ (q : 15 ≡ 0). omega arith))
 
 -- src/read.rt:83:9
 read-marks-requires : tie.Need-read-marks-requires
-read-marks-requires c κs = ((sym (c .before .before .before .before .before .first-fault .ensures) ∙ (c .before .before .before .before .if1 .left)), (c .before .before .before .column .ensures))
+read-marks-requires c κs = ((sym (c .before .before .before .before .before .first-fault .ensures) ∙ (c .before .before .before .before .if1 .left)), (c .before .before .before .short-column .ensures))
 
 -- src/read.rt:84:5
 read-transitions-requires : tie.Need-read-transitions-requires
-read-transitions-requires c κs = ((sym (c .before .before .before .before .before .before .before .first-fault .ensures) ∙ (c .before .before .before .before .before .before .if1 .left)), (c .before .before .before .before .before .column .ensures), (c .before .before .before .column3 .ensures), (c .before .before .if2 .left))
+read-transitions-requires c κs = ((sym (c .before .before .before .before .before .before .before .first-fault .ensures) ∙ (c .before .before .before .before .before .before .if1 .left)), (c .before .before .before .before .before .short-column .ensures), (c .before .before .before .column .ensures), (c .before .before .if2 .left))
 
 -- src/read.rt:70:1
 same-length : tie.Need-same-length
@@ -68,7 +69,7 @@ same-length c = search needs
 
 -- src/read.rt:70:1
 returns-3 : tie.Need-returns-3
-returns-3 c = (answer-read ((c .before .before .before .before .before .before .before .before .before .before .before .before .before .args .sheet) .now) (length ((c .before .before .before .before .before .before .before .before .before .before .before .before .before .args .list) .now)) (refusal-none ((c .before .before .before .before .before .before .before .before .before .before .before .before .before .args .sheet) .now) (length ((c .before .before .before .before .before .before .before .before .before .before .before .before .before .args .list) .now)) (sym (c .before .before .before .before .before .before .before .before .before .before .first-fault .ensures) ∙ (c .before .before .before .before .before .before .before .before .before .if1 .left)) (c .before .before .before .before .before .before .column3 .result) (c .before .before .before .before .before .before .column3 .ensures) (c .before .before .before .before .before .if2 .left)) (c .before .before .before .before .before .before .before .before .column .result) (c .before .before .before .before .before .before .before .column2 .result) (c .before .before .before .before .before .before .column3 .result) (c .before .before .before .before .read-marks .result) (c .before .before .before .before .before .before .before .before .column .ensures) (c .before .before .before .before .before .before .before .column2 .ensures) (c .before .before .before .before .before .before .column3 .ensures) (c .before .before .before .before .read-marks .ensures), list-read ((c .before .before .before .before .before .before .before .before .before .before .before .before .before .args .sheet) .now) (length ((c .before .before .before .before .before .before .before .before .before .before .before .before .before .args .list) .now)) (refusal-none ((c .before .before .before .before .before .before .before .before .before .before .before .before .before .args .sheet) .now) (length ((c .before .before .before .before .before .before .before .before .before .before .before .before .before .args .list) .now)) (sym (c .before .before .before .before .before .before .before .before .before .before .first-fault .ensures) ∙ (c .before .before .before .before .before .before .before .before .before .if1 .left)) (c .before .before .before .before .before .before .column3 .result) (c .before .before .before .before .before .before .column3 .ensures) (c .before .before .before .before .before .if2 .left)) ((c .before .before .before .before .before .before .before .before .before .before .before .before .before .args .list) .now) ((c .before .before .read-transitions .last) .1 .1 .1 .0) refl (c .before .before .read-transitions .ensures))
+returns-3 c = (answer-read ((c .before .before .before .before .before .before .before .before .before .before .before .before .before .args .sheet) .now) (length ((c .before .before .before .before .before .before .before .before .before .before .before .before .before .args .list) .now)) (refusal-none ((c .before .before .before .before .before .before .before .before .before .before .before .before .before .args .sheet) .now) (length ((c .before .before .before .before .before .before .before .before .before .before .before .before .before .args .list) .now)) (sym (c .before .before .before .before .before .before .before .before .before .before .first-fault .ensures) ∙ (c .before .before .before .before .before .before .before .before .before .if1 .left)) (c .before .before .before .before .before .before .column .result) (c .before .before .before .before .before .before .column .ensures) (c .before .before .before .before .before .if2 .left)) (c .before .before .before .before .before .before .before .before .short-column .result) (c .before .before .before .before .before .before .before .short-column2 .result) (c .before .before .before .before .before .before .column .result) (c .before .before .before .before .read-marks .result) (c .before .before .before .before .before .before .before .before .short-column .ensures) (c .before .before .before .before .before .before .before .short-column2 .ensures) (c .before .before .before .before .before .before .column .ensures) (c .before .before .before .before .read-marks .ensures), list-read ((c .before .before .before .before .before .before .before .before .before .before .before .before .before .args .sheet) .now) (length ((c .before .before .before .before .before .before .before .before .before .before .before .before .before .args .list) .now)) (refusal-none ((c .before .before .before .before .before .before .before .before .before .before .before .before .before .args .sheet) .now) (length ((c .before .before .before .before .before .before .before .before .before .before .before .before .before .args .list) .now)) (sym (c .before .before .before .before .before .before .before .before .before .before .first-fault .ensures) ∙ (c .before .before .before .before .before .before .before .before .before .if1 .left)) (c .before .before .before .before .before .before .column .result) (c .before .before .before .before .before .before .column .ensures) (c .before .before .before .before .before .if2 .left)) ((c .before .before .before .before .before .before .before .before .before .before .before .before .before .args .list) .now) ((c .before .before .read-transitions .last) .1 .1 .1 .0) refl (c .before .before .read-transitions .ensures))
 
 pub read-sheet-spec : {M : Type 1} → statement M
 read-sheet-spec =
@@ -77,9 +78,9 @@ read-sheet-spec =
     first-fault-requires
     refused-requires
     returns
+    short-column-requires
+    short-column-requires-2
     column-requires
-    column-requires-2
-    column-requires-3
     mul-if2
     mul-refused
     refused-requires-2

@@ -1,16 +1,17 @@
-use Prim.Native.Nat.{_≤_, _<_, _+_, _-_, _*_}
-use mathlib.Core.Path.{_≡_, refl, sym, ap, _∙_}
-use native.Mathlib.Omega.{arith}
-use lib.ListN.{length, length-set}
-use Rattle.columns.specs.Column.{put}
-use Rattle.sheet.specs.Series.{eachBelow}
-use Rattle.sheet.proofs.WriteCases.{each-none, each-more}
 use Rattle.sheet.proofs.ReadCases.{numbersPiece, numbers-wide, numbers-put, numbers-are, transition-there, from-small, letter-small, to-small, transitions-done, states-few, transitions-few}
+use Rattle.sheet.proofs.WriteCases.{each-none, each-more}
+use Rattle.sheet.specs.Series.{eachBelow}
+use Rattle.columns.specs.Column.{put}
+use lib.ListN.{length, length-set}
+use native.Mathlib.Omega.{arith}
+use mathlib.Core.Path.{_≡_, refl, sym, ap, _∙_}
+use Rattle.sheet.specs.Reading.{columnAt}
+use Prim.Native.Nat.{_≤_, _<_, _+_, _-_, _*_}
 use Rattle.sheet.proofs.read.read_transitions.Statement.{statement}
 use Rattle.sheet.proofs.read.read_transitions.Tie as tie
 use Rattle.sheet.proofs.read.read_transitions.Reads as reads
 use Rattle.sheet.proofs.read.read_transitions.Lts as lts
-use Rattle.sheet.proofs.faults.column.Reads as column-reads
+use Rattle.sheet.proofs.faults.short_column.Reads as short-column-reads
 
 abbrev Inv-loop : tie.InvT-loop
 Inv-loop sheet states transitions list₀ at₀ k₀ list at k = (k ≤ transitions) × (at ≡ 16 + 11 * states + 16 * k) × (list ≡ put 0 list₀ (eachBelow k (numbersPiece sheet))) × (length list ≡ length list₀)
@@ -35,12 +36,12 @@ mul-i : tie.Need-mul-i Inv-loop μ-loop
 mul-i c = omega (arith, (c .before .before .before .before .pre) .3, (c .loop-test .taken), (c .before .loop .inv) .3, (c .before .before .before .before .good))
 
 -- src/read.rt:58:19
-column-requires : tie.Need-column-requires Inv-loop μ-loop
-column-requires c κs = omega (arith, transition-there ((c .before .before .before .before .args .sheet) .now) ((c .before .before .before .before .pre) .0) (c .before .before .before .before .args .states) (c .before .before .before .before .args .transitions) (c .before .loop .k) (c .before .loop .at) ((c .before .before .before .before .pre) .1) ((c .before .before .before .before .pre) .2) (c .loop-test .taken) ((c .before .loop .inv) .1))
+short-column-requires : tie.Need-short-column-requires Inv-loop μ-loop
+short-column-requires c κs = (omega (arith, transition-there ((c .before .before .before .before .args .sheet) .now) ((c .before .before .before .before .pre) .0) (c .before .before .before .before .args .states) (c .before .before .before .before .args .transitions) (c .before .loop .k) (c .before .loop .at) ((c .before .before .before .before .pre) .1) ((c .before .before .before .before .pre) .2) (c .loop-test .taken) ((c .before .loop .inv) .1)), from-small ((c .before .before .before .before .args .sheet) .now) ((c .before .before .before .before .pre) .0) (c .before .before .before .before .args .states) (c .before .before .before .before .args .transitions) (c .before .loop .k) (c .before .loop .at) ((c .before .before .before .before .pre) .1) ((c .before .before .before .before .pre) .2) (c .loop-test .taken) ((c .before .loop .inv) .1) (columnAt ((c .before .before .before .before .args .sheet) .now) (c .before .loop .at)) refl)
 
 -- src/read.rt:58:19
 cast-list : tie.Need-cast-list Inv-loop μ-loop
-cast-list c = omega (arith, from-small ((c .before .before .before .before .before .args .sheet) .now) ((c .before .before .before .before .before .pre) .0) (c .before .before .before .before .before .args .states) (c .before .before .before .before .before .args .transitions) (c .before .before .loop .k) (c .before .before .loop .at) ((c .before .before .before .before .before .pre) .1) ((c .before .before .before .before .before .pre) .2) (c .before .loop-test .taken) ((c .before .before .loop .inv) .1) (c .column .result) (c .column .ensures))
+cast-list c = omega (arith, from-small ((c .before .before .before .before .before .args .sheet) .now) ((c .before .before .before .before .before .pre) .0) (c .before .before .before .before .before .args .states) (c .before .before .before .before .before .args .transitions) (c .before .before .loop .k) (c .before .before .loop .at) ((c .before .before .before .before .before .pre) .1) ((c .before .before .before .before .before .pre) .2) (c .before .loop-test .taken) ((c .before .before .loop .inv) .1) (c .short-column .result) (c .short-column .ensures))
 
 -- src/read.rt:58:9
 mul-list : tie.Need-mul-list Inv-loop μ-loop
@@ -50,17 +51,17 @@ mul-list c = omega (arith, (c .before .before .before .before .before .pre) .3, 
 slice-write-list : tie.Need-slice-write-list Inv-loop μ-loop
 slice-write-list c = omega (arith, (c .before .before .before .before .before .pre) .3, (c .before .loop-test .taken), (c .before .before .loop .inv) .3, (c .before .before .before .before .before .good))
 
--- src/read.rt:59:45
-add-column : tie.Need-add-column Inv-loop μ-loop
-add-column c = omega (arith, transition-there ((c .before .before .before .before .before .args .sheet) .now) ((c .before .before .before .before .before .pre) .0) (c .before .before .before .before .before .args .states) (c .before .before .before .before .before .args .transitions) (c .before .before .loop .k) (c .before .before .loop .at) ((c .before .before .before .before .before .pre) .1) ((c .before .before .before .before .before .pre) .2) (c .before .loop-test .taken) ((c .before .before .loop .inv) .1), (c .before .before .before .before .before .good))
+-- src/read.rt:59:51
+add-short-column : tie.Need-add-short-column Inv-loop μ-loop
+add-short-column c = omega (arith, transition-there ((c .before .before .before .before .before .args .sheet) .now) ((c .before .before .before .before .before .pre) .0) (c .before .before .before .before .before .args .states) (c .before .before .before .before .before .args .transitions) (c .before .before .loop .k) (c .before .before .loop .at) ((c .before .before .before .before .before .pre) .1) ((c .before .before .before .before .before .pre) .2) (c .before .loop-test .taken) ((c .before .before .loop .inv) .1), (c .before .before .before .before .before .good))
 
 -- src/read.rt:59:23
-column-requires-2 : tie.Need-column-requires-2 Inv-loop μ-loop
-column-requires-2 c κs = omega (arith, transition-there ((c .before .before .before .before .before .args .sheet) .now) ((c .before .before .before .before .before .pre) .0) (c .before .before .before .before .before .args .states) (c .before .before .before .before .before .args .transitions) (c .before .before .loop .k) (c .before .before .loop .at) ((c .before .before .before .before .before .pre) .1) ((c .before .before .before .before .before .pre) .2) (c .before .loop-test .taken) ((c .before .before .loop .inv) .1))
+short-column-requires-2 : tie.Need-short-column-requires-2 Inv-loop μ-loop
+short-column-requires-2 c κs = (omega (arith, transition-there ((c .before .before .before .before .before .args .sheet) .now) ((c .before .before .before .before .before .pre) .0) (c .before .before .before .before .before .args .states) (c .before .before .before .before .before .args .transitions) (c .before .before .loop .k) (c .before .before .loop .at) ((c .before .before .before .before .before .pre) .1) ((c .before .before .before .before .before .pre) .2) (c .before .loop-test .taken) ((c .before .before .loop .inv) .1)), letter-small ((c .before .before .before .before .before .args .sheet) .now) ((c .before .before .before .before .before .pre) .0) (c .before .before .before .before .before .args .states) (c .before .before .before .before .before .args .transitions) (c .before .before .loop .k) (c .before .before .loop .at) ((c .before .before .before .before .before .pre) .1) ((c .before .before .before .before .before .pre) .2) (c .before .loop-test .taken) ((c .before .before .loop .inv) .1) (columnAt ((c .before .before .before .before .before .args .sheet) .now) ((c .before .before .loop .at) + 5)) refl)
 
 -- src/read.rt:59:23
 cast-list-2 : tie.Need-cast-list-2 Inv-loop μ-loop
-cast-list-2 c = omega (arith, letter-small ((c .before .before .before .before .before .before .args .sheet) .now) ((c .before .before .before .before .before .before .pre) .0) (c .before .before .before .before .before .before .args .states) (c .before .before .before .before .before .before .args .transitions) (c .before .before .before .loop .k) (c .before .before .before .loop .at) ((c .before .before .before .before .before .before .pre) .1) ((c .before .before .before .before .before .before .pre) .2) (c .before .before .loop-test .taken) ((c .before .before .before .loop .inv) .1) (c .column2 .result) (c .column2 .ensures))
+cast-list-2 c = omega (arith, letter-small ((c .before .before .before .before .before .before .args .sheet) .now) ((c .before .before .before .before .before .before .pre) .0) (c .before .before .before .before .before .before .args .states) (c .before .before .before .before .before .before .args .transitions) (c .before .before .before .loop .k) (c .before .before .before .loop .at) ((c .before .before .before .before .before .before .pre) .1) ((c .before .before .before .before .before .before .pre) .2) (c .before .before .loop-test .taken) ((c .before .before .before .loop .inv) .1) (c .short-column2 .result) (c .short-column2 .ensures))
 
 -- src/read.rt:59:14
 add-list : tie.Need-add-list Inv-loop μ-loop
@@ -74,17 +75,17 @@ mul-list-2 c = omega (arith, (c .before .before .before .before .before .before 
 slice-write-list-2 : tie.Need-slice-write-list-2 Inv-loop μ-loop
 slice-write-list-2 c = simp length-set (omega (arith, (c .before .before .before .before .before .before .pre) .3, (c .before .before .loop-test .taken), (c .before .before .before .loop .inv) .3))
 
--- src/read.rt:60:45
-add-column-2 : tie.Need-add-column-2 Inv-loop μ-loop
-add-column-2 c = omega (arith, transition-there ((c .before .before .before .before .before .before .args .sheet) .now) ((c .before .before .before .before .before .before .pre) .0) (c .before .before .before .before .before .before .args .states) (c .before .before .before .before .before .before .args .transitions) (c .before .before .before .loop .k) (c .before .before .before .loop .at) ((c .before .before .before .before .before .before .pre) .1) ((c .before .before .before .before .before .before .pre) .2) (c .before .before .loop-test .taken) ((c .before .before .before .loop .inv) .1), (c .before .before .before .before .before .before .good))
+-- src/read.rt:60:51
+add-short-column-2 : tie.Need-add-short-column-2 Inv-loop μ-loop
+add-short-column-2 c = omega (arith, transition-there ((c .before .before .before .before .before .before .args .sheet) .now) ((c .before .before .before .before .before .before .pre) .0) (c .before .before .before .before .before .before .args .states) (c .before .before .before .before .before .before .args .transitions) (c .before .before .before .loop .k) (c .before .before .before .loop .at) ((c .before .before .before .before .before .before .pre) .1) ((c .before .before .before .before .before .before .pre) .2) (c .before .before .loop-test .taken) ((c .before .before .before .loop .inv) .1), (c .before .before .before .before .before .before .good))
 
 -- src/read.rt:60:23
-column-requires-3 : tie.Need-column-requires-3 Inv-loop μ-loop
-column-requires-3 c κs = omega (arith, transition-there ((c .before .before .before .before .before .before .args .sheet) .now) ((c .before .before .before .before .before .before .pre) .0) (c .before .before .before .before .before .before .args .states) (c .before .before .before .before .before .before .args .transitions) (c .before .before .before .loop .k) (c .before .before .before .loop .at) ((c .before .before .before .before .before .before .pre) .1) ((c .before .before .before .before .before .before .pre) .2) (c .before .before .loop-test .taken) ((c .before .before .before .loop .inv) .1))
+short-column-requires-3 : tie.Need-short-column-requires-3 Inv-loop μ-loop
+short-column-requires-3 c κs = (omega (arith, transition-there ((c .before .before .before .before .before .before .args .sheet) .now) ((c .before .before .before .before .before .before .pre) .0) (c .before .before .before .before .before .before .args .states) (c .before .before .before .before .before .before .args .transitions) (c .before .before .before .loop .k) (c .before .before .before .loop .at) ((c .before .before .before .before .before .before .pre) .1) ((c .before .before .before .before .before .before .pre) .2) (c .before .before .loop-test .taken) ((c .before .before .before .loop .inv) .1)), to-small ((c .before .before .before .before .before .before .args .sheet) .now) ((c .before .before .before .before .before .before .pre) .0) (c .before .before .before .before .before .before .args .states) (c .before .before .before .before .before .before .args .transitions) (c .before .before .before .loop .k) (c .before .before .before .loop .at) ((c .before .before .before .before .before .before .pre) .1) ((c .before .before .before .before .before .before .pre) .2) (c .before .before .loop-test .taken) ((c .before .before .before .loop .inv) .1) (columnAt ((c .before .before .before .before .before .before .args .sheet) .now) ((c .before .before .before .loop .at) + 10)) refl)
 
 -- src/read.rt:60:23
 cast-list-3 : tie.Need-cast-list-3 Inv-loop μ-loop
-cast-list-3 c = omega (arith, to-small ((c .before .before .before .before .before .before .before .args .sheet) .now) ((c .before .before .before .before .before .before .before .pre) .0) (c .before .before .before .before .before .before .before .args .states) (c .before .before .before .before .before .before .before .args .transitions) (c .before .before .before .before .loop .k) (c .before .before .before .before .loop .at) ((c .before .before .before .before .before .before .before .pre) .1) ((c .before .before .before .before .before .before .before .pre) .2) (c .before .before .before .loop-test .taken) ((c .before .before .before .before .loop .inv) .1) (c .column3 .result) (c .column3 .ensures))
+cast-list-3 c = omega (arith, to-small ((c .before .before .before .before .before .before .before .args .sheet) .now) ((c .before .before .before .before .before .before .before .pre) .0) (c .before .before .before .before .before .before .before .args .states) (c .before .before .before .before .before .before .before .args .transitions) (c .before .before .before .before .loop .k) (c .before .before .before .before .loop .at) ((c .before .before .before .before .before .before .before .pre) .1) ((c .before .before .before .before .before .before .before .pre) .2) (c .before .before .before .loop-test .taken) ((c .before .before .before .before .loop .inv) .1) (c .short-column3 .result) (c .short-column3 .ensures))
 
 -- src/read.rt:60:14
 add-list-2 : tie.Need-add-list-2 Inv-loop μ-loop
@@ -112,7 +113,7 @@ loop-less c = omega (arith, (c .before .before .before .loop-test .taken))
 
 -- src/read.rt:56:5
 loop-again : tie.Need-loop-again Inv-loop μ-loop
-loop-again c = (omega (arith, (c .before .before .before .loop-test .taken)), omega (arith, (c .before .before .before .before .loop .inv) .1), each-more 3 0 (numbersPiece ((c .before .before .before .before .before .before .before .args .sheet) .now)) (numbers-wide ((c .before .before .before .before .before .before .before .args .sheet) .now)) ((c .before .before .before .before .before .before .before .args .list) .now) (c .before .before .before .before .loop .list) _ _ (c .before .before .before .before .loop .k) ((c .before .before .before .before .loop .k) * 3) ((c .before .before .before .before .loop .inv) .2) (numbers-put (c .before .before .before .before .loop .list) ((c .before .before .before .before .loop .k) * 3) (c .before .before .column .result) (c .before .column2 .result) (c .column3 .result) (omega (arith, (c .before .before .before .before .before .before .before .pre) .3, (c .before .before .before .loop-test .taken), (c .before .before .before .before .loop .inv) .3))) (numbers-are ((c .before .before .before .before .before .before .before .args .sheet) .now) ((c .before .before .before .before .before .before .before .pre) .0) (c .before .before .before .before .before .before .before .args .states) (c .before .before .before .before .before .before .before .args .transitions) (c .before .before .before .before .loop .k) (c .before .before .before .before .loop .at) ((c .before .before .before .before .before .before .before .pre) .1) ((c .before .before .before .before .before .before .before .pre) .2) (c .before .before .before .loop-test .taken) ((c .before .before .before .before .loop .inv) .1) (c .before .before .column .result) (c .before .column2 .result) (c .column3 .result) (c .before .before .column .ensures) (c .before .column2 .ensures) (c .column3 .ensures)) (omega arith) (omega (arith, (c .before .before .before .before .before .before .before .pre) .3, (c .before .before .before .loop-test .taken))), simp length-set ((c .before .before .before .before .loop .inv) .3))
+loop-again c = (omega (arith, (c .before .before .before .loop-test .taken)), omega (arith, (c .before .before .before .before .loop .inv) .1), each-more 3 0 (numbersPiece ((c .before .before .before .before .before .before .before .args .sheet) .now)) (numbers-wide ((c .before .before .before .before .before .before .before .args .sheet) .now)) ((c .before .before .before .before .before .before .before .args .list) .now) (c .before .before .before .before .loop .list) _ _ (c .before .before .before .before .loop .k) ((c .before .before .before .before .loop .k) * 3) ((c .before .before .before .before .loop .inv) .2) (numbers-put (c .before .before .before .before .loop .list) ((c .before .before .before .before .loop .k) * 3) (c .before .before .short-column .result) (c .before .short-column2 .result) (c .short-column3 .result) (omega (arith, (c .before .before .before .before .before .before .before .pre) .3, (c .before .before .before .loop-test .taken), (c .before .before .before .before .loop .inv) .3))) (numbers-are ((c .before .before .before .before .before .before .before .args .sheet) .now) ((c .before .before .before .before .before .before .before .pre) .0) (c .before .before .before .before .before .before .before .args .states) (c .before .before .before .before .before .before .before .args .transitions) (c .before .before .before .before .loop .k) (c .before .before .before .before .loop .at) ((c .before .before .before .before .before .before .before .pre) .1) ((c .before .before .before .before .before .before .before .pre) .2) (c .before .before .before .loop-test .taken) ((c .before .before .before .before .loop .inv) .1) (c .before .before .short-column .result) (c .before .short-column2 .result) (c .short-column3 .result) (c .before .before .short-column .ensures) (c .before .short-column2 .ensures) (c .short-column3 .ensures)) (omega arith) (omega (arith, (c .before .before .before .before .before .before .before .pre) .3, (c .before .before .before .loop-test .taken))), simp length-set ((c .before .before .before .before .loop .inv) .3))
 
 -- src/read.rt:50:1
 same-length : tie.Need-same-length Inv-loop μ-loop
@@ -132,18 +133,18 @@ read-transitions-spec =
     add-at
     loop-holds
     mul-i
-    column-requires
+    short-column-requires
     cast-list
     mul-list
     slice-write-list
-    add-column
-    column-requires-2
+    add-short-column
+    short-column-requires-2
     cast-list-2
     add-list
     mul-list-2
     slice-write-list-2
-    add-column-2
-    column-requires-3
+    add-short-column-2
+    short-column-requires-3
     cast-list-3
     add-list-2
     mul-list-3

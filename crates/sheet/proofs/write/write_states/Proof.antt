@@ -1,18 +1,18 @@
-use Prim.Native.Nat.{_≤_, _<_, _+_, _-_, _*_}
-use mathlib.Core.Path.{_≡_, refl, sym, ap, _∙_}
-use native.Mathlib.Omega.{arith}
-use lib.ListN.{length}
-use borrow.Author.Needs.{needs}
-use Rattle.columns.specs.Column.{put}
-use Rattle.sheet.specs.Series.{eachBelow}
-use Rattle.sheet.specs.Format.{stateLine}
 use Rattle.sheet.proofs.WriteCases.{each-none, each-more, state-piece, state-wide, each-done}
+use Rattle.sheet.specs.Format.{stateLine}
+use Rattle.sheet.specs.Series.{eachBelow}
+use Rattle.columns.specs.Column.{put}
+use borrow.Author.Needs.{needs}
+use lib.ListN.{length}
+use native.Mathlib.Omega.{arith}
+use mathlib.Core.Path.{_≡_, refl, sym, ap, _∙_}
+use Prim.Native.Nat.{_≤_, _<_, _+_, _-_, _*_}
 use Rattle.sheet.proofs.write.write_states.Statement.{statement}
 use Rattle.sheet.proofs.write.write_states.Tie as tie
 use Rattle.sheet.proofs.write.write_states.Reads as reads
 use Rattle.sheet.proofs.write.write_states.Lts as lts
 use Rattle.fsbm.proofs.machine.mark.Reads as mark-reads
-use Rattle.sheet.proofs.write.write_two.Reads as write-two-reads
+use Rattle.sheet.proofs.write.write_state.Reads as write-state-reads
 
 abbrev Inv-loop : tie.InvT-loop
 Inv-loop sheet₀ marks states at₀ q₀ sheet at q = (q ≤ states) × (at ≡ 16 + 11 * q) × (sheet ≡ put 16 sheet₀ (eachBelow q (stateLine marks))) × (length sheet ≡ length sheet₀)
@@ -20,43 +20,47 @@ Inv-loop sheet₀ marks states at₀ q₀ sheet at q = (q ≤ states) × (at ≡
 abbrev μ-loop : tie.MeasureT-loop
 μ-loop sheet₀ marks states at₀ q₀ sheet at q = states - q
 
--- src/write.rt:48:5
+-- src/write.rt:60:5
 loop-holds : tie.Need-loop-holds Inv-loop μ-loop
 loop-holds c = (omega arith, refl, each-none 16 _ _, refl)
 
--- src/write.rt:49:33
+-- src/write.rt:61:32
+cast-write-state : tie.Need-cast-write-state Inv-loop μ-loop
+cast-write-state c = omega (arith, (c .before .before .before .before .pre) .0, (c .before .loop-test .taken))
+
+-- src/write.rt:61:42
 mark-requires : tie.Need-mark-requires Inv-loop μ-loop
 mark-requires c κs = search needs
 
--- src/write.rt:49:33
-cast-write-two : tie.Need-cast-write-two Inv-loop μ-loop
-cast-write-two c = search needs
+-- src/write.rt:61:42
+cast-write-state-2 : tie.Need-cast-write-state-2 Inv-loop μ-loop
+cast-write-state-2 c = search needs
 
--- src/write.rt:49:9
-write-two-requires : tie.Need-write-two-requires Inv-loop μ-loop
-write-two-requires c κs = omega (arith, (c .before .before .before .before .before .pre) .1, (c .before .before .before .loop .inv) .1, (c .before .before .before .loop .inv) .3, (c .before .before .loop-test .taken))
+-- src/write.rt:61:9
+write-state-requires : tie.Need-write-state-requires Inv-loop μ-loop
+write-state-requires c κs = (omega (arith, (c .before .before .before .before .before .pre) .1, (c .before .before .before .loop .inv) .1, (c .before .before .before .loop .inv) .3, (c .before .before .loop-test .taken)), omega (arith, (c .before .before .before .before .before .pre) .0, (c .before .before .loop-test .taken)), omega arith)
 
--- src/write.rt:50:9
+-- src/write.rt:62:9
 add-at : tie.Need-add-at Inv-loop μ-loop
 add-at c = omega (arith, (c .before .before .before .before .before .before .before .before .pre) .0, (c .before .before .before .before .before .before .loop .inv) .1, (c .before .before .before .before .before .loop-test .taken))
 
--- src/write.rt:51:9
+-- src/write.rt:63:9
 add-q : tie.Need-add-q Inv-loop μ-loop
 add-q c = omega (arith, (c .before .before .before .before .before .before .before .before .pre) .0, (c .before .before .before .before .before .loop-test .taken))
 
--- src/write.rt:48:5
+-- src/write.rt:60:5
 loop-less : tie.Need-loop-less Inv-loop μ-loop
 loop-less c = omega (arith, (c .before .before .before .before .before .loop-test .taken))
 
--- src/write.rt:48:5
+-- src/write.rt:60:5
 loop-again : tie.Need-loop-again Inv-loop μ-loop
-loop-again c = (omega (arith, (c .before .before .before .before .before .loop-test .taken)), omega (arith, (c .before .before .before .before .before .before .loop .inv) .1), each-more 11 16 (stateLine ((c .before .before .before .before .before .before .before .before .args .marks) .now)) (state-wide ((c .before .before .before .before .before .before .before .before .args .marks) .now)) ((c .before .before .before .before .before .before .before .before .args .sheet) .now) (c .before .before .before .before .before .before .loop .sheet) ((c .before .before .write-two .last) .0) _ (c .before .before .before .before .before .before .loop .q) (c .before .before .before .before .before .before .loop .at) ((c .before .before .before .before .before .before .loop .inv) .2) (c .before .before .write-two .ensures) (state-piece ((c .before .before .before .before .before .before .before .before .args .marks) .now) (c .before .before .before .before .before .before .loop .q) (c .before .before .before .mark .result) (c .before .before .before .mark .ensures)) ((c .before .before .before .before .before .before .loop .inv) .1) (omega (arith, (c .before .before .before .before .before .before .before .before .pre) .1, (c .before .before .before .before .before .loop-test .taken))), (c .before .before .write-two .kept) .0 ∙ (c .before .before .before .before .before .before .loop .inv) .3)
+loop-again c = (omega (arith, (c .before .before .before .before .before .loop-test .taken)), omega (arith, (c .before .before .before .before .before .before .loop .inv) .1), each-more 11 16 (stateLine ((c .before .before .before .before .before .before .before .before .args .marks) .now)) (state-wide ((c .before .before .before .before .before .before .before .before .args .marks) .now)) ((c .before .before .before .before .before .before .before .before .args .sheet) .now) (c .before .before .before .before .before .before .loop .sheet) ((c .before .before .write-state .last) .0) _ (c .before .before .before .before .before .before .loop .q) (c .before .before .before .before .before .before .loop .at) ((c .before .before .before .before .before .before .loop .inv) .2) (c .before .before .write-state .ensures) (state-piece ((c .before .before .before .before .before .before .before .before .args .marks) .now) (c .before .before .before .before .before .before .loop .q) (c .before .before .before .mark .result) (c .before .before .before .mark .ensures)) ((c .before .before .before .before .before .before .loop .inv) .1) (omega (arith, (c .before .before .before .before .before .before .before .before .pre) .1, (c .before .before .before .before .before .loop-test .taken))), (c .before .before .write-state .kept) .0 ∙ (c .before .before .before .before .before .before .loop .inv) .3)
 
--- src/write.rt:42:1
+-- src/write.rt:54:1
 same-length : tie.Need-same-length Inv-loop μ-loop
 same-length c = (c .before .loop .inv) .3
 
--- src/write.rt:42:1
+-- src/write.rt:54:1
 returns : tie.Need-returns Inv-loop μ-loop
 returns c = each-done 16 _ _ _ (c .before .loop .q) _ ((c .before .loop .inv) .0) (c .loop-test .left) ((c .before .loop .inv) .2)
 
@@ -67,9 +71,10 @@ write-states-spec =
     Inv-loop
     μ-loop
     loop-holds
+    cast-write-state
     mark-requires
-    cast-write-two
-    write-two-requires
+    cast-write-state-2
+    write-state-requires
     add-at
     add-q
     loop-less
