@@ -1,13 +1,12 @@
--- The theorem of is_accepted: the sets of the last place decide the published language, and so `accepted`.
+-- The theorem of is_accepted: the states reached at the end of a word decide the published language, and so `accepted`.
 --
--- decided     == the set of the last place has a final state, if and only if the machine accepts the word
-use Prim.Native.Nat.{ℕ, _+_, _/_, _%_, _≤_, _<_}
+-- decided     == a final state is reached at the end, if and only if the machine accepts the word
+use Prim.Native.Nat.{ℕ, _/_, _%_, _<_}
 use mathlib.Core.Path.{_≡_, refl, sym, ap, _∙_, subst}
 use mathlib.Core.Logic.{_↔_}
 use mathlib.Core.Bool.{Bool, true, false, not}
 use mathlib.Core.List.{List, []}
-use native.Mathlib.Omega.{arith}
-use lib.ListN.{length, getD, drop}
+use lib.ListN.{length, drop}
 use lib.Seq.{drop-length}
 use lib.Dec.{eqb}
 use borrow.Author.Tests.{not-true, eqb-false, ne-eqb}
@@ -22,9 +21,8 @@ use Rattle.language.specs.Bound.{accepted-iff-published}
 use Rattle.adjacency.specs.Index.{Index}
 use Rattle.adjacency.specs.Index.Laws.{sorted}
 use Rattle.decide.specs.Graph.{Members, graph}
-use Rattle.decide.specs.Reach.{Stage}
+use Rattle.decide.specs.Reach.{Reach}
 use Rattle.decide.proofs.SetCases.{none-in, some-member}
-use Rattle.decide.proofs.StageCases.{stage-reach}
 use Rattle.decide.proofs.Tables.{Table, initial-says, final-says, buffering-says, matching-says}
 use Rattle.decide.proofs.Runs.{reach-run}
 use Rattle.decide.proofs.Covering.{run-reach}
@@ -37,15 +35,15 @@ module _ (m : Machine) (list w first : List ℕ) (good : wellFormed m list ≡ t
   table : Table m list first g h
   table = record { sorted = sorted m list good; index = index; stores = buffering-says m list (sorted m list good) g kg; matches = matching-says m list (sorted m list good) h kh }
 
-  pub decided : (sets : List ℕ) (both : ℕ) → Stage (graph list first g h) w i sets (length w + 1) → Members both (λ q. In (getD sets (length w) 0) q × In f q)
+  pub decided : (end both : ℕ) → Members end (Reach (graph list first g h) w i (length w)) → Members both (λ q. In end q × In f q)
       → not (eqb both 0) ≡ accepted m list w
-  decided sets both st shared = same-truth (not (eqb both 0)) (accepted m list w) to from
+  decided end both reached shared = same-truth (not (eqb both 0)) (accepted m list w) to from
     where
       to : not (eqb both 0) ≡ true → accepted m list w ≡ true
       to e =
           let (q, y) = some-member both (shared .fits) (eqb-false both 0 (not-true (eqb both 0) e)) in
           let (ended, is-final) = shared .members q .0 y in
-          let (o, io, run) = reach-run table w (st .sound (length w) q ended) in
+          let (o, io, run) = reach-run table w (reached .members q .0 ended) in
           accepted-iff-published m list w good .1 (record {
             first = o;
             last = q;
@@ -58,6 +56,6 @@ module _ (m : Machine) (list w first : List ℕ) (good : wellFormed m list ≡ t
       from e =
           let l = accepted-iff-published m list w good .0 e in
           let r = run-reach table w i (initial-says m list (sorted m list good) i ki (l .first) .1 (l .first-initial)) (l .run) in
-          let ended = stage-reach (graph list first g h) w i sets (length w + 1) st (omega arith) r in
+          let ended = reached .members (l .last) .1 r in
           let y = shared .members (l .last) .1 (ended, final-says m list (sorted m list good) f kf (l .last) .1 (l .last-final)) in
           ap not (ne-eqb both 0 (λ z. none-in z (l .last) y))

@@ -1,9 +1,12 @@
 pub mod CopyCases
 pub mod Covering
 pub mod Decided
+pub mod MapCases
 pub mod RowCases
 pub mod Runs
 pub mod SetCases
+pub mod SquareCases
 pub mod StageCases
 pub mod Sweeps
+pub mod SweepCases
 pub mod Tables

@@ -1,9 +1,11 @@
 -- The ways through pass_place, and what each place adds to what is known of the sets.
 --
 -- passed-none, passed-over, passed-read, passed-copies == the ways through pass_place
+-- turns           == what is reached at a place by epsilon moves and empty copies from what is reached there
 -- stage-start     == the sets at the start of a word
 -- stage-turn      == one place more
--- stage-reach     == at the end the sets are those of the reached states
+-- stage-to        == the same at an equal place
+-- stage-reach     == at the end the sets are those of the reached states; stage-end: that of the last place
 use Prim.Native.Nat.{ℕ, suc, _+_, _-_, _^_, _≤_, _<_}
 use mathlib.Core.Path.{_≡_, refl, sym, ap, _∙_, subst}
 use mathlib.Core.Logic.{_↔_, _⊎_, inl, inr}
@@ -140,7 +142,7 @@ stage-start G w start fits =
 
 module _ (G : Graph) (w : List ℕ) (start : ℕ) where
   -- what is reached at a place in epsilon moves and empty copies is reached there
-  turns : {k p q : ℕ} → k ≤ length w → Reach G w start k p → Star (Turn G) p q → Reach G w start k q
+  pub turns : {k p q : ℕ} → k ≤ length w → Reach G w start k p → Star (Turn G) p q → Reach G w start k q
   turns {k} {p} le h here = h
   turns {k} {p} {q} le h (more {q = r} s t) = one (turns le h s) t
     where
@@ -285,3 +287,9 @@ module _ (G : Graph) (w : List ℕ) (start : ℕ) where
       subst (λ (n : ℕ). In (getD sets n 0) q) (sym place) (st .read i p q (omega arith) in-word some (stage-reach sets t st lt h) e)
   stage-reach sets t st lt {k} {q} (copies {i = i} {j = j} {p = p} {s = s} h g ge v m y same place in-word) =
       st .copied i j k p s q (let z = reach-inside h in omega arith) (stage-reach sets t st lt h) g ge v m y same place in-word
+
+pub stage-to : (G : Graph) (w : List ℕ) (start : ℕ) (sets : List ℕ) (t u : ℕ) → t ≡ u → Stage G w start sets t → Stage G w start sets u
+stage-to G w start sets t u e s = subst (λ (n : ℕ). Stage G w start sets n) e s
+
+pub stage-end : (G : Graph) (w : List ℕ) (start : ℕ) (sets : List ℕ) → Stage G w start sets (length w + 1) → Members (getD sets (length w) 0) (Reach G w start (length w))
+stage-end G w start sets st = record { fits = st .fitting .each (length w); members = λ q. (st .sound (length w) q, λ r. stage-reach G w start sets (length w + 1) st (omega arith) r) }

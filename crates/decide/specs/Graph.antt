@@ -11,6 +11,7 @@
 -- Edge G T x p q         == some transition from p with letter x leads to q, and mode T may take it
 -- Free G T p q           == q is reached from p in mode T by epsilon moves
 -- Advance G T x p q      == q is reached from p in mode T by a move that reads x and then epsilon moves
+-- Lead G T x p q         == q is reached from p in mode T by epsilon moves, a move that reads x, and epsilon moves
 -- EmptyCopy G p q        == from p in normal mode to q in normal mode by a copy of nothing, in epsilon moves
 -- Turn G p q             == an epsilon move in normal mode, or an empty copy
 -- Stretch, Good          == what the functions ask of a list and its index
@@ -80,6 +81,11 @@ pub record Advance (G : Graph) (T : Mode) (x p q : ℕ) : Type 0 where
   pub middle : ℕ
   pub edge : Edge G T x p middle
   pub free : Free G T middle q
+
+pub record Lead (G : Graph) (T : Mode) (x p q : ℕ) : Type 0 where
+  pub middle : ℕ
+  pub free : Free G T p middle
+  pub advance : Advance G T x middle q
 
 pub record EmptyCopy (G : Graph) (p q : ℕ) : Type 0 where
   pub begins : In (G .buffering) p

@@ -1,2 +1,3 @@
 pub mod Graph
 pub mod Reach
+pub mod Sweep

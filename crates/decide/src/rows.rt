@@ -11,7 +11,7 @@ use crate::images;
 use fsbm::config::Mode;
 
 // The set of one state.
-fn single(q: usize) -> u64
+pub fn single(q: usize) -> u64
     requires { ⌜ q < width ⌝ }
     ensures { λ r. ⌜ Members r (λ p. p ≡ q) ⌝ }
 {

@@ -1,0 +1,101 @@
+use borrow.Author.Needs.{needs}
+use Rattle.decide.proofs.SweepCases.{TurningAll, turns-start, turns-more, turns-end}
+use Rattle.decide.proofs.SetCases.{members-is}
+use lib.ListN.{length}
+use Prim.Native.Nat.{ℕ, _≤_, _<_, _+_, _-_}
+use mathlib.Core.Path.{_≡_, refl}
+use native.Mathlib.Omega.{arith}
+use Rattle.decide.proofs.sweep.turn_all.Statement.{statement}
+use Rattle.decide.proofs.sweep.turn_all.Tie as tie
+use Rattle.decide.proofs.sweep.turn_all.Reads as reads
+use Rattle.decide.proofs.sweep.turn_all.Lts as lts
+use Rattle.decide.proofs.sweep.turning.Reads as turning-reads
+use Rattle.stateset.proofs.union.Reads as union-reads
+
+abbrev Inv-loop : tie.InvT-loop
+Inv-loop h word ends₀ sets₀ lo j i₀ ends sets i = (j + (j - lo) ≤ length word) × (length word ≤ 255) × TurningAll h word ends sets₀ sets lo i j
+
+abbrev μ-loop : tie.MeasureT-loop
+μ-loop h word ends₀ sets₀ lo j i₀ ends sets i = j - i
+
+-- src/sweep.rt:36:5
+loop-holds : tie.Need-loop-holds Inv-loop μ-loop
+loop-holds c = ((c .before .pre) .1, (c .before .pre) .2, turns-start _ _ _ _ _ _ ((c .before .pre) .3) ((c .before .pre) .4) ((c .before .pre) .0))
+
+-- src/sweep.rt:37:22
+sub-e : tie.Need-sub-e Inv-loop μ-loop
+sub-e c = omega (arith, (c .before .loop .inv) .0, (c .before .loop .inv) .1, (c .before .loop .inv) .2 .low, (c .loop-test .taken))
+
+-- src/sweep.rt:37:17
+add-e : tie.Need-add-e Inv-loop μ-loop
+add-e c = omega (arith, (c .before .loop .inv) .0, (c .before .loop .inv) .1, (c .before .loop .inv) .2 .low, (c .loop-test .taken))
+
+-- src/sweep.rt:38:49
+mul-turning : tie.Need-mul-turning Inv-loop μ-loop
+mul-turning c = omega (arith, (c .before .before .loop .inv) .0, (c .before .before .loop .inv) .1, (c .before .before .loop .inv) .2 .low, (c .before .loop-test .taken))
+
+-- src/sweep.rt:38:49
+element-copy-out-turning : tie.Need-element-copy-out-turning Inv-loop μ-loop
+element-copy-out-turning c = omega (arith, (c .before .before .loop .inv) .0, (c .before .before .loop .inv) .1, (c .before .before .loop .inv) .2 .low, (c .before .loop-test .taken))
+
+-- src/sweep.rt:38:13
+turning-requires : tie.Need-turning-requires Inv-loop μ-loop
+turning-requires c κs = (omega (arith, (c .before .before .loop-test .taken)), omega (arith, (c .before .before .before .loop .inv) .0, (c .before .before .before .loop .inv) .1, (c .before .before .before .loop .inv) .2 .low, (c .before .before .loop-test .taken)), (c .before .before .before .loop .inv) .1, (c .before .before .before .loop .inv) .2 .kept)
+
+-- src/sweep.rt:39:35
+mul-union : tie.Need-mul-union Inv-loop μ-loop
+mul-union c = omega (arith, (c .before .before .before .before .loop .inv) .0, (c .before .before .before .before .loop .inv) .1, (c .before .before .before .before .loop .inv) .2 .low, (c .before .before .before .loop-test .taken))
+
+-- src/sweep.rt:39:35
+element-copy-out-union : tie.Need-element-copy-out-union Inv-loop μ-loop
+element-copy-out-union c = omega (arith, (c .before .before .before .before .loop .inv) .0, (c .before .before .before .before .loop .inv) .1, (c .before .before .before .before .loop .inv) .2 .low, (c .before .before .before .loop-test .taken))
+
+-- src/sweep.rt:39:19
+union-requires : tie.Need-union-requires Inv-loop μ-loop
+union-requires c κs = search needs
+
+-- src/sweep.rt:39:9
+mul-sets : tie.Need-mul-sets Inv-loop μ-loop
+mul-sets c = omega (arith, (c .before .before .before .before .before .before .loop .inv) .0, (c .before .before .before .before .before .before .loop .inv) .1, (c .before .before .before .before .before .before .loop .inv) .2 .low, (c .before .before .before .before .before .loop-test .taken))
+
+-- src/sweep.rt:39:9
+element-write-sets : tie.Need-element-write-sets Inv-loop μ-loop
+element-write-sets c = omega (arith, (c .before .before .before .before .before .before .loop .inv) .0, (c .before .before .before .before .before .before .loop .inv) .1, (c .before .before .before .before .before .before .loop .inv) .2 .low, (c .before .before .before .before .before .loop-test .taken))
+
+-- src/sweep.rt:40:9
+add-i : tie.Need-add-i Inv-loop μ-loop
+add-i c = omega (arith, (c .before .before .before .before .before .before .loop .inv) .0, (c .before .before .before .before .before .before .loop .inv) .1, (c .before .before .before .before .before .before .loop .inv) .2 .low, (c .before .before .before .before .before .loop-test .taken))
+
+-- src/sweep.rt:36:5
+loop-less : tie.Need-loop-less Inv-loop μ-loop
+loop-less c = omega (arith, (c .before .before .before .before .before .before .loop .inv) .0, (c .before .before .before .before .before .before .loop .inv) .1, (c .before .before .before .before .before .before .loop .inv) .2 .low, (c .before .before .before .before .before .loop-test .taken))
+
+-- src/sweep.rt:36:5
+loop-again : tie.Need-loop-again Inv-loop μ-loop
+loop-again c = ((c .before .before .before .before .before .before .loop .inv) .0, (c .before .before .before .before .before .before .loop .inv) .1, turns-more _ ((c .before .before .before .before .before .before .before .before .args .word) .now) _ _ _ _ _ _ ((c .before .before .before .before .before .before .loop .inv) .2) _ _ _ _ (c .before .before .before .before .before .loop-test .taken) ((c .before .before .before .before .before .before .loop .inv) .0) ((c .before .before .before .before .before .before .loop .inv) .1) refl (c .before .before .turning .ensures) (members-is (c .union .ensures)))
+
+-- src/sweep.rt:31:1
+returns : tie.Need-returns Inv-loop μ-loop
+returns c = turns-end _ _ _ _ _ _ _ _ ((c .before .loop .inv) .2) (c .loop-test .left)
+
+pub turn-all-spec : {M : Type 1} → statement M
+turn-all-spec =
+    tie.close
+    (tie.spec
+    Inv-loop
+    μ-loop
+    loop-holds
+    sub-e
+    add-e
+    mul-turning
+    element-copy-out-turning
+    turning-requires
+    mul-union
+    element-copy-out-union
+    union-requires
+    mul-sets
+    element-write-sets
+    add-i
+    loop-less
+    loop-again
+    returns)
