@@ -1,7 +1,7 @@
 //! The copy list: the whole result and the whole slice of each call are compared with the reference.
 
 use compare::calls::{list_copies, list_copies_record};
-use compare::{break_a_rule, filled, random_machine, random_word, record_of, Rng};
+use compare::{break_a_rule, filled, random_machine, random_word, record_of, tally, Rng};
 use reference::{folder, moves, published, Config, Machine, Record, BEGIN_EMPTYING};
 use zagvirk::copies::{Copies, CopiesRecord};
 
@@ -155,14 +155,10 @@ fn random_runs() {
         }
     }
     let cases: u64 = counts.iter().sum();
-    let each: Vec<String> = (0..21)
-        .filter(|&number| counts[number] > 0)
-        .map(|number| format!("{number}: {}", counts[number]))
-        .collect();
     println!(
         "copies, random: {runs} accepting runs ({with_copies} with copies, \
          {with_letters} with letters copied, up to {most} copies), {cases} cases (refusal: cases; {})",
-        each.join(", ")
+        tally(&counts)
     );
     assert!(with_letters > 1000);
 }

@@ -1,7 +1,7 @@
 //! The product: the whole result and the whole list of each call are compared with the reference.
 
 use compare::calls::{check_run, join, join_record};
-use compare::{break_a_rule, filled, random_machine, record_of, Case, Rng, NO_MACHINE};
+use compare::{break_a_rule, filled, random_machine, record_of, tally, Case, Rng, NO_MACHINE};
 use reference::{folder, product, published, Machine, Record};
 use zagvirk::product::JoinedRecord;
 
@@ -98,13 +98,9 @@ fn random_pairs() {
         }
     }
     let cases: u64 = counts.iter().sum();
-    let each: Vec<String> = (0..21)
-        .filter(|&number| counts[number] > 0)
-        .map(|number| format!("{number}: {}", counts[number]))
-        .collect();
     println!(
         "join, random: {pairs} pairs, {cases} cases (refusal: cases; {})",
-        each.join(", ")
+        tally(&counts)
     );
     for number in [0, 10, 11, 12, 15, 16] {
         assert!(counts[number] > 100, "refusal {number} is rare");

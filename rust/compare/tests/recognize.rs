@@ -2,7 +2,9 @@
 //! goes through the proved checker and through the reference's own.
 
 use compare::calls::{check_run, recognize, recognize_record};
-use compare::{break_a_rule, filled, in_threads, random_machine, random_word, record_of, Rng};
+use compare::{
+    break_a_rule, filled, in_threads, random_machine, random_word, record_of, small_machines, Rng,
+};
 use reference::common::next_word;
 use reference::{folder, moves, published, shortest, Machine, Record};
 use zagvirk::recognize::{run_length, RecognizedRecord};
@@ -172,40 +174,15 @@ fn refused(record: &Record, list: &[u16], word: &[u8], length: usize) -> (u8, us
     (refusal.number, refusal.needed)
 }
 
-/// All machines of `states` states over one letter.
-fn every_machine(states: usize, mut found: impl FnMut(&Machine)) {
-    let mut all = Vec::new();
-    for from in 0..states {
-        for letter in 0..2 {
-            for to in 0..states {
-                all.push((from, letter, to));
-            }
-        }
-    }
-    let good: Vec<u8> = (0..16).filter(|mark| mark & 12 != 12).collect();
-    for subset in 0..1usize << all.len() {
-        let chosen: Vec<_> = (0..all.len())
-            .filter(|bit| subset >> bit & 1 == 1)
-            .map(|bit| all[bit])
-            .collect();
-        for number in 0..good.len().pow(states as u32) {
-            let marks: Vec<u8> = (0..states as u32)
-                .map(|state| good[number / good.len().pow(state) % good.len()])
-                .collect();
-            found(&Machine::new(1, &marks, &chosen));
-        }
-    }
-}
-
 #[test]
 fn one_and_two_states() {
     for states in [1, 2] {
         let mut counts = Counts::default();
-        let mut machines = 0;
-        every_machine(states, |machine| {
+        let machines = small_machines(states, 0..1 << (2 * states * states));
+        for machine in &machines {
             Ready::new(machine).every_word(4, &mut counts);
-            machines += 1;
-        });
+        }
+        let machines = machines.len();
         counts.report(&format!(
             "all {machines} machines of {states} states over 1 letter, all words to 4 letters"
         ));

@@ -1,7 +1,9 @@
 //! Reading and writing of sheets: the whole result and the whole slice of each call are compared with the reference.
 
 use compare::calls::{read, read_record, write, write_record};
-use compare::{break_a_rule, filled, filled_bytes, random_machine, record_of, Rng, NO_MACHINE};
+use compare::{
+    break_a_rule, filled, filled_bytes, random_machine, record_of, tally, Rng, NO_MACHINE,
+};
 use reference::{folder, Machine, Record};
 use zagvirk::sheet::{ReadRecord, WrittenRecord};
 
@@ -15,15 +17,8 @@ impl Counts {
     }
 
     fn report(&self, name: &str) {
-        let each: Vec<String> = (0..21)
-            .filter(|&number| self.0[number] > 0)
-            .map(|number| format!("{number}: {}", self.0[number]))
-            .collect();
         let cases: u64 = self.0.iter().sum();
-        println!(
-            "{name}: {cases} cases (refusal: cases; {})",
-            each.join(", ")
-        );
+        println!("{name}: {cases} cases (refusal: cases; {})", tally(&self.0));
     }
 }
 

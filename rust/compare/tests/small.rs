@@ -1,40 +1,7 @@
 //! Every machine of one state and every machine of two states over one letter.
 
-use compare::{in_threads, Case};
+use compare::{in_threads, small_machines, Case};
 use reference::{Config, Machine, Record};
-
-/// The transitions of a machine with `states` states over one letter, in rising order.
-fn universe(states: usize) -> Vec<(usize, usize, usize)> {
-    let mut all = Vec::new();
-    for from in 0..states {
-        for letter in 0..2 {
-            for to in 0..states {
-                all.push((from, letter, to));
-            }
-        }
-    }
-    all
-}
-
-/// All machines with `states` states over one letter whose set of transitions is in `subsets`.
-fn machines(states: usize, subsets: std::ops::Range<usize>) -> Vec<Machine> {
-    let all = universe(states);
-    let good: Vec<u8> = (0..16).filter(|mark| mark & 12 != 12).collect();
-    let mut found = Vec::new();
-    for subset in subsets {
-        let chosen: Vec<_> = (0..all.len())
-            .filter(|bit| subset >> bit & 1 == 1)
-            .map(|bit| all[bit])
-            .collect();
-        for number in 0..good.len().pow(states as u32) {
-            let marks: Vec<u8> = (0..states as u32)
-                .map(|state| good[number / good.len().pow(state) % good.len()])
-                .collect();
-            found.push(Machine::new(1, &marks, &chosen));
-        }
-    }
-    found
-}
 
 /// Entries that name a transition, one that is absent, the three mode changes and the number before them.
 fn entries(record: &Record) -> Vec<u16> {
@@ -156,7 +123,7 @@ fn compare_all(machines: &[Machine], extent: Extent) -> (u64, u64) {
 
 #[test]
 fn one_state() {
-    let machines = machines(1, 0..4);
+    let machines = small_machines(1, 0..4);
     let extent = Extent {
         word: 4,
         word_for_steps: 4,
@@ -173,7 +140,7 @@ fn one_state() {
 #[test]
 fn two_states_every_step() {
     // A move depends on the marks and on its own transition, so the machines with all transitions suffice here.
-    let machines = machines(2, 255..256);
+    let machines = small_machines(2, 255..256);
     let extent = Extent {
         word: 3,
         word_for_steps: 3,
@@ -189,7 +156,7 @@ fn two_states_every_step() {
 
 #[test]
 fn two_states_every_run() {
-    let machines = machines(2, 0..256);
+    let machines = small_machines(2, 0..256);
     let extent = Extent {
         word: 3,
         word_for_steps: 0,
