@@ -17,8 +17,8 @@ use native.Mathlib.Numerals.{add-one}
 use native.Mathlib.Nat.{add-zero}
 use lib.ListN.{length, getD, take, drop, set, drop-of-length-le, length-drop}
 use lib.Seq.{drop-cons, paste, paste-zero, paste-suc, length-paste, take-all, getD-drop, drop-drop}
-use lib.Dec.{eqb, ltb, leb}
-use borrow.Author.Tests.{eq-eqb, ne-eqb, le-leb, lt-leb, leb-true}
+use lib.Dec.{eqb, ltb}
+use borrow.Author.Tests.{eq-eqb, ne-eqb, le-leb, lt-leb}
 use Rattle.graphs.specs.Search.Laws.{and-true}
 use Rattle.graphs.specs.Search.Loops.{first, second}
 use Rattle.fsbm.specs.Machine.{wellFormed, initial}
@@ -27,8 +27,7 @@ use Rattle.fsbm.specs.Answers.{tableAndWord, refusal}
 use Rattle.fsbm.specs.declared.machine.Machine.{Machine}
 use Rattle.fsbm.specs.declared.config.Config.{Config}
 use Rattle.fsbm.specs.declared.config.Move.{Move}
-use Rattle.language.specs.Bools.{cond-elim}
-use Rattle.language.specs.Rules.{Placed, placed}
+use Rattle.fsbm.specs.Rules.{Placed, placed}
 use Rattle.fsbm.specs.declared.answer.Refusal.{Refusal}
 use Rattle.copies.specs.declared.Copied.{Copied}
 use Rattle.copies.specs.declared.Copied.the-variants.{Refused, Listed}
@@ -263,16 +262,6 @@ module _ (m : Machine) (list w run : List ℕ) where
             }
 
 -- The public call
-
--- a table and a word that no test refuses
-pub table-good : (longest : ℕ) (m : Machine) (list w : List ℕ) → tableAndWord longest m list w ≡ 0 → (wellFormed m list ≡ true) × (length w ≤ longest)
-unfolding tableAndWord
-table-good longest m list w =
-    cond-elim (λ (z : ℕ). z ≡ 0 → (wellFormed m list ≡ true) × (length w ≤ longest)) (wellFormed m list) _ 16
-    (λ t. cond-elim (λ (z : ℕ). z ≡ 0 → (wellFormed m list ≡ true) × (length w ≤ longest)) (leb (length w) longest) _ 9
-    (λ l e. (t, leb-true (length w) longest l))
-    (λ f (e : _≡_ {A = ℕ} 9 0). absurd (omega arith)))
-    (λ f (e : _≡_ {A = ℕ} 16 0). absurd (omega arith))
 
 module _ (m : Machine) (list w run slice : List ℕ) (n : ℕ) (at-n : n ≡ tableAndWord longestCopied m list w) where
   -- the answer and the slice, by the refusal

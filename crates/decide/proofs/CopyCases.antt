@@ -1,12 +1,16 @@
--- Walks that read a stretch of a word letter by letter, and the loop of copies_from.
+-- Walks that read a stretch of a word letter by letter, and the loops of walk_on and copies_from.
 --
 -- walk-forward        == a walk does not go back
 -- walk-last           == a walk that reads something splits before its last letter
 -- walk-before         == a walk passes every place on its way
 -- walk-free           == a walk that reads nothing is epsilon moves
 -- walk-matching       == an emptying walk from a matching state ends in one
--- walks-start, walks-turn == the set of what walks reach, at the start and after one more letter; rows-start, rows-turn for rows
--- Copying             == the invariant of copies_from; copying-start, copying-turn, copying-dead, copying-end: it begins, one turn, its two ends
+-- walks-start, walks-turn, walks-to, walks-dead == the set of what walks reach: at the start, after one more letter, at an equal place,
+--                        and where no state is left
+-- tailed-start, tailed-on, tailed-anew == the tail before any walk, after a walk that goes on, and after one that begins anew
+-- tailed-at           == what a tail has reached, of an equal set and an equal place
+-- Copying             == the invariant of copies_from; copying-start, copying-turn, copying-pass, copying-dead, copying-end: it begins, one
+--                        turn, one where no state turns to matching, its two ends
 use Prim.Native.Nat.{ℕ, suc, _+_, _-_, _^_, _≤_, _<_}
 use mathlib.Core.Path.{_≡_, refl, sym, ap, _∙_, subst}
 use mathlib.Core.Logic.{_↔_, _⊎_, inl, inr}
@@ -17,10 +21,10 @@ use lib.ListN.{length, getD, set, length-set}
 use Rattle.stateset.specs.Set.{width, In}
 use Rattle.fsbm.specs.declared.config.Mode.{Mode}
 use Rattle.fsbm.specs.declared.config.Mode.the-variants.{Normal, Buffering, Emptying}
-use Rattle.decide.specs.Graph.{Members, Fitting, Rows, From, Star, here, more, Graph, Edge, Free, Advance}
-use Rattle.decide.specs.Reach.{Walk, still, reads, Matches, LastSquare, CopyTo, Copied}
-use Rattle.decide.proofs.SetCases.{members-as, none-in}
-use Rattle.decide.proofs.RowCases.{rows-as, row-cases}
+use Rattle.decide.specs.declared.walks.Tail.{Tail}
+use Rattle.decide.specs.Graph.{Members, Fitting, From, Star, here, more, Graph, Edge, Free, Advance}
+use Rattle.decide.specs.Reach.{Walk, still, reads, Tailed, Matches, LastSquare, CopyTo, Copied}
+use Rattle.decide.proofs.SetCases.{members-as, members-none, none-in, row-cases}
 
 module _ {G : Graph} {w : List ℕ} {T : Mode} {i p : ℕ} where
   pub walk-forward : {j q : ℕ} → Walk G w T i p j q → i ≤ j
@@ -64,34 +68,52 @@ module _ (G : Graph) (w : List ℕ) (T : Mode) (i : ℕ) where
       (λ q z. let y = so-far .members (z .0) .0 (z .1) in (y .0, y .1, reads (y .2) lt (z .2) (omega arith)))
       (λ q z. let (r, v, a) = walk-last j (z .2) refl le in (r, so-far .members r .1 (z .0, z .1, v), a))
 
-  pub rows-start : (h : ℕ) (rows : List ℕ) → Rows rows (λ s q. In h s × Free G T s q) → Rows rows (λ s q. In h s × Walk G w T i s i q)
-  rows-start h rows m = rows-as m (λ s q z. (z .0, still refl (z .1))) (λ s q z. (z .0, walk-free (z .1)))
+  pub walks-to : (starts s j k : ℕ) → j ≡ k → Members s (From starts (λ p q. Walk G w T i p j q)) → Members s (From starts (λ p q. Walk G w T i p k q))
+  walks-to starts s j k e m = subst (λ (n : ℕ). Members s (From starts (λ p q. Walk G w T i p n q))) e m
 
-  pub rows-turn : (h : ℕ) (rows next : List ℕ) (j : ℕ) → i ≤ j → j < length w → Rows rows (λ s q. In h s × Walk G w T i s j q)
-      → Rows next (λ s q. (p : ℕ) × In (getD rows p 0) s × Advance G T (getD w j 0) p q) → Rows next (λ s q. In h s × Walk G w T i s (j + 1) q)
-  rows-turn h rows next j le lt so-far m = rows-as m
-      (λ s q z. let y = so-far .members (z .0) s .0 (z .1) in (y .0, reads (y .1) lt (z .2) (omega arith)))
-      (λ s q z. let (r, v, a) = walk-last j (z .1) refl le in (r, so-far .members r s .1 (z .0, v), a))
+  -- no state is left: no walk goes on
+  pub walks-dead : (starts s j k : ℕ) → i ≤ j → j ≤ k → s ≡ 0 → Members s (From starts (λ p q. Walk G w T i p j q)) → Members 0 (From starts (λ p q. Walk G w T i p k q))
+  walks-dead starts s j k le ge e so-far = members-none (λ q z. let (r, v) = walk-before j (z .2) le ge in none-in e r (so-far .members r .1 (z .0, z .1, v)))
 
-pub record Copying (G : Graph) (w : List ℕ) (i starts : ℕ) (a b : List ℕ) (j s : ℕ) (rows : List ℕ) (last : ℕ) : Type 0 where
+module _ (G : Graph) (w : List ℕ) (i : ℕ) where
+  pub tailed-start : Tailed G w i (record { ready = 0; place = i; reached = 0 })
+  tailed-start = record { from = omega arith; walked = members-none (λ q z. none-in refl (z .0) (z .1)) }
+
+  pub tailed-at : (tail : Tail) (ready j : ℕ) → Tailed G w i tail → tail .ready ≡ ready → tail .place ≡ j → Members (tail .reached) (From ready (λ p q. Walk G w Emptying i p j q))
+  tailed-at tail ready j so-far e at =
+      walks-to G w Emptying i ready (tail .reached) (tail .place) j at
+      (subst (λ (x : ℕ). Members (tail .reached) (From x (λ p q. Walk G w Emptying i p (tail .place) q))) e (so-far .walked))
+
+  pub tailed-on : (tail : Tail) (ready j r : ℕ) → Tailed G w i tail → tail .ready ≡ ready → tail .place ≤ j
+      → ((o set : ℕ) → o ≤ tail .place → Members (tail .reached) (From set (λ p q. Walk G w Emptying o p (tail .place) q)) → Members r (From set (λ p q. Walk G w Emptying o p j q)))
+      → Tailed G w i (record { ready = ready; place = j; reached = r })
+  tailed-on tail ready j r so-far e le on =
+      record {
+        from = omega (arith, so-far .from);
+        walked = on i ready (so-far .from) (tailed-at tail ready (tail .place) so-far e refl);
+      }
+
+  pub tailed-anew : (ready near j r : ℕ) → i ≤ j → Members near (From ready (Free G Emptying))
+      → ((o set : ℕ) → o ≤ i → Members near (From set (λ p q. Walk G w Emptying o p i q)) → Members r (From set (λ p q. Walk G w Emptying o p j q)))
+      → Tailed G w i (record { ready = ready; place = j; reached = r })
+  tailed-anew ready near j r le m on = record { from = le; walked = on i ready (omega arith) (walks-start G w Emptying i ready near m) }
+
+pub record Copying (G : Graph) (w : List ℕ) (i starts : ℕ) (a b : List ℕ) (j s last : ℕ) : Type 0 where
   pub from : i ≤ j
   pub within : j ≤ last
   pub squares : LastSquare w i last
   pub storing : Members s (From starts (λ p q. Walk G w Buffering i p j q))
-  pub emptying : Rows rows (λ s q. In (G .matching) s × Walk G w Emptying i s j q)
   pub fitting : Fitting 256 b
   pub members : (k q : ℕ) → In (getD b k 0) q ↔ (In (getD a k 0) q ⊎ ((c : CopyTo G w i starts k q) × (c .end ≤ j)))
 
 module _ (G : Graph) (w : List ℕ) (i starts : ℕ) (a : List ℕ) where
-  pub copying-start : (s last : ℕ) (rows : List ℕ) → LastSquare w i last → Fitting 256 a → Members s (From starts (Free G Buffering))
-      → Rows rows (λ s q. In (G .matching) s × Free G Emptying s q) → Copying G w i starts a a i s rows last
-  copying-start s last rows sq fit m r =
+  pub copying-start : (s last : ℕ) → LastSquare w i last → Fitting 256 a → Members s (From starts (Free G Buffering)) → Copying G w i starts a a i s last
+  copying-start s last sq fit m =
       record {
         from = omega arith;
         within = sq .from;
         squares = sq;
         storing = walks-start G w Buffering i starts s m;
-        emptying = rows-start G w Emptying i (G .matching) rows r;
         fitting = fit;
         members = λ k q. (λ h. inl h, back k q);
       }
@@ -100,7 +122,7 @@ module _ (G : Graph) (w : List ℕ) (i starts : ℕ) (a : List ℕ) where
       back k q (inl h) = h
       back k q (inr (c, le)) = let z = c .some in absurd (omega arith)
 
-  module _ (b : List ℕ) (j s : ℕ) (rows : List ℕ) (last : ℕ) (cp : Copying G w i starts a b j s rows last) where
+  module _ (b : List ℕ) (j s last : ℕ) (cp : Copying G w i starts a b j s last) where
     -- the loop ends where the last square ends
     pub copying-end : last ≤ j → Copied G w i starts a b
     copying-end le =
@@ -143,95 +165,115 @@ module _ (G : Graph) (w : List ℕ) (i starts : ℕ) (a : List ℕ) where
                 let (r, v) = walk-before j (c .storing) (cp .from) (omega arith) in
                 absurd (none-in e r (cp .storing .members r .1 (c .from, c .begins, v)))
 
-    pub copying-turn : (next u t : ℕ) (after : List ℕ) → j < last → Members next (From s (Advance G Buffering (getD w j 0)))
-        → Rows after (λ s q. (p : ℕ) × In (getD rows p 0) s × Advance G Emptying (getD w j 0) p q)
-        → Members t (λ q. Matches w i (j + 1) × (In (G .matching) q × ((p : ℕ) × In (getD after q 0) p × (In next p × In (G .matching) p))))
-        → Members u (λ q. In (getD b (j + 1 + (j + 1 - i)) 0) q ⊎ In t q) → length w ≤ 255
-        → Copying G w i starts a (set b (j + 1 + (j + 1 - i)) u) (j + 1) next after last
-    copying-turn next u t after lt m r found union short =
-        record {
-          from = omega (arith, cp .from);
-          within = omega arith;
-          squares = cp .squares;
-          storing = storing;
-          emptying = emptying;
-          fitting = record {
-            size = length-set b e u ∙ cp .fitting .size;
-            each = row-cases b e u inside (λ k y. y < 2 ^ width) (union .fits) (λ k n. cp .fitting .each k);
-          };
-          members = λ k q. row-cases b e u inside (λ k y. In y q ↔ (In (getD a k 0) q ⊎ ((c : CopyTo G w i starts k q) × (c .end ≤ j + 1)))) (at-end q) (λ k n. (λ h. wider k q (cp .members k q .0 h), λ h. cp .members k q .1 (elsewhere k q n h))) k;
-        }
-      where
-        e : ℕ
-        e = j + 1 + (j + 1 - i)
+    -- one more letter is stored; ready are the states that turn to matching there
+    module _ (next ready : ℕ) (lt : j < last) (m : Members next (From s (Advance G Buffering (getD w j 0)))) (turning : Members ready (λ p. Matches w i (j + 1) × (In next p × In (G .matching) p))) where
+      reading : j < length w
+      reading = let z = cp .squares .room in let y = cp .from in omega arith
 
-        room : e ≤ length w
-        room = let z = cp .squares .room in let y = cp .from in omega arith
+      storing : Members next (From starts (λ p q. Walk G w Buffering i p (j + 1) q))
+      storing = walks-turn G w Buffering i starts s next j (cp .from) reading (cp .storing) m
 
-        reading : j < length w
-        reading = let z = cp .squares .room in let y = cp .from in omega arith
+      wider : (k q : ℕ) → In (getD a k 0) q ⊎ ((c : CopyTo G w i starts k q) × (c .end ≤ j)) → In (getD a k 0) q ⊎ ((c : CopyTo G w i starts k q) × (c .end ≤ j + 1))
+      wider k q (inl h) = inl h
+      wider k q (inr z) = inr (z .0, omega (arith, z .1))
 
-        inside : e < length b
-        inside = let z = cp .fitting .size in let y = room in omega arith
+      -- a copy that stores up to here turns to matching in a state that is ready
+      turns-here : (k q : ℕ) (c : CopyTo G w i starts k q) → c .end ≡ j + 1 → In ready (c .middle)
+      turns-here k q c here-ends =
+          let v = subst (λ (x : ℕ). Walk G w Buffering i (c .from) x (c .middle)) here-ends (c .storing) in
+          let same = subst (λ (x : ℕ). Matches w i x) here-ends (c .same) in
+          turning .members (c .middle) .1 (same, (storing .members (c .middle) .1 (c .from, c .begins, v), c .turns))
 
-        storing : Members next (From starts (λ p q. Walk G w Buffering i p (j + 1) q))
-        storing = walks-turn G w Buffering i starts s next j (cp .from) reading (cp .storing) m
+      -- no state turns to matching: no copy ends
+      pub copying-pass : ready ≡ 0 → Copying G w i starts a b (j + 1) next last
+      copying-pass none =
+          record {
+            from = omega (arith, cp .from);
+            within = omega arith;
+            squares = cp .squares;
+            storing = storing;
+            fitting = cp .fitting;
+            members = λ k q. (λ h. wider k q (cp .members k q .0 h), λ h. cp .members k q .1 (back k q h));
+          }
+        where
+          back : (k q : ℕ) → In (getD a k 0) q ⊎ ((c : CopyTo G w i starts k q) × (c .end ≤ j + 1)) → In (getD a k 0) q ⊎ ((c : CopyTo G w i starts k q) × (c .end ≤ j))
+          back k q (inl h) = inl h
+          back k q (inr (c, le)) = inr (c, at (decLe (c .end) j))
+            where
+              at : Dec (c .end ≤ j) → c .end ≤ j
+              at (yes y) = y
+              at (no o) = absurd (none-in none (c .middle) (turns-here k q c (omega arith)))
 
-        emptying : Rows after (λ s q. In (G .matching) s × Walk G w Emptying i s (j + 1) q)
-        emptying = rows-turn G w Emptying i (G .matching) rows after j (cp .from) reading (cp .emptying) r
+      pub copying-turn : (t u : ℕ) → Members t (From ready (λ p q. Walk G w Emptying i p (j + 1) q)) → Members u (λ q. In (getD b (j + 1 + (j + 1 - i)) 0) q ⊎ In t q) → length w ≤ 255
+          → Copying G w i starts a (set b (j + 1 + (j + 1 - i)) u) (j + 1) next last
+      copying-turn t u emptying union short =
+          record {
+            from = omega (arith, cp .from);
+            within = omega arith;
+            squares = cp .squares;
+            storing = storing;
+            fitting = record {
+              size = length-set b e u ∙ cp .fitting .size;
+              each = row-cases b e u inside (λ k y. y < 2 ^ width) (union .fits) (λ k n. cp .fitting .each k);
+            };
+            members = λ k q. row-cases b e u inside (λ k y. In y q ↔ (In (getD a k 0) q ⊎ ((c : CopyTo G w i starts k q) × (c .end ≤ j + 1)))) (at-end q) (λ k n. (λ h. wider k q (cp .members k q .0 h), λ h. cp .members k q .1 (elsewhere k q n h))) k;
+          }
+        where
+          e : ℕ
+          e = j + 1 + (j + 1 - i)
 
-        wider : (k q : ℕ) → In (getD a k 0) q ⊎ ((c : CopyTo G w i starts k q) × (c .end ≤ j)) → In (getD a k 0) q ⊎ ((c : CopyTo G w i starts k q) × (c .end ≤ j + 1))
-        wider k q (inl h) = inl h
-        wider k q (inr z) = inr (z .0, omega (arith, z .1))
+          room : e ≤ length w
+          room = let z = cp .squares .room in let y = cp .from in omega arith
 
-        elsewhere : (k q : ℕ) → (k ≡ e → ⊥) → In (getD a k 0) q ⊎ ((c : CopyTo G w i starts k q) × (c .end ≤ j + 1)) → In (getD a k 0) q ⊎ ((c : CopyTo G w i starts k q) × (c .end ≤ j))
-        elsewhere k q n (inl h) = inl h
-        elsewhere k q n (inr (c, le)) = inr (c, at (decLe (c .end) j))
-          where
-            at : Dec (c .end ≤ j) → c .end ≤ j
-            at (yes y) = y
-            at (no o) =
-                let last-one : c .end ≡ j + 1 = omega arith in
-                absurd (n (c .place ∙ ap (λ (x : ℕ). x + (x - i)) last-one))
+          inside : e < length b
+          inside = let z = cp .fitting .size in let y = room in omega arith
 
-        to : (q : ℕ) → In (getD b e 0) q ⊎ In t q → In (getD a e 0) q ⊎ ((c : CopyTo G w i starts e q) × (c .end ≤ j + 1))
-        to q (inl h) = wider e q (cp .members e q .0 h)
-        to q (inr h) =
-            let (same, (hq, (p, row, (sp, hp)))) = found .members q .0 h in
-            let (o, oi, v) = storing .members p .0 sp in
-            let (hp′, y) = emptying .members q p .0 row in
-            inr (
-              record {
-                from = o;
-                begins = oi;
-                end = j + 1;
-                some = omega (arith, cp .from);
-                middle = p;
-                storing = v;
-                turns = hp;
-                emptying = y;
-                same = same;
-                place = refl;
-                inside = room;
-              },
-              omega arith,
-            )
+          elsewhere : (k q : ℕ) → (k ≡ e → ⊥) → In (getD a k 0) q ⊎ ((c : CopyTo G w i starts k q) × (c .end ≤ j + 1)) → In (getD a k 0) q ⊎ ((c : CopyTo G w i starts k q) × (c .end ≤ j))
+          elsewhere k q n (inl h) = inl h
+          elsewhere k q n (inr (c, le)) = inr (c, at (decLe (c .end) j))
+            where
+              at : Dec (c .end ≤ j) → c .end ≤ j
+              at (yes y) = y
+              at (no o) =
+                  let last-one : c .end ≡ j + 1 = omega arith in
+                  absurd (n (c .place ∙ ap (λ (x : ℕ). x + (x - i)) last-one))
 
-        back : (q : ℕ) → In (getD a e 0) q ⊎ ((c : CopyTo G w i starts e q) × (c .end ≤ j + 1)) → In (getD b e 0) q ⊎ In t q
-        back q (inl h) = inl (cp .members e q .1 (inl h))
-        back q (inr (c, le)) = at (decLe (c .end) j)
-          where
-            at : Dec (c .end ≤ j) → In (getD b e 0) q ⊎ In t q
-            at (yes y) = inl (cp .members e q .1 (inr (c, y)))
-            at (no o) =
-                let last-one : c .end ≡ j + 1 = omega arith in
-                let v = subst (λ (x : ℕ). Walk G w Buffering i (c .from) x (c .middle)) last-one (c .storing) in
-                let y = subst (λ (x : ℕ). Walk G w Emptying i (c .middle) x q) last-one (c .emptying) in
-                let same = subst (λ (x : ℕ). Matches w i x) last-one (c .same) in
-                inr (found .members q .1 (same, (walk-matching (c .turns) y, (c .middle, emptying .members q (c .middle) .1 (c .turns, y), (storing .members (c .middle) .1 (c .from, c .begins, v), c .turns)))))
+          to : (q : ℕ) → In (getD b e 0) q ⊎ In t q → In (getD a e 0) q ⊎ ((c : CopyTo G w i starts e q) × (c .end ≤ j + 1))
+          to q (inl h) = wider e q (cp .members e q .0 h)
+          to q (inr h) =
+              let (p, rp, y) = emptying .members q .0 h in
+              let (same, (sp, hp)) = turning .members p .0 rp in
+              let (o, oi, v) = storing .members p .0 sp in
+              inr (
+                record {
+                  from = o;
+                  begins = oi;
+                  end = j + 1;
+                  some = omega (arith, cp .from);
+                  middle = p;
+                  storing = v;
+                  turns = hp;
+                  emptying = y;
+                  same = same;
+                  place = refl;
+                  inside = room;
+                },
+                omega arith,
+              )
 
-        at-end : (q : ℕ) → In u q ↔ (In (getD a e 0) q ⊎ ((c : CopyTo G w i starts e q) × (c .end ≤ j + 1)))
-        at-end q = (λ h. to q (union .members q .0 h), λ h. union .members q .1 (back q h))
+          back : (q : ℕ) → In (getD a e 0) q ⊎ ((c : CopyTo G w i starts e q) × (c .end ≤ j + 1)) → In (getD b e 0) q ⊎ In t q
+          back q (inl h) = inl (cp .members e q .1 (inl h))
+          back q (inr (c, le)) = at (decLe (c .end) j)
+            where
+              at : Dec (c .end ≤ j) → In (getD b e 0) q ⊎ In t q
+              at (yes y) = inl (cp .members e q .1 (inr (c, y)))
+              at (no o) =
+                  let last-one : c .end ≡ j + 1 = omega arith in
+                  let y = subst (λ (x : ℕ). Walk G w Emptying i (c .middle) x q) last-one (c .emptying) in
+                  inr (emptying .members q .1 (c .middle, turns-here e q c last-one, y))
+
+          at-end : (q : ℕ) → In u q ↔ (In (getD a e 0) q ⊎ ((c : CopyTo G w i starts e q) × (c .end ≤ j + 1)))
+          at-end q = (λ h. to q (union .members q .0 h), λ h. union .members q .1 (back q h))
 
 -- no square starts at i: there is nothing to copy
 pub copied-none : (G : Graph) (w : List ℕ) (i starts last : ℕ) (a : List ℕ) → LastSquare w i last → last ≤ i → Fitting 256 a → Copied G w i starts a a

@@ -2,7 +2,6 @@ pub mod CopyCases
 pub mod Covering
 pub mod Decided
 pub mod MapCases
-pub mod RowCases
 pub mod Runs
 pub mod SetCases
 pub mod SquareCases

@@ -20,8 +20,7 @@ use Rattle.adjacency.specs.Index.Laws.{zeros-at}
 use Rattle.decide.specs.declared.maps.Memo.{Memo}
 use Rattle.decide.specs.Graph.{Members, Fitting, From, Star, here, more, Graph, Edge, Free, Advance, Lead}
 use Rattle.decide.specs.Sweep.{Known, Learnt, Recalls, Recalled, Moved}
-use Rattle.decide.proofs.SetCases.{members-as, members-none, none-in}
-use Rattle.decide.proofs.RowCases.{row-cases}
+use Rattle.decide.proofs.SetCases.{members-as, members-none, none-in, row-cases}
 
 module _ (G : Graph) (T : Mode) (x : ℕ) where
   pub lead-set : (p one near r : ℕ) → Members one (λ q. q ≡ p) → Members near (From one (Free G T)) → Members r (From near (Advance G T x)) → Members r (Lead G T x p)

@@ -22,6 +22,7 @@ use Rattle.fsbm.specs.declared.machine.Machine.{Machine}
 use Rattle.fsbm.specs.declared.config.Mode.{Mode}
 use Rattle.fsbm.specs.declared.config.Mode.the-variants.{Normal, Buffering, Emptying}
 use Rattle.language.specs.Strings.{reads-drop, reads-slice, slice-grows}
+use Rattle.targets.specs.Targets.{Read}
 use Rattle.decide.specs.Graph.{Star, here, more, Graph, graph, Edge, Free, Advance}
 use Rattle.decide.specs.Reach.{Walk, still, reads, Matches, Reach, begins, passes, moves, copies}
 use Rattle.decide.proofs.CopyCases.{walk-forward, walk-matching}
@@ -52,33 +53,33 @@ slice-letter w p e x lt le same some = reads-slice w p e x le (reads-letter w p 
 slice-more : (w : List ℕ) (i e x : ℕ) → i ≤ e → e < length w → getD w e 0 ≡ x → 0 < x → slice i (suc e) w ≡ slice i e w ++ symbol x
 slice-more w i e x le lt same some = sym (ap (λ (n : ℕ). slice i n w) (advanced-some e x some)) ∙ slice-grows w i e x le (reads-letter w e (length w) x lt same)
 
-module _ {m : Machine} {list first : List ℕ} {g h : ℕ} (t : Table m list first g h) (w : List ℕ) where
+module _ {m : Machine} {list targets numbers : List ℕ} {g h : ℕ} (w : List ℕ) (t : Table m list w targets numbers g h) where
   -- a buffering move, and an emptying move, that reads x
-  store-one : {x p q : ℕ} → Edge (graph list first g h) Buffering x p q → (u v : List ℕ) → Yields (fsbmOf m list) (config (symbol x ++ u) p v Buffering) (config u q (v ++ symbol x) Buffering)
-  store-one {x} {p} {q} e u v =
-      buffer (edge-listed t e)
+  store-one : {x p q : ℕ} → Read w x → Edge (graph targets numbers g h) Buffering x p q → (u v : List ℕ) → Yields (fsbmOf m list) (config (symbol x ++ u) p v Buffering) (config u q (v ++ symbol x) Buffering)
+  store-one {x} {p} {q} i e u v =
+      buffer (edge-listed t i e)
       (λ z. e .may .0 (t .matches p .1 (z .0), t .matches q .1 (z .1)))
       (λ z. e .may .1 (t .stores q .1 z))
 
-  empty-one : {x p q : ℕ} → Edge (graph list first g h) Emptying x p q → (u v : List ℕ) → Yields (fsbmOf m list) (config (symbol x ++ u) p (symbol x ++ v) Emptying) (config u q v Emptying)
-  empty-one {x} {p} {q} e u v = empty (edge-listed t e) (t .matches p .0 (e .may .0)) (t .matches q .0 (e .may .1))
+  empty-one : {x p q : ℕ} → Read w x → Edge (graph targets numbers g h) Emptying x p q → (u v : List ℕ) → Yields (fsbmOf m list) (config (symbol x ++ u) p (symbol x ++ v) Emptying) (config u q v Emptying)
+  empty-one {x} {p} {q} i e u v = empty (edge-listed t i e) (t .matches p .0 (e .may .0)) (t .matches q .0 (e .may .1))
 
-  normal-one : {x p q : ℕ} → Edge (graph list first g h) Normal x p q → (u : List ℕ) → Yields (fsbmOf m list) (config (symbol x ++ u) p [] Normal) (config u q [] Normal)
-  normal-one {x} {p} {q} e u =
-      normal (edge-listed t e)
+  normal-one : {x p q : ℕ} → Read w x → Edge (graph targets numbers g h) Normal x p q → (u : List ℕ) → Yields (fsbmOf m list) (config (symbol x ++ u) p [] Normal) (config u q [] Normal)
+  normal-one {x} {p} {q} i e u =
+      normal (edge-listed t i e)
       (λ z. e .may .0 (t .matches p .1 (z .0), t .matches q .1 (z .1)))
       (λ z. e .may .1 (t .stores p .1 z))
 
-  store-free : {p q : ℕ} → Free (graph list first g h) Buffering p q → (u v : List ℕ) → Run (fsbmOf m list) (config u p v Buffering) (config u q v Buffering)
+  store-free : {p q : ℕ} → Free (graph targets numbers g h) Buffering p q → (u v : List ℕ) → Run (fsbmOf m list) (config u p v Buffering) (config u q v Buffering)
   store-free here u v = done
   store-free (more {r = r} f e) u v =
-      run-one (store-free f u v) (subst (λ (z : List ℕ). Yields (fsbmOf m list) (config u _ v Buffering) (config u r z Buffering)) (append-nil v) (store-one e u v))
+      run-one (store-free f u v) (subst (λ (z : List ℕ). Yields (fsbmOf m list) (config u _ v Buffering) (config u r z Buffering)) (append-nil v) (store-one (inl refl) e u v))
 
-  empty-free : {p q : ℕ} → Free (graph list first g h) Emptying p q → (u v : List ℕ) → Run (fsbmOf m list) (config u p v Emptying) (config u q v Emptying)
+  empty-free : {p q : ℕ} → Free (graph targets numbers g h) Emptying p q → (u v : List ℕ) → Run (fsbmOf m list) (config u p v Emptying) (config u q v Emptying)
   empty-free here u v = done
-  empty-free (more f e) u v = run-one (empty-free f u v) (empty-one e u v)
+  empty-free (more f e) u v = run-one (empty-free f u v) (empty-one (inl refl) e u v)
 
-  storing-run : {i p j q : ℕ} → Walk (graph list first g h) w Buffering i p j q → Run (fsbmOf m list) (config (drop i w) p [] Buffering) (config (drop j w) q (slice i j w) Buffering)
+  storing-run : {i p j q : ℕ} → Walk (graph targets numbers g h) w Buffering i p j q → Run (fsbmOf m list) (config (drop i w) p [] Buffering) (config (drop j w) q (slice i j w) Buffering)
   storing-run {i} {p} {j} {q} (still e f) =
       subst₂ (λ (u v : List ℕ). Run (fsbmOf m list) (config (drop i w) p [] Buffering) (config u q v Buffering))
       (ap (λ (n : ℕ). drop n w) (sym e)) (sym (ap (λ (n : ℕ). slice i n w) e ∙ slice-empty i w)) (store-free f (drop i w) [])
@@ -86,12 +87,12 @@ module _ {m : Machine} {list first : List ℕ} {g h : ℕ} (t : Table m list fir
       let x = getD w k 0 in
       let le = walk-forward v in
       let step = subst₂ (λ (u z : List ℕ). Yields (fsbmOf m list) (config u r (slice i k w) Buffering) (config (drop (suc k) w) (a .middle) z Buffering))
-      (sym (drop-letter w k x lt refl (a .letter))) (sym (slice-more w i k x le lt refl (a .letter))) (store-one (a .edge) (drop (suc k) w) (slice i k w)) in
+      (sym (drop-letter w k x lt refl (a .letter))) (sym (slice-more w i k x le lt refl (a .letter))) (store-one (inr (k, lt, refl, a .letter)) (a .edge) (drop (suc k) w) (slice i k w)) in
       subst (λ (n : ℕ). Run (fsbmOf m list) (config (drop i w) p [] Buffering) (config (drop n w) q (slice i n w) Buffering)) (sym e)
       (run-join (run-one (storing-run v) step) (store-free (a .free) (drop (suc k) w) (slice i (suc k) w)))
 
   -- the letters from i up to k are taken from the buffer, and stand in the word from j on
-  emptying-run : (i j : ℕ) → i ≤ j → j + (j - i) ≤ length w → Matches w i j → {s k q : ℕ} → Walk (graph list first g h) w Emptying i s k q → k ≤ j
+  emptying-run : (i j : ℕ) → i ≤ j → j + (j - i) ≤ length w → Matches w i j → {s k q : ℕ} → Walk (graph targets numbers g h) w Emptying i s k q → k ≤ j
       → Run (fsbmOf m list) (config (drop j w) s (slice i j w) Emptying) (config (drop (j + (k - i)) w) q (slice k j w) Emptying)
   emptying-run i j ij room same {s} {k} {q} (still e f) le =
       let at : j ≡ j + (k - i) = omega arith in
@@ -106,12 +107,12 @@ module _ {m : Machine} {list first : List ℕ} {g h : ℕ} (t : Table m list fir
       let input = drop-letter w (j + (o - i)) x (omega arith) letter (a .letter) in
       let stored = slice-letter w o j x (omega arith) (omega arith) refl (a .letter) in
       let step = subst₂ (λ (u z : List ℕ). Yields (fsbmOf m list) (config u r z Emptying) (config (drop (suc (j + (o - i))) w) (a .middle) (slice (suc o) j w) Emptying))
-      (sym input) (sym stored) (empty-one (a .edge) (drop (suc (j + (o - i))) w) (slice (suc o) j w)) in
+      (sym input) (sym stored) (empty-one (inr (o, lt, refl, a .letter)) (a .edge) (drop (suc (j + (o - i))) w) (slice (suc o) j w)) in
       subst₂ (λ (u v : List ℕ). Run (fsbmOf m list) (config (drop j w) s (slice i j w) Emptying) (config u q v Emptying))
       (ap (λ (n : ℕ). drop n w) next) (ap (λ (n : ℕ). slice n j w) (sym e))
       (run-join (run-one (emptying-run i j ij room same v (omega arith)) step) (empty-free (a .free) (drop (suc (j + (o - i))) w) (slice (suc o) j w)))
 
-  copy-run : {i j k p s q : ℕ} → In g p → i ≤ j → Walk (graph list first g h) w Buffering i p j s → In h s → Walk (graph list first g h) w Emptying i s j q
+  copy-run : {i j k p s q : ℕ} → In g p → i ≤ j → Walk (graph targets numbers g h) w Buffering i p j s → In h s → Walk (graph targets numbers g h) w Emptying i s j q
       → Matches w i j → k ≡ j + (j - i) → k ≤ length w → Run (fsbmOf m list) (config (drop i w) p [] Normal) (config (drop k w) q [] Normal)
   copy-run {i} {j} {k} {p} {s} {q} gp le v hs y same place in-word =
       let turn = run-one (Run.more (begin-buffering (t .stores p .0 gp)) (storing-run v)) (begin-emptying (t .matches s .0 hs)) in
@@ -121,13 +122,13 @@ module _ {m : Machine} {list first : List ℕ} {g h : ℕ} (t : Table m list fir
       subst (λ (n : ℕ). Run (fsbmOf m list) (config (drop i w) p [] Normal) (config (drop n w) q [] Normal)) (sym place)
       (run-one ended (back-to-normal (t .matches q .0 (walk-matching hs y))))
 
-  pub reach-run : {start k q : ℕ} → Reach (graph list first g h) w start k q → (o : ℕ) × In start o × Run (fsbmOf m list) (config w o [] Normal) (config (drop k w) q [] Normal)
+  pub reach-run : {start k q : ℕ} → Reach (graph targets numbers g h) w start k q → (o : ℕ) × In start o × Run (fsbmOf m list) (config w o [] Normal) (config (drop k w) q [] Normal)
   reach-run {q = q} (begins e i) = (q, i, subst (λ (n : ℕ). Run (fsbmOf m list) (config w q [] Normal) (config (drop n w) q [] Normal)) (sym e) done)
-  reach-run {k = k} (passes r e) = let (o, i, run) = reach-run r in (o, i, run-one run (normal-one e (drop k w)))
+  reach-run {k = k} (passes r e) = let (o, i, run) = reach-run r in (o, i, run-one run (normal-one (inl refl) e (drop k w)))
   reach-run {q = q} (moves {i = k} {p = p} r lt some e place) =
       let (o, i, run) = reach-run r in
       let x = getD w k 0 in
-      let step = subst (λ (u : List ℕ). Yields (fsbmOf m list) (config u p [] Normal) (config (drop (suc k) w) q [] Normal)) (sym (drop-letter w k x lt refl some)) (normal-one e (drop (suc k) w)) in
+      let step = subst (λ (u : List ℕ). Yields (fsbmOf m list) (config u p [] Normal) (config (drop (suc k) w) q [] Normal)) (sym (drop-letter w k x lt refl some)) (normal-one (inr (k, lt, refl, some)) e (drop (suc k) w)) in
       (o, i, subst (λ (n : ℕ). Run (fsbmOf m list) (config w o [] Normal) (config (drop n w) q [] Normal)) (sym place) (run-one run step))
   reach-run (copies r gp le v hs y same place in-word) =
       let (o, i, run) = reach-run r in

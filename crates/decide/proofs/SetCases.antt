@@ -1,32 +1,35 @@
--- The functions on sets that have no loop, and the search for a letter, case by case over plain variables.
+-- The functions on sets that have no loop, case by case over plain variables.
 --
 -- members-is              == what stateset says of a set, as Members
 -- members-as              == Members of an equivalent property
 -- members-none            == the number 0 has no members
 -- some-member             == any other number has one
+-- single-is               == the set of one state
+-- row-cases               == what holds of a list whose element at one place is new
 -- normal-.., buffering-.., emptying-.. == the ways through may_normal, may_buffering, may_emptying
--- Seen                    == the invariant of targets; seen-start, seen-turn, seen-stop, seen-end: it begins, one turn, the two ends
--- image-none, image-some  == the two ends of image_of; read-.., advance-.., empty-..: those of read_set, advance, empty_copies
+-- image-none, image-some  == the two ends of image_of
+-- edge-image              == what image_of finds are the edges of a state
+-- read-.., advance-.., empty-.. == the ways through read_set, advance, empty_copies
 -- marked-turn             == one turn of states_with
-use Prim.Native.Nat.{ℕ, suc, _+_, _*_, _/_, _%_, _^_, _≤_, _<_}
-use mathlib.Core.Path.{_≡_, refl, sym, ap, _∙_, subst, subst₂}
-use mathlib.Core.Logic.{_↔_, _⊎_, inl, inr}
+use Prim.Native.Nat.{ℕ, _+_, _*_, _/_, _%_, _^_, _<_}
+use mathlib.Core.Path.{_≡_, sym, ap, _∙_, subst}
+use mathlib.Core.Logic.{_⊎_, inl, inr}
 use mathlib.Core.Bool.{Bool, true, false}
 use mathlib.Core.List.{List}
 use native.Mathlib.Omega.{arith}
-use native.Mathlib.Decide.{decLt}
-use lib.ListN.{length, getD}
+use native.Mathlib.Decide.{decLt, ℕ-discrete}
+use lib.ListN.{length, getD, set}
+use lib.Seq.{getD-set-same, getD-set-other}
 use lib.Count.{trailingZeros}
 use lib.Dec.{eqb}
 use borrow.Author.Tests.{eqb-true, eq-eqb}
 use Rattle.graphs.specs.Search.Laws.{not-both}
-use Rattle.stateset.specs.Set.{width, In, has, added, below, without, SetIs, Lowest}
+use Rattle.stateset.specs.Set.{width, In, has, SetIs}
 use Rattle.stateset.specs.Set.Laws.{has-in, in-lt, empty-in, lowest-in}
-use Rattle.fsbm.specs.Machine.{transitionAt, markOf}
+use Rattle.fsbm.specs.Machine.{markOf}
 use Rattle.fsbm.specs.declared.config.Mode.{Mode}
 use Rattle.fsbm.specs.declared.config.Mode.the-variants.{Normal, Buffering, Emptying}
-use Rattle.adjacency.specs.Index.{Sought}
-use Rattle.decide.specs.Graph.{Members, From, Graph, graph, Hit, May, Edge, Free, Advance, EmptyCopy, Stretch, Good}
+use Rattle.decide.specs.Graph.{Members, From, Graph, graph, May, Edge, Free, Advance, EmptyCopy}
 
 pub members-is : {r v : ℕ} {P : ℕ → Type 0} → SetIs r v P → Members r P
 members-is s = record { fits = s .fits; members = s .members }
@@ -46,6 +49,24 @@ some-member x fits n = (trailingZeros width x, lowest-in width x (omega arith) f
 
 pub has-not : (x q : ℕ) → has x q ≡ false → In x q → ⊥
 has-not x q f h = not-both (has-in x q .1 h) f
+
+-- the set of one state
+pub single-is : {r v : ℕ} (q : ℕ) → q < width → SetIs r v (λ p. (p ≡ q) × (p < width)) → Members r (λ p. p ≡ q)
+single-is q lt s = members-as (members-is s) (λ p z. z .0) (λ p (z : p ≡ q). (z, omega arith))
+
+-- one element of a list changes
+
+module _ (rows : List ℕ) (q v : ℕ) (inside : q < length rows) where
+  row-same : (p : ℕ) → p ≡ q → getD (set rows q v) p 0 ≡ v
+  row-same p e = subst (λ (n : ℕ). getD (set rows q v) n 0 ≡ v) (sym e) (getD-set-same rows q v 0 inside)
+
+  -- what holds of the new element, and of the old ones elsewhere
+  pub row-cases : (P : ℕ → ℕ → Type 0) → P q v → ((p : ℕ) → (p ≡ q → ⊥) → P p (getD rows p 0)) → (p : ℕ) → P p (getD (set rows q v) p 0)
+  row-cases P new old p = at (ℕ-discrete p q)
+    where
+      at : Dec (p ≡ q) → P p (getD (set rows q v) p 0)
+      at (yes e) = subst (λ (n : ℕ). P p n) (sym (row-same p e)) (subst (λ (n : ℕ). P n v) (sym e) new)
+      at (no n) = subst (λ (y : ℕ). P p y) (sym (getD-set-other rows q p v 0 n)) (old p n)
 
 -- adding where a test says so
 
@@ -101,93 +122,25 @@ module _ (g h p r : ℕ) where
 pub emptying-some : (g h p : ℕ) → h < 2 ^ width → In h p → Members h (λ q. (q < width) × May g h Emptying p q)
 emptying-some g h p fits i = record { fits = fits; members = λ q. (λ z. (in-lt {w = width} {x = h} {q = q} fits z, (i, z)), λ z. z .1 .1) }
 
--- the transitions of a stretch with one letter
+-- the moves of one state; t is what the table has for it
 
-pub record Seen (list : List ℕ) (lo hi x k set : ℕ) : Type 0 where
-  pub members : Members set (Hit list lo k x)
-  pub from : lo ≤ k
-  pub within : k ≤ hi
-  pub ahead : (t : ℕ) → k ≤ t → t < hi → x ≤ transitionAt list t .letter
-  pub stretch : Stretch list lo hi
+module _ (g h : ℕ) (T : Mode) (p t : ℕ) where
+  pub image-none : t ≡ 0 → Members 0 (λ q. In t q × May g h T p q)
+  image-none e = members-none (λ q z. none-in e q (z .0))
 
-module _ (list : List ℕ) (lo hi x : ℕ) where
-  pub seen-none : (set : ℕ) → hi ≤ lo → Members set (λ q. ⊥) → Members set (Hit list lo hi x)
-  seen-none set le s = members-as s (λ q z. absurd z) (λ q (z : Hit list lo hi x q). absurd (omega (arith, z .from, z .below)))
+  pub image-some : t < 2 ^ width → (a r : ℕ) → Members a (λ q. (q < width) × May g h T p q) → Members r (λ q. In t q × In a q) → Members r (λ q. In t q × May g h T p q)
+  image-some fits a r allowed both = members-as both
+      (λ q z. (z .0, allowed .members q .0 (z .1) .1))
+      (λ q z. (z .0, allowed .members q .1 (in-lt {w = width} {x = t} {q = q} fits (z .0), z .1)))
 
-  pub seen-start : (k set : ℕ) → Stretch list lo hi → Sought list 1 lo hi x k → Members set (λ q. ⊥) → Seen list lo hi x k set
-  seen-start k set st so s =
-      record {
-        members = members-as s (λ q z. absurd z) (λ q (z : Hit list lo k x q). let b = so .before (z .number) (z .from) (z .below) in let e = z .letter in absurd (omega arith));
-        from = so .from;
-        within = so .within;
-        ahead = λ (t : ℕ) (le : k ≤ t) (lt : t < hi). let f = so .found (omega arith) in let u = st .rises k t (so .from) le lt in omega arith;
-        stretch = st;
-      }
-
-  module _ (k set : ℕ) (seen : Seen list lo hi x k set) where
-    pub seen-turn : (r : ℕ) → k < hi → transitionAt list k .letter ≤ x → Members r (λ p. In set p ⊎ ((p ≡ transitionAt list k .to) × (p < width))) → Seen list lo hi x (k + 1) r
-    seen-turn r lt le s =
-        record {
-          members = members-as s to back;
-          from = omega (arith, seen .from);
-          within = omega arith;
-          ahead = λ (t : ℕ) (ge : k + 1 ≤ t) l. seen .ahead t (omega arith) l;
-          stretch = seen .stretch;
-        }
-      where
-        to : (q : ℕ) → In set q ⊎ ((q ≡ transitionAt list k .to) × (q < width)) → Hit list lo (k + 1) x q
-        to q (inl h) =
-            let z = seen .members .members q .0 h in
-            record { number = z .number; from = z .from; below = omega (arith, z .below); letter = z .letter; to = z .to }
-        to q (inr h) =
-            let ge = seen .ahead k (omega arith) lt in
-            record { number = k; from = seen .from; below = omega arith; letter = omega arith; to = sym (h .0) }
-
-        back : (q : ℕ) → Hit list lo (k + 1) x q → In set q ⊎ ((q ≡ transitionAt list k .to) × (q < width))
-        back q z = at (decLt (z .number) k)
-          where
-            at : Dec (z .number < k) → In set q ⊎ ((q ≡ transitionAt list k .to) × (q < width))
-            at (yes l) = inl (seen .members .members q .1 (record { number = z .number; from = z .from; below = l; letter = z .letter; to = z .to }))
-            at (no n) =
-                let b = z .below in
-                let e : z .number ≡ k = omega arith in
-                let same : q ≡ transitionAt list k .to = sym (z .to) ∙ ap (λ (j : ℕ). transitionAt list j .to) e in
-                let small = seen .stretch .leads k (seen .from) lt in
-                inr (same, omega arith)
-
-    pub seen-stop : k < hi → x < transitionAt list k .letter → Members set (Hit list lo hi x)
-    seen-stop lt over = members-as (seen .members)
-        (λ q z. record { number = z .number; from = z .from; below = omega (arith, z .below); letter = z .letter; to = z .to })
-        (λ q z. record { number = z .number; from = z .from; below = before q z (decLt (z .number) k); letter = z .letter; to = z .to })
-      where
-        before : (q : ℕ) (z : Hit list lo hi x q) → Dec (z .number < k) → z .number < k
-        before q z (yes l) = l
-        before q z (no n) = let u = seen .stretch .rises k (z .number) (seen .from) (omega arith) (z .below) in let e = z .letter in absurd (omega arith)
-
-    pub seen-end : hi ≤ k → Members set (Hit list lo hi x)
-    seen-end le = members-as (seen .members)
-        (λ q z. record { number = z .number; from = z .from; below = omega (arith, z .below, seen .within); letter = z .letter; to = z .to })
-        (λ q z. record { number = z .number; from = z .from; below = omega (arith, z .below); letter = z .letter; to = z .to })
-
--- the moves of one state
-
-module _ (G : Graph) (T : Mode) (x p a : ℕ) (allowed : Members a (λ q. (q < width) × May (G .buffering) (G .matching) T p q)) (good : Good (G .list) (G .first)) (state : p < width) where
-  to-below : (q : ℕ) → Hit (G .list) (getD (G .first) p 0) (getD (G .first) (p + 1) 0) x q → q < width
-  to-below q z = let l = good p state .leads (z .number) (z .from) (z .below) in let e = z .to in omega arith
-
-  pub image-none : a ≡ 0 → Members 0 (Edge G T x p)
-  image-none e = members-none (λ q z. none-in e q (allowed .members q .1 (to-below q (z .hit), z .may)))
-
-  pub stretch-of : (lo hi : ℕ) → lo ≡ getD (G .first) p 0 → hi ≡ getD (G .first) (p + 1) 0 → Stretch (G .list) lo hi
-  stretch-of lo hi e f = subst₂ (Stretch (G .list)) (sym e) (sym f) (good p state)
-
-  pub image-some : (lo hi t r : ℕ) → lo ≡ getD (G .first) p 0 → hi ≡ getD (G .first) (p + 1) 0 → Members t (Hit (G .list) lo hi x) → Members r (λ q. In t q × In a q)
-      → Members r (Edge G T x p)
-  image-some lo hi t r e f at both =
-      let hits = subst₂ (λ (y z : ℕ). Members t (Hit (G .list) y z x)) e f at in
-      members-as both
-      (λ q z. record { hit = hits .members q .0 (z .0); may = allowed .members q .0 (z .1) .1 })
-      (λ q z. (hits .members q .1 (z .hit), allowed .members q .1 (to-below q (z .hit), z .may)))
+-- they are the edges, where row is that of the letter x
+pub edge-image : (targets numbers : List ℕ) (g h : ℕ) (T : Mode) (x row p r : ℕ) → row ≡ getD numbers x 0 * 64 → p < width
+    → Members r (λ q. In (getD targets (row + p) 0) q × May g h T p q) → Members r (Edge (graph targets numbers g h) T x p)
+edge-image targets numbers g h T x row p r e lt s =
+    let at : row + p ≡ getD numbers x 0 * 64 + p = omega arith in
+    members-as s
+    (λ q z. record { state = lt; target = subst (λ (n : ℕ). In (getD targets n 0) q) at (z .0); may = z .1 })
+    (λ q z. (subst (λ (n : ℕ). In (getD targets n 0) q) (sym at) (z .target), z .may))
 
 -- a letter of a word, and the epsilon moves after it
 

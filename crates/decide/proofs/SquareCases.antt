@@ -1,69 +1,83 @@
 -- Places where a repetition ends, and squares told by them.
 --
--- ends-start, ends-next     == no place known, and the places known one position later
+-- ends-start, ends-later    == no place known, and the places known at later positions
 -- ends-known, ends-found    == the two ends of known_end
--- square-yes, square-no     == the two ends of is_known_square
-use Prim.Native.Nat.{ℕ, suc, _+_, _-_, _≤_, _<_}
-use mathlib.Core.Path.{_≡_, refl, sym, ap, _∙_, subst}
-use mathlib.Core.Logic.{_↔_, _⊎_, inl, inr}
-use mathlib.Core.Bool.{Bool, true, false, false≢true}
+-- square-yes, square-no     == the two ends of is_square
+-- run-more                  == one turn of run_end
+-- last-down                 == one turn of last_square
+-- turning-none, turning-some, turning-apart == the ways through turning
+use Prim.Native.Nat.{ℕ, _+_, _-_, _≤_, _<_}
+use mathlib.Core.Path.{_≡_, refl, sym, ap, _∙_, subst, subst₂}
+use mathlib.Core.Bool.{true, false, false≢true}
 use mathlib.Core.List.{List}
 use native.Mathlib.Omega.{arith}
 use native.Mathlib.Decide.{ℕ-discrete}
 use lib.ListN.{length, getD, set, length-set, replicate}
-use lib.Seq.{getD-set-same, getD-set-other}
+use Rattle.stateset.specs.Set.{In}
 use Rattle.adjacency.specs.Index.Laws.{zeros-at}
+use Rattle.decide.specs.Graph.{Members}
 use Rattle.decide.specs.Reach.{Matches}
-use Rattle.decide.specs.Sweep.{RunEnd, Ends, Ended, Squared}
-use Rattle.decide.proofs.RowCases.{row-cases}
+use Rattle.decide.specs.Squares.{RunEnd, Ends, EndsAt, Keeps, Ended, Squared, Turning}
+use Rattle.decide.proofs.SetCases.{members-as, members-none, none-in, row-cases}
 
-pub ends-start : (w : List ℕ) → Ends w (replicate 256 0) 1
-ends-start w = record { size = refl; small = λ d. let z = zeros-at 256 d in omega arith; each = λ d (le : 1 ≤ getD (replicate 256 0) d 0). let z = zeros-at 256 d in absurd (omega arith) }
+pub ends-start : (w : List ℕ) (at : ℕ → ℕ) → ((d : ℕ) → 0 < d → 0 < at d) → Ends w (replicate 256 0) at
+ends-start w at some =
+    record {
+      size = refl;
+      small = λ d. let z = zeros-at 256 d in omega arith;
+      each = λ d far (le : at d ≤ getD (replicate 256 0) d 0). let z = zeros-at 256 d in let y = some d far in absurd (omega arith);
+    }
 
-pub ends-next : (w ends : List ℕ) (j : ℕ) → Ends w ends j → Ends w ends (j + 1)
-ends-next w ends j e =
+pub ends-later : (w ends : List ℕ) (at later : ℕ → ℕ) → ((d : ℕ) → at d ≤ later d) → Ends w ends at → Ends w ends later
+ends-later w ends at later more e =
     record {
       size = e .size;
       small = e .small;
-      each = λ d le. let r = e .each d (omega arith) in record { from = le; within = r .within; same = λ k ge lt. r .same k (omega arith) lt; differs = r .differs };
+      each = λ d far le. let y = more d in
+          let r = e .each d far (omega arith) in
+          record { from = le; within = r .within; same = λ k ge lt. r .same k (omega arith) lt; differs = r .differs };
     }
 
-pub ends-known : (w ends : List ℕ) (d q r : ℕ) → Ends w ends q → r ≡ getD ends d 0 → q ≤ r → Ended w ends d q r
-ends-known w ends d q r e is le = record { kept = e; run = subst (λ (n : ℕ). RunEnd w d q n) (sym is) (e .each d (omega arith)) }
+pub ends-known : (w ends : List ℕ) (d q r : ℕ) → EndsAt w ends d q → 0 < d → r ≡ getD ends d 0 → q ≤ r → Ended w ends ends d q r
+ends-known w ends d q r (at, place, e) far is le =
+    record { kept = λ at z y. y; run = subst₂ (λ (m n : ℕ). RunEnd w d m n) place (sym is) (e .each d far (omega arith)) }
 
-pub ends-found : (w ends : List ℕ) (d q r v : ℕ) → Ends w ends q → d < 256 → length w ≤ 255 → RunEnd w d q r → v ≡ r → Ended w (set ends d v) d q r
-ends-found w ends d q r v e lt short run is =
-    record {
-      kept = record {
-        size = length-set ends d v ∙ e .size;
-        small = row-cases ends d v (let z = e .size in omega arith) (λ k y. y ≤ 255) (let z = run .within in omega arith) (λ k n. e .small k);
-        each = row-cases ends d v (let z = e .size in omega arith) (λ k y. q ≤ y → RunEnd w k q y) (λ le. subst (λ (n : ℕ). RunEnd w d q n) (sym is) run) (λ k n. e .each k);
-      };
-      run = run;
-    }
+pub ends-found : (w ends : List ℕ) (d q r v : ℕ) → d < 256 → length w ≤ 255 → RunEnd w d q r → v ≡ r → Ended w ends (set ends d v) d q r
+ends-found w ends d q r v lt short run is = record { kept = kept; run = run }
+  where
+    kept : Keeps w ends (set ends d v) d q
+    kept at place e =
+        record {
+          size = length-set ends d v ∙ e .size;
+          small = row-cases ends d v inside (λ k y. y ≤ 255) (let z = run .within in omega arith) (λ k n. e .small k);
+          each = row-cases ends d v inside (λ k y. 0 < k → at k ≤ y → RunEnd w k (at k) y) (λ far le. subst₂ (λ (m n : ℕ). RunEnd w d m n) (sym place) (sym is) run) (λ k n. e .each k);
+        }
+      where
+        inside : d < length ends
+        inside = let z = e .size in omega arith
 
-module _ (w ends : List ℕ) (i j d e : ℕ) (le : i ≤ j) (room : j + (j - i) ≤ length w) (dist : d ≡ j - i) (end : Ended w ends d j e) where
-  pub square-yes : j + d ≤ e → Squared w ends i j true
+module _ (w a b : List ℕ) (i j e : ℕ) (le : i < j) (room : j + (j - i) ≤ length w) (end : Ended w a b (j - i) j e) where
+  pub square-yes : j + (j - i) ≤ e → Squared w a b i j true
   square-yes long = record { kept = end .kept; says = (λ z t lt. one t lt, λ m. refl) }
     where
       one : (t : ℕ) → t < j - i → getD w (i + t) 0 ≡ getD w (j + t) 0
       one t lt =
-          let back : j + t - d ≡ i + t = omega arith in
+          let back : j + t - (j - i) ≡ i + t = omega arith in
           sym (end .run .same (j + t) (omega arith) (omega arith) ∙ ap (λ (n : ℕ). getD w n 0) back)
 
-  pub square-no : e < j + d → Squared w ends i j false
+  pub square-no : e < j + (j - i) → Squared w a b i j false
   square-no short = record { kept = end .kept; says = (λ z. absurd (false≢true z), λ m. absurd (apart m)) }
     where
       apart : Matches w i j → ⊥
       apart m =
           let ge = end .run .from in
           let here : j + (e - j) ≡ e = omega arith in
-          let back : i + (e - j) ≡ e - d = omega arith in
+          let back : i + (e - j) ≡ e - (j - i) = omega arith in
           let same = m (e - j) (omega arith) in
           end .run .differs (omega arith)
           (ap (λ (n : ℕ). getD w n 0) (sym here) ∙ (sym same ∙ ap (λ (n : ℕ). getD w n 0) back))
 
--- one turn of run_end, and its two ends
+-- one turn of run_end
 pub run-more : (w : List ℕ) (d q r : ℕ) → ((k : ℕ) → q ≤ k → k < r → getD w k 0 ≡ getD w (k - d) 0) → getD w r 0 ≡ getD w (r - d) 0
     → (k : ℕ) → q ≤ k → k < r + 1 → getD w k 0 ≡ getD w (k - d) 0
 run-more w d q r so-far e k ge lt = at (ℕ-discrete k r)
@@ -71,3 +85,25 @@ run-more w d q r so-far e k ge lt = at (ℕ-discrete k r)
     at : Dec (k ≡ r) → getD w k 0 ≡ getD w (k - d) 0
     at (yes s) = subst (λ (n : ℕ). getD w n 0 ≡ getD w (n - d) 0) (sym s) e
     at (no n) = so-far k ge (omega arith)
+
+-- one turn of last_square: no square ends its first half at j
+pub last-down : (w : List ℕ) (i j : ℕ) → i < j → (Matches w i j → ⊥) → ((k : ℕ) → j < k → k + (k - i) ≤ length w → Matches w i k → ⊥)
+    → (k : ℕ) → j - 1 < k → k + (k - i) ≤ length w → Matches w i k → ⊥
+last-down w i j lt n above k le room m = at (ℕ-discrete k j)
+  where
+    at : Dec (k ≡ j) → ⊥
+    at (yes e) = n (subst (λ (y : ℕ). Matches w i y) e m)
+    at (no d) = above k (omega arith) room m
+
+-- the ways through turning
+
+module _ (h : ℕ) (w a : List ℕ) (i j s ready : ℕ) (both : Members ready (λ q. In s q × In h q)) where
+  pub turning-none : ready ≡ 0 → Turning h w a a i j s 0
+  turning-none e = record { kept = λ at z y. y; members = members-none (λ q z. none-in e q (both .members q .1 (z .1))) }
+
+  module _ (b : List ℕ) (kept : Keeps w a b (j - i) j) where
+    pub turning-some : Matches w i j → Turning h w a b i j s ready
+    turning-some m = record { kept = kept; members = members-as both (λ q z. (m, z)) (λ q z. z .1) }
+
+    pub turning-apart : (Matches w i j → ⊥) → Turning h w a b i j s 0
+    turning-apart n = record { kept = kept; members = members-none (λ q z. n (z .0)) }

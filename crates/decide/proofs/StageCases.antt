@@ -22,8 +22,7 @@ use Rattle.fsbm.specs.declared.config.Mode.the-variants.{Normal, Buffering, Emp
 use Rattle.adjacency.specs.Index.Laws.{zeros-at}
 use Rattle.decide.specs.Graph.{Members, Fitting, From, Star, here, more, Graph, Edge, Free, EmptyCopy, Turn}
 use Rattle.decide.specs.Reach.{Walk, still, reads, Matches, Reach, begins, passes, moves, copies, CopyTo, Copied, ReadTo, Passed, Stage}
-use Rattle.decide.proofs.SetCases.{none-in}
-use Rattle.decide.proofs.RowCases.{row-cases}
+use Rattle.decide.proofs.SetCases.{none-in, row-cases}
 use Rattle.decide.proofs.CopyCases.{walk-forward, walk-free}
 
 -- a set at one place changes

@@ -1,6 +1,5 @@
 -- One pass over a word that follows all copies at once.
 --
--- turning-none, turning-some, turning-apart == the ways through turning
 -- TurningAll               == the invariant of turn_all; turns-start, turns-more, turns-end: it begins, one turn, its end
 -- started                  == the end of start_copies
 -- walk-on                  == a walk and epsilon moves after it; stored-on, emptied-on: a copy and epsilon moves after it
@@ -25,36 +24,24 @@ use Rattle.adjacency.specs.Index.Laws.{zeros-at}
 use Rattle.decide.specs.declared.maps.Memo.{Memo}
 use Rattle.decide.specs.Graph.{Members, Fitting, From, Star, here, more, Graph, Edge, Free, Advance, Lead, EmptyCopy, Turn}
 use Rattle.decide.specs.Reach.{Walk, still, reads, Matches, Reach, begins, passes, moves, copies}
-use Rattle.decide.specs.Sweep.{Moved, Ends, Squared, Turning, TurnsAt, Turned, Started, Stored, Emptied, ReadBy, Arrived, Sweeping}
-use Rattle.decide.proofs.SetCases.{members-as, members-none, none-in}
-use Rattle.decide.proofs.RowCases.{row-cases}
+use Rattle.decide.specs.Squares.{Ends, Turning}
+use Rattle.decide.specs.Sweep.{Moved, TurnsAt, Turned, Started, Stored, Emptied, ReadBy, Arrived, Sweeping}
+use Rattle.decide.proofs.SetCases.{members-as, none-in, row-cases}
 use Rattle.decide.proofs.Sweeps.{star-join}
 use Rattle.decide.proofs.CopyCases.{walk-forward, walk-last, walk-free}
 use Rattle.decide.proofs.StageCases.{fitting-set, turns}
 
--- turning
-
-module _ (h : ℕ) (w ends : List ℕ) (i j s ready : ℕ) (both : Members ready (λ q. In s q × In h q)) where
-  pub turning-none : Ends w ends j → ready ≡ 0 → Turning h w ends i j s 0
-  turning-none k e = record { kept = k; members = members-none (λ q z. none-in e q (both .members q .1 (z .1))) }
-
-  pub turning-some : Ends w ends j → Matches w i j → Turning h w ends i j s ready
-  turning-some k m = record { kept = k; members = members-as both (λ q z. (m, z)) (λ q z. z .1) }
-
-  pub turning-apart : Ends w ends j → (Matches w i j → ⊥) → Turning h w ends i j s 0
-  turning-apart k n = record { kept = k; members = members-none (λ q z. n (z .0)) }
-
 -- turn_all: the places from lo up to i are done
 
 pub record TurningAll (h : ℕ) (w ends a b : List ℕ) (lo i j : ℕ) : Type 0 where
-  pub kept : Ends w ends j
+  pub kept : Ends w ends (λ d. j)
   pub fitting : Fitting 256 b
   pub low : lo ≤ i
   pub within : i ≤ j
   pub members : (k q : ℕ) → In (getD b k 0) q ↔ (In (getD a k 0) q ⊎ ((z : TurnsAt h w a lo j k q) × (z .from < i)))
 
 module _ (h : ℕ) (w a : List ℕ) (lo j : ℕ) where
-  pub turns-start : (ends : List ℕ) → Ends w ends j → Fitting 256 a → lo ≤ j → TurningAll h w ends a a lo lo j
+  pub turns-start : (ends : List ℕ) → Ends w ends (λ d. j) → Fitting 256 a → lo ≤ j → TurningAll h w ends a a lo lo j
   turns-start ends k f le = record { kept = k; fitting = f; low = omega arith; within = le; members = λ n q. (λ y. inl y, back n q) }
     where
       back : (n q : ℕ) → In (getD a n 0) q ⊎ ((z : TurnsAt h w a lo j n q) × (z .from < lo)) → In (getD a n 0) q
@@ -73,11 +60,11 @@ module _ (h : ℕ) (w a : List ℕ) (lo j : ℕ) where
         back k q (inl y) = inl y
         back k q (inr z) = inr (z, omega (arith, z .before))
 
-    pub turns-more : (s r u : ℕ) (ends′ : List ℕ) → i < j → j + (j - lo) ≤ length w → length w ≤ 255 → s ≡ getD b i 0 → Turning h w ends′ i j s r
+    pub turns-more : (s r u : ℕ) (ends′ : List ℕ) → i < j → j + (j - lo) ≤ length w → length w ≤ 255 → s ≡ getD b i 0 → Turning h w ends ends′ i j s r
         → Members u (λ q. In (getD b (j + (j - i)) 0) q ⊎ In r q) → TurningAll h w ends′ a (set b (j + (j - i)) u) lo (i + 1) j
     turns-more s r u ends′ lt room short is turn union =
         record {
-          kept = turn .kept;
+          kept = turn .kept (λ d. j) refl (t .kept);
           fitting = fitting-set b e u (t .fitting) (omega arith) (union .fits);
           low = omega (arith, t .low);
           within = omega arith;

@@ -1,64 +1,29 @@
--- What a well-formed machine's index and sets of states say of its transitions.
+-- What the table of a well-formed machine and its sets of states say of its transitions.
 --
--- good-index        == the index of a well-formed machine's list is one that the functions on sets ask for
+-- good-table        == such a table is one that the functions on sets ask for
 -- kind-says         == a set made of one bit of the marks is the set of the states of that kind
--- Table m list first g h == the index of m's list, the set of its buffering states, the set of its matching states
--- edge-listed, listed-edge == an edge is a transition that the mode may take
-use Prim.Native.Nat.{ℕ, suc, _+_, _*_, _/_, _%_, _^_, _≤_, _<_}
-use mathlib.Core.Path.{_≡_, refl, sym, ap, _∙_, subst}
+-- Table m list w targets numbers g h == the table of m's list for the letters of w, the set of its buffering states, the set of its matching states
+-- edge-listed, listed-edge == an edge of a letter of w, or of epsilon, is a transition that the mode may take
+use Prim.Native.Nat.{ℕ, _/_, _%_, _<_}
+use mathlib.Core.Path.{_≡_}
 use mathlib.Core.Logic.{_↔_, _⊎_, inl, inr}
-use mathlib.Core.Bool.{Bool, true, false}
+use mathlib.Core.Bool.{true, false}
 use mathlib.Core.List.{List}
 use native.Mathlib.Omega.{arith}
-use native.Mathlib.Decide.{decLt}
-use lib.ListN.{length, getD}
-use lib.Dec.{ltb, eqb}
+use lib.Dec.{ltb}
 use borrow.Author.Tests.{ltb-true, eqb-true, eq-eqb}
 use Rattle.graphs.specs.Search.Laws.{true-or-false}
 use Rattle.stateset.specs.Set.{width, In}
-use Rattle.fsbm.specs.Machine.{wellFormed, transitionAt, markOf, goodMark, initial, final, buffering, matching, maxStates}
-use Rattle.fsbm.specs.Published.{Listed, fsbmOf}
+use Rattle.fsbm.specs.Machine.{markOf, initial, final, buffering, matching, maxStates}
+use Rattle.fsbm.specs.Published.{Listed}
 use Rattle.fsbm.specs.declared.machine.Machine.{Machine}
 use Rattle.fsbm.specs.declared.config.Mode.{Mode}
-use Rattle.fsbm.specs.declared.config.Mode.the-variants.{Normal, Buffering, Emptying}
-use Rattle.adjacency.specs.Index.{Index}
-use Rattle.adjacency.specs.Index.Laws.{Sorted, leaves, group-rises}
-use Rattle.decide.specs.Graph.{Members, Graph, graph, Hit, May, Edge, Stretch, Good}
+use Rattle.adjacency.specs.Index.Laws.{Sorted}
+use Rattle.targets.specs.Targets.{Read, Targets}
+use Rattle.decide.specs.Graph.{Members, graph, May, Edge, Good}
 
-module _ (m : Machine) (list first : List ℕ) (s : Sorted m list) (x : Index m list first) where
-  pub good-index : Good list first
-  good-index p lt = at (decLt p (m .states))
-    where
-      at : Dec (p < m .states) → Stretch list (getD first p 0) (getD first (p + 1) 0)
-      at (yes y) =
-          record {
-            fits = let a = x .within (p + 1) (omega arith) in let b = s .list-fits in omega arith;
-            leads = λ k lo hi. let z = leaves m list s first x p k y .0 (lo, hi) in let t = s .to-below k (z .0) in let f = s .states-fit in omega arith;
-            rises = λ i j lo le hi. group-rises m list s first x p i j y lo le hi;
-          }
-      at (no n) =
-          let z : getD first (p + 1) 0 ≡ 0 = x .past (p + 1) (omega arith) in
-          record {
-            fits = omega arith;
-            leads = λ (k : ℕ) lo (hi : k < getD first (p + 1) 0). absurd (omega arith);
-            rises = λ (i : ℕ) (j : ℕ) lo le (hi : j < getD first (p + 1) 0). absurd (omega arith);
-          }
-
-  pub hit-listed : (p y q : ℕ) → Hit list (getD first p 0) (getD first (p + 1) 0) y q → Listed list (m .transitions) p y q
-  hit-listed p y q h = at (decLt p (m .states))
-    where
-      at : Dec (p < m .states) → Listed list (m .transitions) p y q
-      at (yes l) =
-          let z = leaves m list s first x p (h .number) l .0 (h .from, h .below) in
-          record { number = h .number; listed = z .0; from = z .1; letter = h .letter; to = h .to }
-      at (no n) = let z = x .past (p + 1) (omega arith) in let b = h .below in absurd (omega arith)
-
-  pub listed-hit : (p y q : ℕ) → Listed list (m .transitions) p y q → Hit list (getD first p 0) (getD first (p + 1) 0) y q
-  listed-hit p y q d =
-      let small = s .from-below (d .number) (d .listed) in
-      let e = d .from in
-      let z = leaves m list s first x p (d .number) (omega arith) .1 (d .listed, d .from) in
-      record { number = d .number; from = z .0; below = z .1; letter = d .letter; to = d .to }
+pub good-table : {m : Machine} {list w numbers targets : List ℕ} → Targets m list w numbers targets → Good targets numbers
+good-table t = record { size = t .size; rows = t .rows }
 
 -- a state whose mark is not 0 is one of the machine's
 marked : (m : Machine) (list : List ℕ) → Sorted m list → (q : ℕ) → (markOf (m .marks) q ≡ 0 → ⊥) → q < m .states
@@ -110,15 +75,20 @@ module _ (m : Machine) (list : List ℕ) (s : Sorted m list) (set : ℕ) where
       same : (y : ℕ) → y % 2 ≡ 1 → y / 1 % 2 ≡ 1
       same y e = omega arith
 
-pub record Table (m : Machine) (list first : List ℕ) (g h : ℕ) : Type 0 where
+pub record Table (m : Machine) (list w targets numbers : List ℕ) (g h : ℕ) : Type 0 where
   pub sorted : Sorted m list
-  pub index : Index m list first
+  pub holds : Targets m list w numbers targets
   pub stores : (q : ℕ) → In g q ↔ (buffering (m .marks) q ≡ true)
   pub matches : (q : ℕ) → In h q ↔ (matching (m .marks) q ≡ true)
 
-module _ {m : Machine} {list first : List ℕ} {g h : ℕ} (t : Table m list first g h) where
-  pub edge-listed : {T : Mode} {y p q : ℕ} → Edge (graph list first g h) T y p q → Listed list (m .transitions) p y q
-  edge-listed {y = y} {p = p} {q = q} e = hit-listed m list first (t .sorted) (t .index) p y q (e .hit)
+module _ {m : Machine} {list w targets numbers : List ℕ} {g h : ℕ} (t : Table m list w targets numbers g h) where
+  pub edge-listed : {T : Mode} {y p q : ℕ} → Read w y → Edge (graph targets numbers g h) T y p q → Listed list (m .transitions) p y q
+  edge-listed {y = y} {p = p} {q = q} r e = t .holds .listed y p q (e .state) r .0 (e .target)
 
-  pub listed-edge : {T : Mode} {y p q : ℕ} → Listed list (m .transitions) p y q → May g h T p q → Edge (graph list first g h) T y p q
-  listed-edge {y = y} {p = p} {q = q} d a = record { hit = listed-hit m list first (t .sorted) (t .index) p y q d; may = a }
+  pub listed-edge : {T : Mode} {y p q : ℕ} → Read w y → Listed list (m .transitions) p y q → May g h T p q → Edge (graph targets numbers g h) T y p q
+  listed-edge {y = y} {p = p} {q = q} r d a =
+      let small = t .sorted .from-below (d .number) (d .listed) in
+      let few = t .sorted .states-fit in
+      let e = d .from in
+      let state : p < width = omega arith in
+      record { state = state; target = t .holds .listed y p q state r .1 d; may = a }

@@ -2,28 +2,29 @@
 --
 -- Members r P            == r is a set of states whose members are the states of which P holds
 -- Fitting n sets         == a list of n sets of states
--- Rows rows P            == row q of rows is the set of the states s of which P s q holds
 -- From set R q           == q is R-related to some member of the set
 -- Star R p q             == q is reached from p by any number of R-steps
--- Graph                  == the lent list, its index, the set of buffering states, the set of matching states
--- Hit list lo hi x q     == some transition from lo up to hi has letter x and leads to q
+-- Graph                  == the table of where transitions lead, the numbers of its rows, the set of buffering states, the set of matching states
 -- May g h T p q          == mode T may take a transition from p to q (document 01, "How a run moves")
--- Edge G T x p q         == some transition from p with letter x leads to q, and mode T may take it
+-- Edge G T x p q         == the table has q for letter x and the state p, and mode T may take a transition from p to q
 -- Free G T p q           == q is reached from p in mode T by epsilon moves
 -- Advance G T x p q      == q is reached from p in mode T by a move that reads x and then epsilon moves
 -- Lead G T x p q         == q is reached from p in mode T by epsilon moves, a move that reads x, and epsilon moves
 -- EmptyCopy G p q        == from p in normal mode to q in normal mode by a copy of nothing, in epsilon moves
 -- Turn G p q             == an epsilon move in normal mode, or an empty copy
--- Stretch, Good          == what the functions ask of a list and its index
-use Prim.Native.Nat.{ℕ, _+_, _*_, _^_, _≤_, _<_}
+-- Good targets numbers   == each letter has a row in the table
+-- Kind marks states b set == the set of the states below a number whose mark has the bit of value b
+-- KindsOf marks states k == the four sets of states by their marks
+use Prim.Native.Nat.{ℕ, _+_, _*_, _/_, _%_, _^_, _≤_, _<_}
 use mathlib.Core.Path.{_≡_}
 use mathlib.Core.Logic.{_↔_, _⊎_}
 use mathlib.Core.List.{List}
 use lib.ListN.{length, getD}
 use Rattle.stateset.specs.Set.{width, In}
-use Rattle.fsbm.specs.Machine.{transitionAt}
+use Rattle.fsbm.specs.Machine.{markOf}
 use Rattle.fsbm.specs.declared.config.Mode.{Mode}
 use Rattle.fsbm.specs.declared.config.Mode.the-variants.{Normal, Buffering, Emptying}
+use Rattle.decide.specs.declared.images.Kinds.{Kinds}
 
 pub record Members (r : ℕ) (P : ℕ → Type 0) : Type 0 where
   pub fits : r < 2 ^ width
@@ -34,11 +35,6 @@ pub record Fitting (n : ℕ) (sets : List ℕ) : Type 0 where
   pub size : length sets ≡ n
   pub each : (k : ℕ) → getD sets k 0 < 2 ^ width
 
-pub record Rows (rows : List ℕ) (P : ℕ → ℕ → Type 0) : Type 0 where
-  pub size : length rows ≡ width
-  pub fits : (q : ℕ) → getD rows q 0 < 2 ^ width
-  pub members : (q s : ℕ) → In (getD rows q 0) s ↔ P s q
-
 abbrev pub From : ℕ → (ℕ → ℕ → Type 0) → ℕ → Type 0
 From set R q = (p : ℕ) × In set p × R p q
 
@@ -47,20 +43,13 @@ pub data Star (R : ℕ → ℕ → Type 0) : ℕ → ℕ → Type 0 where
   more : {p q r : ℕ} → Star R p q → R q r → Star R p r
 
 pub record Graph : Type 0 where
-  pub list : List ℕ
-  pub first : List ℕ
+  pub targets : List ℕ
+  pub numbers : List ℕ
   pub buffering : ℕ
   pub matching : ℕ
 
 abbrev pub graph : List ℕ → List ℕ → ℕ → ℕ → Graph
-graph list first g h = record { list = list; first = first; buffering = g; matching = h }
-
-pub record Hit (list : List ℕ) (lo hi x q : ℕ) : Type 0 where
-  pub number : ℕ
-  pub from : lo ≤ number
-  pub below : number < hi
-  pub letter : transitionAt list number .letter ≡ x
-  pub to : transitionAt list number .to ≡ q
+graph targets numbers g h = record { targets = targets; numbers = numbers; buffering = g; matching = h }
 
 -- normal: not both ends matching, and not from a buffering state; buffering: not both matching, and not into a buffering state;
 -- emptying: both matching
@@ -70,7 +59,8 @@ May g h Buffering p q = (In h p × In h q → ⊥) × (In g q → ⊥)
 May g h Emptying p q = In h p × In h q
 
 pub record Edge (G : Graph) (T : Mode) (x p q : ℕ) : Type 0 where
-  pub hit : Hit (G .list) (getD (G .first) p 0) (getD (G .first) (p + 1) 0) x q
+  pub state : p < width
+  pub target : In (getD (G .targets) (getD (G .numbers) x 0 * 64 + p) 0) q
   pub may : May (G .buffering) (G .matching) T p q
 
 abbrev pub Free : Graph → Mode → ℕ → ℕ → Type 0
@@ -97,11 +87,15 @@ pub record EmptyCopy (G : Graph) (p q : ℕ) : Type 0 where
 abbrev pub Turn : Graph → ℕ → ℕ → Type 0
 Turn G p q = Edge G Normal 0 p q ⊎ EmptyCopy G p q
 
--- the transitions from lo up to hi are in the list, lead to states, and do not fall in their letters
-pub record Stretch (list : List ℕ) (lo hi : ℕ) : Type 0 where
-  pub fits : hi * 3 ≤ length list
-  pub leads : (k : ℕ) → lo ≤ k → k < hi → transitionAt list k .to < width
-  pub rises : (i j : ℕ) → lo ≤ i → i ≤ j → j < hi → transitionAt list i .letter ≤ transitionAt list j .letter
+pub record Good (targets numbers : List ℕ) : Type 0 where
+  pub size : length numbers ≡ 256
+  pub rows : (x : ℕ) → getD numbers x 0 * 64 + 64 ≤ length targets
 
-abbrev pub Good : List ℕ → List ℕ → Type 0
-Good list first = (p : ℕ) → p < width → Stretch list (getD first p 0) (getD first (p + 1) 0)
+abbrev pub Kind : List ℕ → ℕ → ℕ → ℕ → Type 0
+Kind marks states b set = Members set (λ q. (q < states) × (markOf marks q / b % 2 ≡ 1))
+
+pub record KindsOf (marks : List ℕ) (states : ℕ) (k : Kinds) : Type 0 where
+  pub initial : Kind marks states 1 (k .initial)
+  pub finals : Kind marks states 2 (k .finals)
+  pub buffering : Kind marks states 4 (k .buffering)
+  pub matching : Kind marks states 8 (k .matching)

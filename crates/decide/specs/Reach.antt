@@ -1,6 +1,7 @@
 -- The states that a run reaches at each place in normal mode, copies taken as one step.
 --
 -- Walk G w T i p j q       == in mode T the letters of w from i up to j lead from p to q
+-- Tailed G w i tail        == what the tail has reached is what emptying walks from i up to its place reach from its set
 -- Matches w i j            == the letters of w from i up to j stand once more from j on
 -- LastSquare w i r         == no square of w that starts at i is longer than the one up to r and as far again
 -- Reach G w start k q      == some run from a state of the set start is in state q at place k in normal mode
@@ -18,11 +19,16 @@ use lib.Bits.{bitAnd}
 use Rattle.stateset.specs.Set.{width, In}
 use Rattle.fsbm.specs.declared.config.Mode.{Mode}
 use Rattle.fsbm.specs.declared.config.Mode.the-variants.{Normal, Buffering, Emptying}
+use Rattle.decide.specs.declared.walks.Tail.{Tail}
 use Rattle.decide.specs.Graph.{Members, From, Star, Graph, Fitting, Edge, Free, Turn, Advance}
 
 pub data Walk (G : Graph) (w : List ℕ) (T : Mode) (i p : ℕ) : ℕ → ℕ → Type 0 where
   still : {j q : ℕ} → j ≡ i → Free G T p q → Walk G w T i p j q
   reads : {j k q r : ℕ} → Walk G w T i p j q → j < length w → Advance G T (getD w j 0) q r → k ≡ suc j → Walk G w T i p k r
+
+pub record Tailed (G : Graph) (w : List ℕ) (i : ℕ) (tail : Tail) : Type 0 where
+  pub from : i ≤ tail .place
+  pub walked : Members (tail .reached) (From (tail .ready) (λ p q. Walk G w Emptying i p (tail .place) q))
 
 abbrev pub Matches : List ℕ → ℕ → ℕ → Type 0
 Matches w i j = (t : ℕ) → t < j - i → getD w (i + t) 0 ≡ getD w (j + t) 0

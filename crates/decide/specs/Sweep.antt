@@ -5,11 +5,7 @@
 -- Recalls G T map memo         == the map knows what the memo says, and the memo's set has the memo's image
 -- Recalled G T map memo x set  == the same, of the letter x and this set
 -- Moved G T x map memo a b lo hi == the sets b are the sets a with those from lo up to hi moved on by x
--- RunEnd w d q r               == r is the first place from q on where the letter is not the one d places before it
--- Ends w ends j                == for each distance d where ends has a place from j on, that is the place of RunEnd; none is above 255
--- Ended, Squared               == what the functions say that look up such places
--- Turning h w ends i j s r     == r is the part of s with which storing ends, where the letters from i up to j stand once more
--- TurnsAt h w a lo j k q       == q is such a state of a place from lo up to j, and the copy will end at k
+-- TurnsAt h w a lo j k q       == with q, of a place from lo up to j, storing ends at j, and the copy will end at k
 -- Turned h w ends a b lo j     == the sets b are the sets a with those states
 -- Started G w a b i r          == place i is completed, the starts of copies are left there, the letter at i leads to r
 -- Stored G w start k t s       == a copy that began at place k is in state s at place t and stores
@@ -20,7 +16,6 @@
 use Prim.Native.Nat.{ℕ, suc, _+_, _-_, _^_, _≤_, _<_}
 use mathlib.Core.Path.{_≡_}
 use mathlib.Core.Logic.{_↔_, _⊎_}
-use mathlib.Core.Bool.{Bool, true}
 use mathlib.Core.List.{List}
 use lib.ListN.{length, getD}
 use Rattle.stateset.specs.Set.{width, In}
@@ -29,6 +24,7 @@ use Rattle.fsbm.specs.declared.config.Mode.the-variants.{Normal, Buffering, Emp
 use Rattle.decide.specs.declared.maps.Memo.{Memo}
 use Rattle.decide.specs.Graph.{Members, Fitting, From, Star, Graph, Edge, Free, Lead, Turn}
 use Rattle.decide.specs.Reach.{Walk, Matches, Reach}
+use Rattle.decide.specs.Squares.{Ends}
 
 pub record Known (G : Graph) (T : Mode) (x : ℕ) (map : List ℕ) (known : ℕ) : Type 0 where
   pub fitting : Fitting width map
@@ -54,29 +50,6 @@ pub record Moved (G : Graph) (T : Mode) (x : ℕ) (map : List ℕ) (memo : Memo)
   pub moved : (k q : ℕ) → lo ≤ k → k < hi → In (getD b k 0) q ↔ From (getD a k 0) (Lead G T x) q
   pub others : (k : ℕ) → (lo ≤ k × (k < hi) → ⊥) → getD b k 0 ≡ getD a k 0
 
-pub record RunEnd (w : List ℕ) (d q r : ℕ) : Type 0 where
-  pub from : q ≤ r
-  pub within : r ≤ length w
-  pub same : (k : ℕ) → q ≤ k → k < r → getD w k 0 ≡ getD w (k - d) 0
-  pub differs : r < length w → getD w r 0 ≡ getD w (r - d) 0 → ⊥
-
-pub record Ends (w ends : List ℕ) (j : ℕ) : Type 0 where
-  pub size : length ends ≡ 256
-  pub small : (d : ℕ) → getD ends d 0 ≤ 255
-  pub each : (d : ℕ) → j ≤ getD ends d 0 → RunEnd w d j (getD ends d 0)
-
-pub record Ended (w ends : List ℕ) (d q r : ℕ) : Type 0 where
-  pub kept : Ends w ends q
-  pub run : RunEnd w d q r
-
-pub record Squared (w ends : List ℕ) (i j : ℕ) (r : Bool) : Type 0 where
-  pub kept : Ends w ends j
-  pub says : (r ≡ true) ↔ Matches w i j
-
-pub record Turning (h : ℕ) (w ends : List ℕ) (i j s r : ℕ) : Type 0 where
-  pub kept : Ends w ends j
-  pub members : Members r (λ q. Matches w i j × (In s q × In h q))
-
 pub record TurnsAt (h : ℕ) (w a : List ℕ) (lo j k q : ℕ) : Type 0 where
   pub from : ℕ
   pub low : lo ≤ from
@@ -87,7 +60,7 @@ pub record TurnsAt (h : ℕ) (w a : List ℕ) (lo j k q : ℕ) : Type 0 where
   pub turns : In h q
 
 pub record Turned (h : ℕ) (w ends a b : List ℕ) (lo j : ℕ) : Type 0 where
-  pub kept : Ends w ends j
+  pub kept : Ends w ends (λ d. j)
   pub fitting : Fitting 256 b
   pub members : (k q : ℕ) → In (getD b k 0) q ↔ (In (getD a k 0) q ⊎ TurnsAt h w a lo j k q)
 

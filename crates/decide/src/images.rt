@@ -1,5 +1,6 @@
-// Images and closures of sets of states under the transitions that a mode may take. The list and its index are those of a
-// well-formed machine, g is its set of buffering states, h its set of matching states.
+// Images and closures of sets of states under the transitions that a mode may take. The table targets says where the transitions of
+// each letter lead from each state, and numbers which row of it a letter has; letter 0, epsilon, has row 0. g is the set of buffering
+// states, h the set of matching states.
 ghost use Prim.Native.Nat.{ℕ, _+_, _*_, _/_, _%_, _^_, _≤_, _<_};
 ghost use mathlib.Core.Path.{_≡_};
 ghost use mathlib.Core.Bool.{true};
@@ -8,7 +9,7 @@ ghost use lib.ListN.{length, getD};
 ghost use Rattle.stateset.specs.Set.{width, In};
 ghost use Rattle.fsbm.specs.Machine.{markOf};
 ghost use Rattle.fsbm.specs.declared.config.Mode.the-variants.{Normal, Buffering, Emptying};
-ghost use Rattle.decide.specs.Graph.{Members, From, Star, graph, Hit, May, Edge, Free, Advance, EmptyCopy, Turn, Stretch, Good};
+ghost use Rattle.decide.specs.Graph.{Members, From, Star, graph, May, Edge, Free, Advance, EmptyCopy, Turn, Good, KindsOf};
 use fsbm::config::Mode;
 use fsbm::machine;
 
@@ -35,6 +36,27 @@ pub fn states_with(marks: &[u8; 64], states: usize, bit: usize) -> u64
         q += 1;
     }
     set
+}
+
+// The states of each kind.
+pub struct Kinds {
+    pub initial: u64,
+    pub finals: u64,
+    pub buffering: u64,
+    pub matching: u64,
+}
+
+// The states of each kind by their marks. Time: the states, four times.
+pub fn kinds_of(marks: &[u8; 64], states: usize) -> Kinds
+    requires { ⌜ states ≤ width ⌝ }
+    ensures { λ r. ⌜ KindsOf (now (marks .entry)) states r ⌝ }
+{
+    Kinds {
+        initial: states_with(marks, states, 0),
+        finals: states_with(marks, states, 1),
+        buffering: states_with(marks, states, 2),
+        matching: states_with(marks, states, 3),
+    }
 }
 
 // Where a normal move from p may lead.
@@ -82,70 +104,64 @@ fn may(g: u64, h: u64, mode: Mode, p: usize) -> u64
     }
 }
 
-// Where the transitions from lo up to hi with letter x lead.
-fn targets(list: &[u16], lo: usize, hi: usize, x: u16) -> u64
-    requires { ⌜ Stretch (now list) lo hi ⌝ }
-    ensures { λ r. ⌜ Members r (Hit (now (list .entry)) lo hi x) ⌝ }
-{
-    let mut set = stateset::empty();
-    if hi <= lo {
-        return set;
-    }
-    let mut k = adjacency::seek(list, 1, lo, hi, x);
-    while k < hi {
-        if x < list[k * 3 + 1] {
-            return set;
-        }
-        set = stateset::add(set, list[k * 3 + 2] as usize);
-        k += 1;
-    }
-    set
-}
-
-fn wide(x: u16) -> usize
-    ensures { λ r. ⌜ r ≡ x ⌝ }
+fn wide(x: u8) -> usize
+    ensures { λ r. ⌜ (r ≡ x) × (r ≤ 255) ⌝ }
 {
     x as usize
 }
 
-// Where the moves from p that read x lead in a mode.
-fn image_of(list: &[u16], first: &[u16; 65], g: u64, h: u64, mode: Mode, p: usize, x: u16) -> u64
-    requires { ⌜ Good (now list) (now first) × (p < width) ⌝ }
-    ensures { λ r. ⌜ Members r (Edge (graph (now (list .entry)) (now (first .entry)) g h) mode x p) ⌝ }
+// Where the row of the letter x begins in the table.
+pub fn row_of(numbers: &[u8; 256], x: u8) -> usize
+    ensures { λ r. ⌜ r ≡ getD (now (numbers .entry)) x 0 * 64 ⌝ }
 {
-    let allowed = may(g, h, mode, p);
-    if allowed == 0 {
-        return 0;
-    }
-    let lo = wide(first[p]);
-    let hi = wide(first[p + 1]);
-    stateset::intersection(targets(list, lo, hi, x), allowed)
+    wide(numbers[x as usize]) * 64
 }
 
-// The image of a set under the moves that read x in a mode.
-fn step_set(list: &[u16], first: &[u16; 65], g: u64, h: u64, mode: Mode, set: u64, x: u16) -> u64
-    requires { ⌜ Good (now list) (now first) ⌝ }
-    ensures { λ r. ⌜ Members r (From set (Edge (graph (now (list .entry)) (now (first .entry)) g h) mode x)) ⌝ }
+// Where the moves from p lead in a mode, by the transitions of the letter whose row begins there.
+pub fn image_of(targets: &[u64], g: u64, h: u64, mode: Mode, row: usize, p: usize) -> u64
+    requires { ⌜ (p < width) × (row + width ≤ length (now targets)) ⌝ }
+    ensures { λ r. ⌜ Members r (λ q. In (getD (now (targets .entry)) (row + p) 0) q × May g h mode p q) ⌝ }
 {
+    let found = targets[row + p];
+    if found == 0 {
+        return 0;
+    }
+    stateset::intersection(found, may(g, h, mode, p))
+}
+
+// The image of a set under the moves that read x in a mode. Time: the members of the set, each once.
+pub fn step_set(
+    targets: &[u64],
+    numbers: &[u8; 256],
+    g: u64,
+    h: u64,
+    mode: Mode,
+    set: u64,
+    x: u8,
+) -> u64
+    requires { ⌜ Good (now targets) (now numbers) ⌝ }
+    ensures { λ r. ⌜ Members r (From set (Edge (graph (now (targets .entry)) (now (numbers .entry)) g h) mode x)) ⌝ }
+{
+    let row = row_of(numbers, x);
     let mut image = stateset::empty();
     let mut rest = set;
     while rest != 0 {
         let p = stateset::lowest(rest) as usize;
         rest = stateset::remove(rest, p);
-        image = stateset::union(image, image_of(list, first, g, h, mode, p, x));
+        image = stateset::union(image, image_of(targets, g, h, mode, row, p));
     }
     image
 }
 
 // The states that a set reaches by epsilon moves in a mode.
-pub fn close_set(list: &[u16], first: &[u16; 65], g: u64, h: u64, mode: Mode, set: u64) -> u64
-    requires { ⌜ Good (now list) (now first) ⌝ }
-    ensures { λ r. ⌜ Members r (From set (Free (graph (now (list .entry)) (now (first .entry)) g h) mode)) ⌝ }
+pub fn close_set(targets: &[u64], numbers: &[u8; 256], g: u64, h: u64, mode: Mode, set: u64) -> u64
+    requires { ⌜ Good (now targets) (now numbers) ⌝ }
+    ensures { λ r. ⌜ Members r (From set (Free (graph (now (targets .entry)) (now (numbers .entry)) g h) mode)) ⌝ }
 {
     let mut all = set;
     let mut new = set;
     loop {
-        new = stateset::difference(step_set(list, first, g, h, mode, new, 0), all);
+        new = stateset::difference(step_set(targets, numbers, g, h, mode, new, 0), all);
         if new == 0 {
             return all;
         }
@@ -155,48 +171,56 @@ pub fn close_set(list: &[u16], first: &[u16; 65], g: u64, h: u64, mode: Mode, se
 
 // The image of a set under the moves that read the letter x of a word in a mode; no move reads letter 0.
 pub fn read_set(
-    list: &[u16],
-    first: &[u16; 65],
+    targets: &[u64],
+    numbers: &[u8; 256],
     g: u64,
     h: u64,
     mode: Mode,
     set: u64,
-    x: u16,
+    x: u8,
 ) -> u64
-    requires { ⌜ Good (now list) (now first) ⌝ }
-    ensures { λ r. ⌜ Members r (λ q. (0 < x) × From set (Edge (graph (now (list .entry)) (now (first .entry)) g h) mode x) q) ⌝ }
+    requires { ⌜ Good (now targets) (now numbers) ⌝ }
+    ensures { λ r. ⌜ Members r (λ q. (0 < x) × From set (Edge (graph (now (targets .entry)) (now (numbers .entry)) g h) mode x) q) ⌝ }
 {
     if x == 0 {
         return 0;
     }
-    step_set(list, first, g, h, mode, set, x)
+    step_set(targets, numbers, g, h, mode, set, x)
 }
 
 // The states that a set reaches by a move that reads the letter x of a word and epsilon moves after it.
-pub fn advance(list: &[u16], first: &[u16; 65], g: u64, h: u64, mode: Mode, set: u64, x: u16) -> u64
-    requires { ⌜ Good (now list) (now first) ⌝ }
-    ensures { λ r. ⌜ Members r (From set (Advance (graph (now (list .entry)) (now (first .entry)) g h) mode x)) ⌝ }
+pub fn advance(
+    targets: &[u64],
+    numbers: &[u8; 256],
+    g: u64,
+    h: u64,
+    mode: Mode,
+    set: u64,
+    x: u8,
+) -> u64
+    requires { ⌜ Good (now targets) (now numbers) ⌝ }
+    ensures { λ r. ⌜ Members r (From set (Advance (graph (now (targets .entry)) (now (numbers .entry)) g h) mode x)) ⌝ }
 {
-    let read = read_set(list, first, g, h, mode, set, x);
+    let read = read_set(targets, numbers, g, h, mode, set, x);
     if read == 0 {
         return 0;
     }
-    close_set(list, first, g, h, mode, read)
+    close_set(targets, numbers, g, h, mode, read)
 }
 
 // The states that a set reaches by one copy of nothing.
-fn empty_copies(list: &[u16], first: &[u16; 65], g: u64, h: u64, set: u64) -> u64
-    requires { ⌜ Good (now list) (now first) ⌝ }
-    ensures { λ r. ⌜ Members r (From set (EmptyCopy (graph (now (list .entry)) (now (first .entry)) g h))) ⌝ }
+fn empty_copies(targets: &[u64], numbers: &[u8; 256], g: u64, h: u64, set: u64) -> u64
+    requires { ⌜ Good (now targets) (now numbers) ⌝ }
+    ensures { λ r. ⌜ Members r (From set (EmptyCopy (graph (now (targets .entry)) (now (numbers .entry)) g h))) ⌝ }
 {
     let begun = stateset::intersection(set, g);
     if begun == 0 {
         return 0;
     }
-    let stored = close_set(list, first, g, h, Mode::Buffering, begun);
+    let stored = close_set(targets, numbers, g, h, Mode::Buffering, begun);
     close_set(
-        list,
-        first,
+        targets,
+        numbers,
         g,
         h,
         Mode::Emptying,
@@ -206,14 +230,14 @@ fn empty_copies(list: &[u16], first: &[u16; 65], g: u64, h: u64, set: u64) -> u6
 
 // The states that a set reaches at one place in normal mode: by epsilon moves and copies of nothing, as often as wanted. No set
 // shrinks, so the end is reached when the size stays.
-pub fn close_place(list: &[u16], first: &[u16; 65], g: u64, h: u64, set: u64) -> u64
-    requires { ⌜ Good (now list) (now first) ⌝ }
-    ensures { λ r. ⌜ Members r (From set (Star (Turn (graph (now (list .entry)) (now (first .entry)) g h)))) ⌝ }
+pub fn close_place(targets: &[u64], numbers: &[u8; 256], g: u64, h: u64, set: u64) -> u64
+    requires { ⌜ Good (now targets) (now numbers) ⌝ }
+    ensures { λ r. ⌜ Members r (From set (Star (Turn (graph (now (targets .entry)) (now (numbers .entry)) g h)))) ⌝ }
 {
     let mut all = set;
     loop {
-        let near = close_set(list, first, g, h, Mode::Normal, all);
-        let copied = stateset::union(near, empty_copies(list, first, g, h, near));
+        let near = close_set(targets, numbers, g, h, Mode::Normal, all);
+        let copied = stateset::union(near, empty_copies(targets, numbers, g, h, near));
         if stateset::size(copied) == stateset::size(near) {
             return near;
         }

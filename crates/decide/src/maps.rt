@@ -1,5 +1,5 @@
-// Maps: for each state that is known, the set of states that it leads to by one letter. Each state is looked up in the list once
-// for a letter; the image of a set is then the union of the sets of its members.
+// Maps: for each state that is known, the set of states that it leads to by one letter. Each state is followed once for a
+// letter; the image of a set is then the union of the sets of its members.
 ghost use Prim.Native.Nat.{ℕ, _+_, _≤_, _<_};
 ghost use mathlib.Core.Path.{_≡_};
 ghost use mathlib.Core.List.{List};
@@ -10,39 +10,38 @@ ghost use Rattle.decide.specs.declared.maps.Memo.{Memo};
 ghost use Rattle.decide.specs.Graph.{Members, Fitting, From, Graph, graph, Lead, Good};
 ghost use Rattle.decide.specs.Sweep.{Known, Learnt, Recalls, Recalled, Moved};
 use crate::images;
-use crate::rows;
 use fsbm::config::Mode;
 
 // The states that p leads to by epsilon moves, a move that reads the letter x and epsilon moves after it.
-fn lead(list: &[u16], first: &[u16; 65], g: u64, h: u64, mode: Mode, p: usize, x: u16) -> u64
-    requires { ⌜ Good (now list) (now first) × (p < width) ⌝ }
-    ensures { λ r. ⌜ Members r (Lead (graph (now (list .entry)) (now (first .entry)) g h) mode x p) ⌝ }
+fn lead(targets: &[u64], numbers: &[u8; 256], g: u64, h: u64, mode: Mode, p: usize, x: u8) -> u64
+    requires { ⌜ Good (now targets) (now numbers) × (p < width) ⌝ }
+    ensures { λ r. ⌜ Members r (Lead (graph (now (targets .entry)) (now (numbers .entry)) g h) mode x p) ⌝ }
 {
-    let near = images::close_set(list, first, g, h, mode, rows::single(p));
-    images::advance(list, first, g, h, mode, near, x)
+    let near = images::close_set(targets, numbers, g, h, mode, stateset::single(p));
+    images::advance(targets, numbers, g, h, mode, near, x)
 }
 
 // Looks up the states of a set that are not known; the states that are known then.
 fn learn(
-    list: &[u16],
-    first: &[u16; 65],
+    targets: &[u64],
+    numbers: &[u8; 256],
     g: u64,
     h: u64,
     mode: Mode,
-    x: u16,
+    x: u8,
     map: &mut [u64; 64],
     known: u64,
     set: u64,
 ) -> u64
-    requires { ⌜ Good (now list) (now first) × Known (graph (now list) (now first) g h) mode x (now map) known ⌝ }
-    ensures { λ r. ⌜ Learnt (graph (now (list .entry)) (now (first .entry)) g h) mode x (now (map .exit)) r set ⌝ }
+    requires { ⌜ Good (now targets) (now numbers) × Known (graph (now targets) (now numbers) g h) mode x (now map) known ⌝ }
+    ensures { λ r. ⌜ Learnt (graph (now (targets .entry)) (now (numbers .entry)) g h) mode x (now (map .exit)) r set ⌝ }
 {
     let mut all = known;
     let mut rest = stateset::difference(set, known);
     while rest != 0 {
         let p = stateset::lowest(rest) as usize;
         rest = stateset::remove(rest, p);
-        map[p] = lead(list, first, g, h, mode, p, x);
+        map[p] = lead(targets, numbers, g, h, mode, p, x);
         all = stateset::add(all, p);
     }
     all
@@ -63,20 +62,21 @@ fn image(map: &[u64; 64], set: u64) -> u64
     all
 }
 
-// What is known of a letter beside its map: the known states, and the last set with its image.
+// What is known of a letter beside its map: the known states, and the last set with its image. All fields are of one size: a memo is
+// copied for every set.
 pub struct Memo {
-    pub letter: u16,
+    pub letter: usize,
     pub known: u64,
     pub set: u64,
     pub image: u64,
 }
 
 // Nothing known of the letter x.
-pub fn nothing(x: u16) -> Memo
+pub fn nothing(x: u8) -> Memo
     ensures { λ r. ⌜ r ≡ record { letter = x; known = 0; set = 0; image = 0 } ⌝ }
 {
     Memo {
-        letter: x,
+        letter: x as usize,
         known: 0,
         set: 0,
         image: 0,
@@ -84,87 +84,88 @@ pub fn nothing(x: u16) -> Memo
 }
 
 // The memo where it is of the letter x, else nothing known of it.
-fn of_letter(memo: Memo, x: u16) -> Memo
+fn of_letter(memo: Memo, x: u8) -> Memo
     ensures { λ r. ⌜ (r .letter ≡ x) × ((G : Graph) (T : Mode) (map : List ℕ) → Recalls G T map memo → Recalls G T map r) ⌝ }
 {
-    if memo.letter == x {
+    if memo.letter == x as usize {
         return memo;
     }
     nothing(x)
 }
 
-// The memo with the image of a set.
+// The memo, of the letter x, with the image of a set.
 fn with_image(
-    list: &[u16],
-    first: &[u16; 65],
+    targets: &[u64],
+    numbers: &[u8; 256],
     g: u64,
     h: u64,
     mode: Mode,
+    x: u8,
     map: &mut [u64; 64],
     memo: Memo,
     set: u64,
 ) -> Memo
-    requires { ⌜ Good (now list) (now first) × Recalls (graph (now list) (now first) g h) mode (now map) memo ⌝ }
-    ensures { λ r. ⌜ Recalled (graph (now (list .entry)) (now (first .entry)) g h) mode (now (map .exit)) r (memo .letter) set ⌝ }
+    requires { ⌜ Good (now targets) (now numbers) × Recalls (graph (now targets) (now numbers) g h) mode (now map) memo × (memo .letter ≡ x) ⌝ }
+    ensures { λ r. ⌜ Recalled (graph (now (targets .entry)) (now (numbers .entry)) g h) mode (now (map .exit)) r x set ⌝ }
 {
     if memo.set == set {
         return memo;
     }
-    let x = memo.letter;
-    let known = learn(list, first, g, h, mode, x, map, memo.known, set);
+    let known = learn(targets, numbers, g, h, mode, x, map, memo.known, set);
     Memo {
-        letter: x,
+        letter: x as usize,
         known: known,
         set: set,
         image: image(map, set),
     }
 }
 
-// Moves the set of place k on by the letter of the memo.
+// Moves the set of place k on by the letter x, which is that of the memo.
 fn move_set(
-    list: &[u16],
-    first: &[u16; 65],
+    targets: &[u64],
+    numbers: &[u8; 256],
     g: u64,
     h: u64,
     mode: Mode,
+    x: u8,
     map: &mut [u64; 64],
     memo: Memo,
     sets: &mut [u64; 256],
     k: usize,
 ) -> Memo
-    requires { ⌜ Good (now list) (now first) × Recalls (graph (now list) (now first) g h) mode (now map) memo × Fitting 256 (now sets) × (k < 256) ⌝ }
-    ensures { λ r. ⌜ (r .letter ≡ memo .letter) × Moved (graph (now (list .entry)) (now (first .entry)) g h) mode (memo .letter) (now (map .exit)) r (now (sets .entry)) (now (sets .exit)) k (k + 1) ⌝ }
+    requires { ⌜ Good (now targets) (now numbers) × Recalls (graph (now targets) (now numbers) g h) mode (now map) memo × Fitting 256 (now sets) × (k < 256) × (memo .letter ≡ x) ⌝ }
+    ensures { λ r. ⌜ (r .letter ≡ x) × Moved (graph (now (targets .entry)) (now (numbers .entry)) g h) mode x (now (map .exit)) r (now (sets .entry)) (now (sets .exit)) k (k + 1) ⌝ }
 {
     let set = sets[k];
     if set == 0 {
         return memo;
     }
-    let found = with_image(list, first, g, h, mode, map, memo, set);
+    let found = with_image(targets, numbers, g, h, mode, x, map, memo, set);
     sets[k] = found.image;
     found
 }
 
 // Moves the sets of the places from lo up to hi on by the letter x.
 pub fn move_on(
-    list: &[u16],
-    first: &[u16; 65],
+    targets: &[u64],
+    numbers: &[u8; 256],
     g: u64,
     h: u64,
     mode: Mode,
-    x: u16,
+    x: u8,
     map: &mut [u64; 64],
     memo: Memo,
     sets: &mut [u64; 256],
     lo: usize,
     hi: usize,
 ) -> Memo
-    requires { ⌜ Good (now list) (now first) × Recalls (graph (now list) (now first) g h) mode (now map) memo × Fitting 256 (now sets) × (lo ≤ hi) × (hi ≤ 256) ⌝ }
-    ensures { λ r. ⌜ Moved (graph (now (list .entry)) (now (first .entry)) g h) mode x (now (map .exit)) r (now (sets .entry)) (now (sets .exit)) lo hi ⌝ }
+    requires { ⌜ Good (now targets) (now numbers) × Recalls (graph (now targets) (now numbers) g h) mode (now map) memo × Fitting 256 (now sets) × (lo ≤ hi) × (hi ≤ 256) ⌝ }
+    ensures { λ r. ⌜ Moved (graph (now (targets .entry)) (now (numbers .entry)) g h) mode x (now (map .exit)) r (now (sets .entry)) (now (sets .exit)) lo hi ⌝ }
 {
     let mut last = of_letter(memo, x);
     let mut k = lo;
     while k < hi {
-        last = move_set(list, first, g, h, mode, map, last, sets, k);
+        last = move_set(targets, numbers, g, h, mode, x, map, last, sets, k);
         k += 1;
     }
     last

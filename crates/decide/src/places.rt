@@ -4,17 +4,21 @@ ghost use Prim.Native.Nat.{ℕ, _+_, _-_, _≤_, _<_};
 ghost use mathlib.Core.Path.{_≡_};
 ghost use mathlib.Core.Bool.{true};
 ghost use mathlib.Core.List.{List};
-ghost use lib.ListN.{length, getD};
+ghost use lib.ListN.{length};
 ghost use Rattle.stateset.specs.Set.{width, In};
 ghost use Rattle.fsbm.specs.Machine.{wellFormed};
 ghost use Rattle.fsbm.specs.Accepted.{accepted};
 ghost use Rattle.fsbm.specs.declared.config.Mode.the-variants.{Normal, Buffering, Emptying};
-ghost use Rattle.decide.specs.Graph.{Members, Fitting, Graph, graph, Good};
-ghost use Rattle.decide.specs.Reach.{Matches, LastSquare, Copied, Passed, Stage, Reach};
+ghost use Rattle.decide.specs.Graph.{Members, Fitting, Graph, graph, Good, KindsOf};
+ghost use Rattle.targets.specs.Targets.{Targets};
+ghost use Rattle.decide.specs.Reach.{LastSquare, Copied, Passed, Stage, Reach};
+ghost use Rattle.decide.specs.Squares.{Ends};
 use crate::images;
-use crate::rows;
+use crate::images::Kinds;
 use crate::squares;
 use crate::sweep;
+use crate::walks;
+use crate::walks::Tail;
 use fsbm::config::Mode;
 use fsbm::machine::Machine;
 
@@ -23,72 +27,99 @@ pub struct Reached {
     pub sets: [u64; 256],
     // What is left of the allowance for copies; 0 where it did not suffice, and then the sets are not complete.
     pub left: usize,
+    // The states reached at the end of the word, and whether one of them is final; 0 and no before that is known.
+    pub end: u64,
+    pub accepted: bool,
 }
 
-// Where the copy of the letters from i up to j ends: the states of s with which storing ends there turn to matching, and the rows
-// say where those letters lead from each.
-fn turned(h: u64, rows: &[u64; 64], word: &[u8], i: usize, j: usize, s: u64) -> u64
-    requires { ⌜ (i ≤ j) × (j + (j - i) ≤ length (now word)) ⌝ }
-    ensures { λ r. ⌜ Members r (λ q. Matches (now (word .entry)) i j × (In h q × ((p : ℕ) × In (getD (now (rows .entry)) q 0) p × (In s p × In h p)))) ⌝ }
+// What a copy takes of the allowance at the end of the letters that it has stored, from i up to j: one, and where it turns to
+// matching as many more as letters are read for the matching half. The last matching half was read up to place, from the states of
+// before.
+fn cost(i: usize, j: usize, ready: u64, before: u64, place: usize) -> usize
+    requires { ⌜ (i ≤ j) × (place ≤ j) × (j ≤ 255) ⌝ }
 {
-    let ends = stateset::intersection(s, h);
-    if ends == 0 {
-        return 0;
+    if ready == 0 {
+        return 1;
     }
-    if !squares::is_square(word, i, j) {
-        return 0;
+    if ready == before {
+        return j - place + 1;
     }
-    rows::gather(h, rows, ends)
+    j - i + 1
 }
 
 // Adds to the sets what the copies of at least one letter reach that begin at place i in the states of starts; last ends the first
-// half of the longest square there.
+// half of the longest square there. What is left of the allowance is returned, 0 where it does not suffice; where it cannot suffice
+// for the letters up to last nothing is begun.
+// Time: one step of a set for each letter up to last, and one for each letter that is read for a matching half. All matching halves
+// read the letters from i on: where the same states turn to matching as did last, the matching half goes on from where the last ended.
 fn copies_from(
-    list: &[u16],
-    first: &[u16; 65],
+    targets: &[u64],
+    numbers: &[u8; 256],
     g: u64,
     h: u64,
     word: &[u8],
+    ends: &mut [u8; 256],
     sets: &mut [u64; 256],
     i: usize,
     starts: u64,
     last: usize,
-)
-    requires { ⌜ Good (now list) (now first) × (i ≤ length (now word)) × (length (now word) ≤ 255) × Fitting 256 (now sets) × LastSquare (now word) i last ⌝ }
-    ensures { λ r. ⌜ Copied (graph (now (list .entry)) (now (first .entry)) g h) (now (word .entry)) i starts (now (sets .entry)) (now (sets .exit)) ⌝ }
+    left: usize,
+) -> usize
+    requires { ⌜ Good (now targets) (now numbers) × (i ≤ length (now word)) × (length (now word) ≤ 255) × Ends (now word) (now ends) (λ d. i + d) × Fitting 256 (now sets) × LastSquare (now word) i last ⌝ }
+    ensures { λ r. ⌜ Ends (now (word .entry)) (now (ends .exit)) (λ d. i + d) × Fitting 256 (now (sets .exit))
+        × (0 < r → Copied (graph (now (targets .entry)) (now (numbers .entry)) g h) (now (word .entry)) i starts (now (sets .entry)) (now (sets .exit))) ⌝ }
 {
-    let mut s = images::close_set(list, first, g, h, Mode::Buffering, starts);
-    let mut rows = rows::start_rows(list, first, g, h);
+    if left <= last - i {
+        return 0;
+    }
+    let mut s = images::close_set(targets, numbers, g, h, Mode::Buffering, starts);
+    let mut rest = left;
+    let mut tail = Tail {
+        ready: 0,
+        place: i,
+        reached: 0,
+    };
     let mut j = i;
     while j < last {
         if s == 0 {
-            return;
+            return rest;
         }
-        let x = word[j] as u16;
-        s = images::advance(list, first, g, h, Mode::Buffering, s, x);
-        rows = rows::step_rows(list, first, g, h, &rows, x);
+        let x = word[j];
+        s = images::advance(targets, numbers, g, h, Mode::Buffering, s, x);
         j += 1;
-        let e = j + (j - i);
-        sets[e] = stateset::union(sets[e], turned(h, &rows, word, i, j, s));
+        let ready = squares::turning(h, word, ends, i, j, s);
+        let taken = cost(i, j, ready, tail.ready, tail.place);
+        if rest <= taken {
+            return 0;
+        }
+        rest -= taken;
+        if ready != 0 {
+            tail = walks::tail_to(targets, numbers, g, h, word, i, j, ready, tail);
+            let e = j + (j - i);
+            sets[e] = stateset::union(sets[e], tail.reached);
+        }
     }
+    rest
 }
 
-// Completes the set of place i and adds what it reaches at later places. The copies that begin there cost the letters of the longest
-// square there, times the matching states and four more; what is left of the allowance is returned, 0 where it does not suffice.
+// Completes the set of place i and adds what it reaches at later places. What is left of the allowance for copies is returned, 0
+// where it does not suffice.
 fn pass_place(
-    list: &[u16],
-    first: &[u16; 65],
+    targets: &[u64],
+    numbers: &[u8; 256],
     g: u64,
     h: u64,
     word: &[u8],
+    ends: &mut [u8; 256],
     sets: &mut [u64; 256],
     i: usize,
     left: usize,
 ) -> usize
-    requires { ⌜ Good (now list) (now first) × (i ≤ length (now word)) × (length (now word) ≤ 255) × Fitting 256 (now sets) ⌝ }
-    ensures { λ r. ⌜ Fitting 256 (now (sets .exit)) × (0 < r → Passed (graph (now (list .entry)) (now (first .entry)) g h) (now (word .entry)) (now (sets .entry)) (now (sets .exit)) i) ⌝ }
+    requires { ⌜ Good (now targets) (now numbers) × (i ≤ length (now word)) × (length (now word) ≤ 255) × Ends (now word) (now ends) (λ d. i + d) × Fitting 256 (now sets) ⌝ }
+    ensures { λ r. ⌜ Ends (now (word .entry)) (now (ends .exit)) (λ d. i + d) × Fitting 256 (now (sets .exit))
+        × (0 < r → Passed (graph (now (targets .entry)) (now (numbers .entry)) g h) (now (word .entry)) (now (sets .entry)) (now (sets .exit)) i) ⌝ }
 {
-    let near = images::close_place(list, first, g, h, sets[i]);
+    let near = images::close_place(targets, numbers, g, h, sets[i]);
     sets[i] = near;
     if near == 0 {
         return left;
@@ -96,24 +127,31 @@ fn pass_place(
     if word.len() <= i {
         return left;
     }
-    let x = word[i] as u16;
-    let read = images::read_set(list, first, g, h, Mode::Normal, near, x);
+    let x = word[i];
+    let read = images::read_set(targets, numbers, g, h, Mode::Normal, near, x);
     let k = i + 1;
     sets[k] = stateset::union(sets[k], read);
     let starts = stateset::intersection(near, g);
     if starts == 0 {
         return left;
     }
-    let last = squares::last_square(word, i);
+    let last = squares::last_square(word, ends, i);
     if last <= i {
         return left;
     }
-    let cost = (last - i) * (stateset::size(h) as usize + 4);
-    if left <= cost {
-        return 0;
-    }
-    copies_from(list, first, g, h, word, sets, i, starts, last);
-    left - cost
+    copies_from(
+        targets,
+        numbers,
+        g,
+        h,
+        word,
+        ends,
+        sets,
+        i,
+        starts,
+        last,
+        left,
+    )
 }
 
 // The sets at the start of a word: the initial states at place 0.
@@ -125,31 +163,44 @@ fn start_at(initial: u64, left: usize) -> Reached
     Reached {
         sets: sets,
         left: left,
+        end: 0,
+        accepted: false,
     }
 }
 
 // The sets of all places of a word, from those at its start; left is 0 where the allowance does not suffice.
 fn reach_all(
-    list: &[u16],
-    first: &[u16; 65],
+    targets: &[u64],
+    numbers: &[u8; 256],
     g: u64,
     h: u64,
     word: &[u8],
     start: Reached,
 ) -> Reached
-    requires { ⌜ Good (now list) (now first) × (length (now word) ≤ 255) × Fitting 256 (start .sets) ⌝ }
-    ensures { λ r. ⌜ (0 < r .left → (q : ℕ) → Stage (graph (now (list .entry)) (now (first .entry)) g h) (now (word .entry)) q (start .sets) 0
-        → Stage (graph (now (list .entry)) (now (first .entry)) g h) (now (word .entry)) q (r .sets) (length (now (word .entry)) + 1)) ⌝ }
+    requires { ⌜ Good (now targets) (now numbers) × (length (now word) ≤ 255) × Fitting 256 (start .sets) ⌝ }
+    ensures { λ r. ⌜ (0 < r .left → (q : ℕ) → Stage (graph (now (targets .entry)) (now (numbers .entry)) g h) (now (word .entry)) q (start .sets) 0
+        → Stage (graph (now (targets .entry)) (now (numbers .entry)) g h) (now (word .entry)) q (r .sets) (length (now (word .entry)) + 1)) ⌝ }
 {
     let mut left = start.left;
     let mut r = start;
+    let mut ends: [u8; 256] = [0; 256];
     let mut i: usize = 0;
     while i <= word.len() {
         if left == 0 {
             r.left = 0;
             return r;
         }
-        left = pass_place(list, first, g, h, word, &mut r.sets, i, left);
+        left = pass_place(
+            targets,
+            numbers,
+            g,
+            h,
+            word,
+            &mut ends,
+            &mut r.sets,
+            i,
+            left,
+        );
         i += 1;
     }
     r.left = left;
@@ -158,35 +209,58 @@ fn reach_all(
 
 // The states reached at the end of a word in normal mode. Copies are first followed start by start, which is fast where few squares
 // are long; past an allowance the word is swept instead.
-fn reach_end(list: &[u16], first: &[u16; 65], g: u64, h: u64, word: &[u8], initial: u64) -> u64
-    requires { ⌜ Good (now list) (now first) × (length (now word) ≤ 255) ⌝ }
-    ensures { λ r. ⌜ Members r (Reach (graph (now (list .entry)) (now (first .entry)) g h) (now (word .entry)) initial (length (now (word .entry)))) ⌝ }
+fn reach_end(
+    targets: &[u64],
+    numbers: &[u8; 256],
+    g: u64,
+    h: u64,
+    word: &[u8],
+    initial: u64,
+) -> Reached
+    requires { ⌜ Good (now targets) (now numbers) × (length (now word) ≤ 255) ⌝ }
+    ensures { λ r. ⌜ Members (r .end) (Reach (graph (now (targets .entry)) (now (numbers .entry)) g h) (now (word .entry)) initial (length (now (word .entry)))) ⌝ }
 {
     let n = word.len();
-    let r = reach_all(list, first, g, h, word, start_at(initial, n * 16 + 1));
+    let mut r = reach_all(targets, numbers, g, h, word, start_at(initial, n * 4 + 1));
     if r.left == 0 {
-        return sweep::sweep(list, first, g, h, word, initial);
+        r.end = sweep::sweep(targets, numbers, g, h, word, initial, &mut r.sets);
+        return r;
     }
-    r.sets[n]
+    r.end = r.sets[n];
+    r
 }
 
 // Whether a machine accepts a word of at most 255 letters. The caller has tested that the record and its list obey the rules of a
-// table, and the word's length: this is a seam between crates.
-// Time: for a word of n letters one step of a set through the transitions of one letter for each place. Copies are followed start by
-// start, for each letter of the longest square from a start one such step of the states that store and one of the matching states,
-// within an allowance of 16 n, of which a letter takes the matching states and four more. Past it the word is swept: for each place
-// each state is looked up once for each mode, and each copy in work (at most n²/2 in all) takes a union of at most 64 sets, none
-// where the copy before it is in the same states. Finding the squares compares at most n³/24 letters start by start, n² in the sweep.
-// Memory: the 256 sets (2 KB) and two lists of 64; the sweep has its own 256 sets, two lists of 64 and 256 bytes.
-pub fn is_accepted(m: Machine, list: &[u16], word: &[u8]) -> bool
-    requires { ⌜ (wellFormed m (now list) ≡ true) × (length (now word) ≤ 255) ⌝ }
-    ensures { λ r. ⌜ r ≡ accepted m (now (list .entry)) (now (word .entry)) ⌝ }
+// table, and the word's length, and has filled the table for the letters of the word: this is a seam between crates. The list is not
+// read; it stands here for what the answer is about. Beside the answer it hands back the states that runs reach at each place of the
+// word in normal mode, for a search that checks what it takes from them: nothing is promised of them.
+// Time: for a word of n letters one step of a set for each place, which looks up each of its states. Copies are followed start by
+// start, one such step for each letter of the longest square from a start, and for each square with which storing ends one for each
+// letter of its matching half, those not counted again that the square before it has read from the same states, within an allowance
+// of 4 n such steps. Past it the word is swept: for each place each state is looked up once for each mode, and each copy in work (at
+// most n²/2 in all) takes a union of at most 64 sets, none where the copy before it is in the same states. Finding the squares
+// compares at most n² letters in all.
+// Memory: the 256 sets (2 KB) and 256 bytes; the sweep has its own of both, and two lists of 64 sets.
+pub fn decide(
+    m: Machine,
+    list: &[u16],
+    targets: &[u64],
+    numbers: &[u8; 256],
+    kinds: Kinds,
+    word: &[u8],
+) -> Reached
+    requires { ⌜ (wellFormed m (now list) ≡ true) × (length (now word) ≤ 255) × Targets m (now list) (now word) (now numbers) (now targets) × KindsOf (m .marks) (m .states) kinds ⌝ }
+    ensures { λ r. ⌜ r .accepted ≡ accepted m (now (list .entry)) (now (word .entry)) ⌝ }
 {
-    let initial = images::states_with(&m.marks, m.states, 0);
-    let finals = images::states_with(&m.marks, m.states, 1);
-    let g = images::states_with(&m.marks, m.states, 2);
-    let h = images::states_with(&m.marks, m.states, 3);
-    let a = adjacency::index(m, list);
-    let ended = reach_end(list, &a.first, g, h, word, initial);
-    stateset::intersection(ended, finals) != 0
+    let mut r = reach_end(
+        targets,
+        numbers,
+        kinds.buffering,
+        kinds.matching,
+        word,
+        kinds.initial,
+    );
+    let shared = stateset::intersection(r.end, kinds.finals);
+    r.accepted = shared != 0;
+    r
 }

@@ -4,36 +4,22 @@ ghost use mathlib.Core.Path.{_≡_};
 ghost use lib.ListN.{length};
 ghost use Rattle.decide.specs.Graph.{Members, Fitting, graph, Good};
 ghost use Rattle.decide.specs.Reach.{Reach};
-ghost use Rattle.decide.specs.Sweep.{Ends, Turning, Turned, Started};
+ghost use Rattle.decide.specs.Squares.{Ends};
+ghost use Rattle.decide.specs.Sweep.{Turned, Started};
 use crate::images;
 use crate::maps;
 use crate::squares;
 use fsbm::config::Mode;
 
-// The states of s with which storing ends at j, where the letters from i up to j stand once more from j on.
-fn turning(h: u64, word: &[u8], ends: &mut [u8; 256], i: usize, j: usize, s: u64) -> u64
-    requires { ⌜ (i ≤ j) × (j + (j - i) ≤ length (now word)) × (length (now word) ≤ 255) × Ends (now word) (now ends) j ⌝ }
-    ensures { λ r. ⌜ Turning h (now (word .entry)) (now (ends .exit)) i j s r ⌝ }
-{
-    let ready = stateset::intersection(s, h);
-    if ready == 0 {
-        return 0;
-    }
-    if squares::is_known_square(word, ends, i, j) {
-        return ready;
-    }
-    0
-}
-
 // Adds the copies that began at lo or later and store the letters up to j to those that match, each at the place where it will end.
 fn turn_all(h: u64, word: &[u8], ends: &mut [u8; 256], sets: &mut [u64; 256], lo: usize, j: usize)
-    requires { ⌜ (lo ≤ j) × (j + (j - lo) ≤ length (now word)) × (length (now word) ≤ 255) × Ends (now word) (now ends) j × Fitting 256 (now sets) ⌝ }
+    requires { ⌜ (lo ≤ j) × (j + (j - lo) ≤ length (now word)) × (length (now word) ≤ 255) × Ends (now word) (now ends) (λ d. j) × Fitting 256 (now sets) ⌝ }
     ensures { λ r. ⌜ Turned h (now (word .entry)) (now (ends .exit)) (now (sets .entry)) (now (sets .exit)) lo j ⌝ }
 {
     let mut i = lo;
     while i < j {
         let e = j + (j - i);
-        let more = turning(h, word, ends, i, j, sets[i]);
+        let more = squares::turning(h, word, ends, i, j, sets[i]);
         sets[e] = stateset::union(sets[e], more);
         i += 1;
     }
@@ -50,32 +36,42 @@ fn first_start(n: usize, j: usize) -> usize
     j + j - n
 }
 
-// Completes the set of place i, leaves there the states with which a copy begins, and returns those that the letter at i leads to
-// in normal mode.
+// Completes the set of place i, which complete keeps, leaves in sets the states with which a copy begins, and returns those that the
+// letter at i leads to in normal mode.
 fn start_copies(
-    list: &[u16],
-    first: &[u16; 65],
+    targets: &[u64],
+    numbers: &[u8; 256],
     g: u64,
     h: u64,
     word: &[u8],
     sets: &mut [u64; 256],
+    complete: &mut [u64; 256],
     i: usize,
 ) -> u64
-    requires { ⌜ Good (now list) (now first) × (i < length (now word)) × (length (now word) ≤ 255) × Fitting 256 (now sets) ⌝ }
-    ensures { λ r. ⌜ Started (graph (now (list .entry)) (now (first .entry)) g h) (now (word .entry)) (now (sets .entry)) (now (sets .exit)) i r ⌝ }
+    requires { ⌜ Good (now targets) (now numbers) × (i < length (now word)) × (length (now word) ≤ 255) × Fitting 256 (now sets) ⌝ }
+    ensures { λ r. ⌜ Started (graph (now (targets .entry)) (now (numbers .entry)) g h) (now (word .entry)) (now (sets .entry)) (now (sets .exit)) i r ⌝ }
 {
-    let near = images::close_place(list, first, g, h, sets[i]);
+    let near = images::close_place(targets, numbers, g, h, sets[i]);
+    complete[i] = near;
     sets[i] = stateset::intersection(near, g);
-    let x = word[i] as u16;
-    images::read_set(list, first, g, h, Mode::Normal, near, x)
+    images::read_set(targets, numbers, g, h, Mode::Normal, near, word[i])
 }
 
 // The states reached at the end of a word in normal mode from the set initial at its start. At each position sets has the states in
 // normal mode there; behind it, at the place where they began, the states of the copies that store; ahead of it, at the place where
-// they will end, the states of the copies that match.
-pub fn sweep(list: &[u16], first: &[u16; 65], g: u64, h: u64, word: &[u8], initial: u64) -> u64
-    requires { ⌜ Good (now list) (now first) × (length (now word) ≤ 255) ⌝ }
-    ensures { λ r. ⌜ Members r (Reach (graph (now (list .entry)) (now (first .entry)) g h) (now (word .entry)) initial (length (now (word .entry)))) ⌝ }
+// they will end, the states of the copies that match. The states reached at each place in normal mode are left in complete; nothing is
+// promised of them.
+pub fn sweep(
+    targets: &[u64],
+    numbers: &[u8; 256],
+    g: u64,
+    h: u64,
+    word: &[u8],
+    initial: u64,
+    complete: &mut [u64; 256],
+) -> u64
+    requires { ⌜ Good (now targets) (now numbers) × (length (now word) ≤ 255) ⌝ }
+    ensures { λ r. ⌜ Members r (Reach (graph (now (targets .entry)) (now (numbers .entry)) g h) (now (word .entry)) initial (length (now (word .entry)))) ⌝ }
 {
     let n = word.len();
     let mut sets: [u64; 256] = [0; 256];
@@ -87,13 +83,13 @@ pub fn sweep(list: &[u16], first: &[u16; 65], g: u64, h: u64, word: &[u8], initi
     sets[0] = initial;
     let mut i: usize = 0;
     while i < n {
-        let x = word[i] as u16;
-        let read = start_copies(list, first, g, h, word, &mut sets, i);
+        let x = word[i];
+        let read = start_copies(targets, numbers, g, h, word, &mut sets, complete, i);
         let j = i + 1;
         let lo = first_start(n, j);
         stored = maps::move_on(
-            list,
-            first,
+            targets,
+            numbers,
             g,
             h,
             Mode::Buffering,
@@ -105,8 +101,8 @@ pub fn sweep(list: &[u16], first: &[u16; 65], g: u64, h: u64, word: &[u8], initi
             j,
         );
         matched = maps::move_on(
-            list,
-            first,
+            targets,
+            numbers,
             g,
             h,
             Mode::Emptying,
@@ -121,5 +117,7 @@ pub fn sweep(list: &[u16], first: &[u16; 65], g: u64, h: u64, word: &[u8], initi
         turn_all(h, word, &mut ends, &mut sets, lo, j);
         i = j;
     }
-    images::close_place(list, first, g, h, sets[n])
+    let end = images::close_place(targets, numbers, g, h, sets[n]);
+    complete[n] = end;
+    end
 }

@@ -3,3 +3,5 @@ pub mod Answers
 pub mod Machine
 pub mod Moves
 pub mod Published
+pub mod Rules
+pub mod Taken

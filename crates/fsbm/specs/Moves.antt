@@ -1,4 +1,5 @@
--- How a run moves (document 01): one entry takes a configuration to the next, or is not allowed.
+-- How a run moves (document 01): one entry takes a configuration to the next, or is not allowed. The laws stand in
+-- specs/Moves/Laws.antt.
 --
 -- wellPlaced states n c   == c is a configuration that a move is allowed from, on a word of n letters
 -- readsLetter w p e x    == x is epsilon, or the letter of w at p, with p before e
@@ -18,6 +19,7 @@ use Rattle.fsbm.specs.declared.config.Config.{Config}
 use Rattle.fsbm.specs.declared.config.Move.{Move}
 use Rattle.fsbm.specs.declared.config.Mode.{Mode}
 use Rattle.fsbm.specs.declared.config.Mode.the-variants.{Normal, Buffering, Emptying}
+pub mod Laws
 
 -- the entries that change the mode: begin storing, begin matching, back to normal
 abbrev pub beginBuffering : ℕ

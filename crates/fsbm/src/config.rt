@@ -1,12 +1,13 @@
 // Configurations, and the move that one entry of a run makes.
-ghost use Prim.Native.Nat.{ℕ, _+_, _<_, _^_};
+ghost use Prim.Native.Nat.{_+_, _<_, _≤_, _^_};
 ghost use mathlib.Core.Path.{_≡_};
-ghost use mathlib.Core.Bool.{true, false};
-ghost use lib.ListN.{length};
+ghost use mathlib.Core.Bool.{false, not, _&&_};
+ghost use Rattle.fsbm.specs.Machine.{buffering};
 ghost use Rattle.fsbm.specs.declared.machine.Machine.{Machine};
 ghost use Rattle.fsbm.specs.declared.config.Mode.the-variants.{Normal, Buffering, Emptying};
 ghost use Rattle.fsbm.specs.Answers.{stepAnswer};
-ghost use Rattle.fsbm.specs.Moves.{wellPlaced, bufferFits, readsLetter, advanced, goes, takes, changes, move, startAt, accepts};
+ghost use Rattle.fsbm.specs.Moves.{wellPlaced, bufferFits, readsLetter, advanced, goes, changes, move, startAt, accepts};
+ghost use Rattle.fsbm.specs.Taken.{passes, readsStored, mayTake, after};
 use crate::answer;
 use crate::answer::Refusal;
 use crate::answer::Stepped;
@@ -63,6 +64,28 @@ fn advance(p: usize, x: u16) -> usize
         return p;
     }
     p + 1
+}
+
+// Whether neither both ends of a transition are matching nor the state q is buffering.
+fn is_open(both: bool, marks: &[u8; 64], q: usize) -> bool
+    ensures { λ r. ⌜ r ≡ (not both && not (buffering (now (marks .entry)) q)) ⌝ }
+{
+    if both {
+        return false;
+    }
+    !machine::is_buffering(marks, q)
+}
+
+// Whether the marks at its ends let a transition be taken in a mode.
+fn passes(mode: Mode, marks: &[u8; 64], t: Transition) -> bool
+    ensures { λ r. ⌜ r ≡ passes (now (marks .entry)) t mode ⌝ }
+{
+    let both = machine::both_matching(marks, t);
+    match mode {
+        Mode::Normal => is_open(both, marks, t.from as usize),
+        Mode::Buffering => is_open(both, marks, t.to as usize),
+        Mode::Emptying => both,
+    }
 }
 
 impl Config {
@@ -139,74 +162,57 @@ impl Config {
         }
     }
 
-    // A transition from this state taken in normal mode.
-    fn take_normal(self, marks: &[u8; 64], word: &[u8], t: Transition) -> Move
-        ensures { λ r. ⌜ r ≡ takes (now (marks .entry)) (now (word .entry)) self t Normal ⌝ }
+    // Whether a transition's letter is the next one of the buffer, in emptying mode; in the other modes the buffer is not read.
+    fn reads_stored(self, word: &[u8], t: Transition) -> bool
+        ensures { λ r. ⌜ r ≡ readsStored (now (word .entry)) self t (self .mode) ⌝ }
     {
-        if machine::both_matching(marks, t) {
-            return self.stay();
+        let mode = self.mode;
+        match mode {
+            Mode::Normal => true,
+            Mode::Buffering => true,
+            Mode::Emptying => reads_letter(word, self.start, self.end, t.letter),
         }
-        if machine::is_buffering(marks, t.from as usize) {
-            return self.stay();
+    }
+
+    // Whether a transition leaves this state and may be taken here.
+    pub fn may_take(self, marks: &[u8; 64], word: &[u8], t: Transition) -> bool
+        ensures { λ r. ⌜ r ≡ mayTake (now (marks .entry)) (now (word .entry)) self t ⌝ }
+    {
+        if t.from as usize != self.state {
+            return false;
+        }
+        let mode = self.mode;
+        if !passes(mode, marks, t) {
+            return false;
         }
         if !reads_letter(word, self.position, word.len(), t.letter) {
-            return self.stay();
+            return false;
         }
-        Move {
-            allowed: true,
-            config: Config {
+        self.reads_stored(word, t)
+    }
+
+    // The configuration after a transition is taken here.
+    pub fn after(self, t: Transition) -> Config
+        requires { ⌜ (self .position + 1 < 2 ^ 64) × (self .start ≤ self .end) × (self .end ≤ self .position) ⌝ }
+        ensures { λ r. ⌜ r ≡ after self t (self .mode) ⌝ }
+    {
+        let mode = self.mode;
+        match mode {
+            Mode::Normal => Config {
                 position: advance(self.position, t.letter),
                 state: t.to as usize,
                 mode: Mode::Normal,
                 start: self.start,
                 end: self.end,
             },
-        }
-    }
-
-    // A transition from this state taken in buffering mode; the buffer ends at the position.
-    fn take_buffering(self, marks: &[u8; 64], word: &[u8], t: Transition) -> Move
-        requires { ⌜ self .end ≡ self .position ⌝ }
-        ensures { λ r. ⌜ r ≡ takes (now (marks .entry)) (now (word .entry)) self t Buffering ⌝ }
-    {
-        if machine::both_matching(marks, t) {
-            return self.stay();
-        }
-        if machine::is_buffering(marks, t.to as usize) {
-            return self.stay();
-        }
-        if !reads_letter(word, self.position, word.len(), t.letter) {
-            return self.stay();
-        }
-        let next = advance(self.position, t.letter);
-        Move {
-            allowed: true,
-            config: Config {
-                position: next,
+            Mode::Buffering => Config {
+                position: advance(self.position, t.letter),
                 state: t.to as usize,
                 mode: Mode::Buffering,
                 start: self.start,
-                end: next,
+                end: advance(self.end, t.letter),
             },
-        }
-    }
-
-    // A transition from this state taken in emptying mode.
-    fn take_emptying(self, marks: &[u8; 64], word: &[u8], t: Transition) -> Move
-        ensures { λ r. ⌜ r ≡ takes (now (marks .entry)) (now (word .entry)) self t Emptying ⌝ }
-    {
-        if !machine::both_matching(marks, t) {
-            return self.stay();
-        }
-        if !reads_letter(word, self.position, word.len(), t.letter) {
-            return self.stay();
-        }
-        if !reads_letter(word, self.start, self.end, t.letter) {
-            return self.stay();
-        }
-        Move {
-            allowed: true,
-            config: Config {
+            Mode::Emptying => Config {
                 position: advance(self.position, t.letter),
                 state: t.to as usize,
                 mode: Mode::Emptying,
@@ -216,21 +222,8 @@ impl Config {
         }
     }
 
-    // A transition from this state, by the mode.
-    fn take(self, marks: &[u8; 64], word: &[u8], t: Transition) -> Move
-        requires { ⌜ bufferFits self (self .mode) ≡ true ⌝ }
-        ensures { λ r. ⌜ r ≡ takes (now (marks .entry)) (now (word .entry)) self t (self .mode) ⌝ }
-    {
-        let mode = self.mode;
-        match mode {
-            Mode::Normal => self.take_normal(marks, word, t),
-            Mode::Buffering => self.take_buffering(marks, word, t),
-            Mode::Emptying => self.take_emptying(marks, word, t),
-        }
-    }
-
     // An entry that changes the mode.
-    fn change_mode(self, marks: &[u8; 64], entry: u16) -> Move
+    pub fn change_mode(self, marks: &[u8; 64], entry: u16) -> Move
         ensures { λ r. ⌜ r ≡ changes (now (marks .entry)) self entry (self .mode) ⌝ }
     {
         let mode = self.mode;
@@ -331,10 +324,13 @@ impl Config {
             return self.change_mode(marks, entry);
         }
         let t = machine::transition_at(list, k);
-        if t.from as usize != self.state {
+        if !self.may_take(marks, word, t) {
             return self.stay();
         }
-        self.take(marks, word, t)
+        Move {
+            allowed: true,
+            config: self.after(t),
+        }
     }
 
     // The public call for one entry: the next configuration, or that the move is not allowed. It refuses 16 (the record and its

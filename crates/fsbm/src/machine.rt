@@ -164,7 +164,7 @@ fn rank(t: Transition) -> u64
 }
 
 // Transition number k of a lent list that has it.
-fn present_transition(list: &[u16], k: usize) -> Transition
+pub fn present_transition(list: &[u16], k: usize) -> Transition
     requires { ⌜ k * 3 + 3 ≤ length (now list) ⌝ }
     ensures { λ r. ⌜ r ≡ transitionAt (now (list .entry)) k ⌝ }
 {

@@ -1,3 +1,4 @@
+pub mod Bools
 pub mod Search
 pub mod Counting
 pub mod Paths

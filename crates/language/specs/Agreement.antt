@@ -3,7 +3,6 @@
 -- published w c          == the published configuration of c: the rest of the word, the state, the buffer as a string, the mode
 -- MovesTo m list w c D   == some entry takes c to a configuration whose published one is D
 -- move-yields            == an allowed move is a published one
--- move-placed            == an allowed move of a well-formed machine leads to a configuration that a move is allowed from
 -- yields-move            == a published move from such a configuration is the move of some entry
 -- run-path               == a published run is a path of some number of moves
 -- path-run               == such a path of n moves from a start to an end is an accepting run of n + 1 entries, each below 65536
@@ -23,6 +22,7 @@ use Rattle.graphs.specs.Search.Laws.{and-true, and-both-true}
 use Rattle.graphs.specs.Paths.{Path, here, step}
 use Rattle.fsbm.specs.Machine.{wellFormed, transitionAt, initial, final, buffering, matching, bothMatching}
 use Rattle.fsbm.specs.Moves.{wellPlaced, readsLetter, advanced, goes, takes, changes, move, startAt, isNormal, accepts, acceptingFrom, accepting, beginBuffering, beginEmptying, backToNormal}
+use Rattle.fsbm.specs.Moves.Laws.{start-placed, move-stays}
 use Rattle.fsbm.specs.Published.{FSBM, Listed, fsbmOf, Configuration, config, symbol, Yields, normal, buffer, empty, begin-buffering, begin-emptying, back-to-normal, Run, done, InLanguage}
 use Rattle.fsbm.specs.declared.machine.Machine.{Machine}
 use Rattle.fsbm.specs.declared.machine.Transition.{Transition}
@@ -30,9 +30,9 @@ use Rattle.fsbm.specs.declared.config.Config.{Config}
 use Rattle.fsbm.specs.declared.config.Move.{Move}
 use Rattle.fsbm.specs.declared.config.Mode.{Mode}
 use Rattle.fsbm.specs.declared.config.Mode.the-variants.{Normal, Buffering, Emptying}
-use Rattle.language.specs.Bools.{cond-elim, not-says, says-not, not-and-says, says-not-and}
-use Rattle.language.specs.Rules.{Rules, rules, Placed, placed, unplaced}
-use Rattle.language.specs.Strings.{reads-slice, slice-reads, reads-drop, drop-reads, slice-grows, advanced-fits, slice-none}
+use Rattle.graphs.specs.Bools.{cond-elim, not-says, says-not, not-and-says, says-not-and}
+use Rattle.fsbm.specs.Rules.{Rules, rules, Placed, placed, unplaced}
+use Rattle.language.specs.Strings.{reads-slice, slice-reads, reads-drop, drop-reads, slice-grows, slice-none}
 
 abbrev pub published : List ℕ → Config → Configuration
 published w c = config (drop (c .position) w) (c .state) (slice (c .start) (c .end) w) (c .mode)
@@ -42,14 +42,9 @@ same-config a b c d = λ i. record { input = a i; state = b i; buffer = c i; mod
 
 -- From moves to the published definition
 
--- what a move from c in mode t to c′ amounts to
-record Step (m : Machine) (list w : List ℕ) (c : Config) (t : Mode) (c′ : Config) : Type 0 where
-  yields : Yields (fsbmOf m list) (config (drop (c .position) w) (c .state) (slice (c .start) (c .end) w) t) (published w c′)
-  stays : Rules m list → Placed m w c′ (c′ .mode)
-
--- a listed transition leads to a state that is there
-listed-to : {m : Machine} {list : List ℕ} {p x q : ℕ} → Rules m list → Listed list (m .transitions) p x q → q < m .states
-listed-to r d = let lt = r .to-below (d .number) (d .listed) in let e = d .to in omega arith
+-- a published move from c in mode t to the published configuration of c′
+abbrev Step : Machine → List ℕ → List ℕ → Config → Mode → Config → Type 0
+Step m list w c t c′ = Yields (fsbmOf m list) (config (drop (c .position) w) (c .state) (slice (c .start) (c .end) w) t) (published w c′)
 
 module _ (m : Machine) (list w : List ℕ) where
   goes-step : (c : Config) (t : Mode) (ok : Bool) (next : Config) → (ok ≡ true → Step m list w c t next) → ok ≡ true → Step m list w c t (cond ok next c)
@@ -67,20 +62,10 @@ module _ (m : Machine) (list w : List ℕ) where
           let (apart, r) = and-true (not (bothMatching (m .marks) tr)) (not (buffering (m .marks) (tr .from)) && readsLetter w (c .position) (length w) (tr .letter)) h in
           let (not-from, reads) = and-true (not (buffering (m .marks) (tr .from))) (readsLetter w (c .position) (length w) (tr .letter)) r in
           let none : slice (c .start) (c .end) w ≡ [] = ap (λ (n : ℕ). slice n (c .end) w) (eqb-true (c .start) (c .end) (p .fits)) ∙ slice-empty (c .end) w in
-          let (on, inside) = advanced-fits w (c .position) (length w) (tr .letter) (p .in-word) reads in
-          record {
-            yields = subst₂ (Yields (fsbmOf m list))
-                (same-config (sym (reads-drop w (c .position) (tr .letter) reads)) same (sym none) refl)
-                (same-config refl refl (sym none) refl)
-                (normal δ (not-and-says (matching (m .marks) (tr .from)) (matching (m .marks) (tr .to)) apart) (not-says (buffering (m .marks) (tr .from)) not-from));
-            stays = λ r. record {
-              in-word = inside;
-              state-below = listed-to r δ;
-              forward = p .forward;
-              behind = omega (arith, p .behind);
-              fits = p .fits;
-            };
-          }
+          subst₂ (Yields (fsbmOf m list))
+          (same-config (sym (reads-drop w (c .position) (tr .letter) reads)) same (sym none) refl)
+          (same-config refl refl (sym none) refl)
+          (normal δ (not-and-says (matching (m .marks) (tr .from)) (matching (m .marks) (tr .to)) apart) (not-says (buffering (m .marks) (tr .from)) not-from))
   takes-step c tr Buffering p δ same = goes-step c Buffering _ _ step
     where
       step : (not (bothMatching (m .marks) tr) && (not (buffering (m .marks) (tr .to)) && readsLetter w (c .position) (length w) (tr .letter))) ≡ true
@@ -90,21 +75,10 @@ module _ (m : Machine) (list w : List ℕ) where
           let (not-to, reads) = and-true (not (buffering (m .marks) (tr .to))) (readsLetter w (c .position) (length w) (tr .letter)) r in
           let ends : c .end ≡ c .position = eqb-true (c .end) (c .position) (p .fits) in
           let reads-end : readsLetter w (c .end) (length w) (tr .letter) ≡ true = subst (λ (n : ℕ). readsLetter w n (length w) (tr .letter) ≡ true) (sym ends) reads in
-          let (on, inside) = advanced-fits w (c .position) (length w) (tr .letter) (p .in-word) reads in
-          let next : advanced (c .end) (tr .letter) ≡ advanced (c .position) (tr .letter) = ap (λ (n : ℕ). advanced n (tr .letter)) ends in
-          record {
-            yields = subst₂ (Yields (fsbmOf m list))
-                (same-config (sym (reads-drop w (c .position) (tr .letter) reads)) same refl refl)
-                (same-config refl refl (sym (slice-grows w (c .start) (c .end) (tr .letter) (p .forward) reads-end)) refl)
-                (buffer δ (not-and-says (matching (m .marks) (tr .from)) (matching (m .marks) (tr .to)) apart) (not-says (buffering (m .marks) (tr .to)) not-to));
-            stays = λ r. record {
-              in-word = inside;
-              state-below = listed-to r δ;
-              forward = omega (arith, p .forward);
-              behind = omega arith;
-              fits = eq-eqb (advanced (c .end) (tr .letter)) (advanced (c .position) (tr .letter)) next;
-            };
-          }
+          subst₂ (Yields (fsbmOf m list))
+          (same-config (sym (reads-drop w (c .position) (tr .letter) reads)) same refl refl)
+          (same-config refl refl (sym (slice-grows w (c .start) (c .end) (tr .letter) (p .forward) reads-end)) refl)
+          (buffer δ (not-and-says (matching (m .marks) (tr .from)) (matching (m .marks) (tr .to)) apart) (not-says (buffering (m .marks) (tr .to)) not-to))
   takes-step c tr Emptying p δ same = goes-step c Emptying _ _ step
     where
       step : (bothMatching (m .marks) tr && (readsLetter w (c .position) (length w) (tr .letter) && readsLetter w (c .start) (c .end) (tr .letter))) ≡ true
@@ -113,26 +87,15 @@ module _ (m : Machine) (list w : List ℕ) where
           let (both, r) = and-true (bothMatching (m .marks) tr) (readsLetter w (c .position) (length w) (tr .letter) && readsLetter w (c .start) (c .end) (tr .letter)) h in
           let (reads, matches) = and-true (readsLetter w (c .position) (length w) (tr .letter)) (readsLetter w (c .start) (c .end) (tr .letter)) r in
           let (from, to) = and-true (matching (m .marks) (tr .from)) (matching (m .marks) (tr .to)) both in
-          let (on, inside) = advanced-fits w (c .position) (length w) (tr .letter) (p .in-word) reads in
-          let (on₂, inside₂) = advanced-fits w (c .start) (c .end) (tr .letter) (p .forward) matches in
-          record {
-            yields = subst₂ (Yields (fsbmOf m list))
-                (same-config (sym (reads-drop w (c .position) (tr .letter) reads)) same
-                (sym (reads-slice w (c .start) (c .end) (tr .letter) (omega (arith, p .behind, p .in-word)) matches)) refl)
-                refl
-                (empty δ from to);
-            stays = λ r. record {
-              in-word = inside;
-              state-below = listed-to r δ;
-              forward = inside₂;
-              behind = omega (arith, p .behind);
-              fits = refl;
-            };
-          }
+          subst₂ (Yields (fsbmOf m list))
+          (same-config (sym (reads-drop w (c .position) (tr .letter) reads)) same
+          (sym (reads-slice w (c .start) (c .end) (tr .letter) (omega (arith, p .behind, p .in-word)) matches)) refl)
+          refl
+          (empty δ from to)
 
-  changes-step : (c : Config) (e : ℕ) (t : Mode) → Placed m w c t → changes (m .marks) c e t .allowed ≡ true → Step m list w c t (changes (m .marks) c e t .config)
+  changes-step : (c : Config) (e : ℕ) (t : Mode) → changes (m .marks) c e t .allowed ≡ true → Step m list w c t (changes (m .marks) c e t .config)
   unfolding changes
-  changes-step c e Normal p = goes-step c Normal _ _ step
+  changes-step c e Normal = goes-step c Normal _ _ step
     where
       step : (eqb e beginBuffering && (buffering (m .marks) (c .state) && eqb (c .start) (c .end))) ≡ true
           → Step m list w c Normal (record { position = c .position; state = c .state; mode = Buffering; start = c .position; end = c .position })
@@ -140,27 +103,15 @@ module _ (m : Machine) (list w : List ℕ) where
           let (entry, r) = and-true (eqb e beginBuffering) (buffering (m .marks) (c .state) && eqb (c .start) (c .end)) h in
           let (is, equal) = and-true (buffering (m .marks) (c .state)) (eqb (c .start) (c .end)) r in
           let none : slice (c .start) (c .end) w ≡ [] = ap (λ (n : ℕ). slice n (c .end) w) (eqb-true (c .start) (c .end) equal) ∙ slice-empty (c .end) w in
-          record {
-            yields = subst₂ (Yields (fsbmOf m list)) (same-config refl refl (sym none) refl) (same-config refl refl (sym (slice-empty (c .position) w)) refl) (begin-buffering is);
-            stays = λ r. record {
-              in-word = p .in-word;
-              state-below = p .state-below;
-              forward = omega arith;
-              behind = omega arith;
-              fits = eq-eqb (c .position) (c .position) refl;
-            };
-          }
-  changes-step c e Buffering p = goes-step c Buffering _ _ step
+          subst₂ (Yields (fsbmOf m list)) (same-config refl refl (sym none) refl) (same-config refl refl (sym (slice-empty (c .position) w)) refl) (begin-buffering is)
+  changes-step c e Buffering = goes-step c Buffering _ _ step
     where
       step : (eqb e beginEmptying && matching (m .marks) (c .state)) ≡ true
           → Step m list w c Buffering (record { position = c .position; state = c .state; mode = Emptying; start = c .start; end = c .end })
       step h =
           let (entry, is) = and-true (eqb e beginEmptying) (matching (m .marks) (c .state)) h in
-          record {
-            yields = begin-emptying is;
-            stays = λ r. record { in-word = p .in-word; state-below = p .state-below; forward = p .forward; behind = p .behind; fits = refl };
-          }
-  changes-step c e Emptying p = goes-step c Emptying _ _ step
+          begin-emptying is
+  changes-step c e Emptying = goes-step c Emptying _ _ step
     where
       step : (eqb e backToNormal && (matching (m .marks) (c .state) && eqb (c .start) (c .end))) ≡ true
           → Step m list w c Emptying (record { position = c .position; state = c .state; mode = Normal; start = c .start; end = c .end })
@@ -168,14 +119,11 @@ module _ (m : Machine) (list w : List ℕ) where
           let (entry, r) = and-true (eqb e backToNormal) (matching (m .marks) (c .state) && eqb (c .start) (c .end)) h in
           let (is, equal) = and-true (matching (m .marks) (c .state)) (eqb (c .start) (c .end)) r in
           let none : slice (c .start) (c .end) w ≡ [] = ap (λ (n : ℕ). slice n (c .end) w) (eqb-true (c .start) (c .end) equal) ∙ slice-empty (c .end) w in
-          record {
-            yields = subst₂ (Yields (fsbmOf m list)) (same-config refl refl (sym none) refl) (same-config refl refl (sym none) refl) (back-to-normal is);
-            stays = λ r. record { in-word = p .in-word; state-below = p .state-below; forward = p .forward; behind = p .behind; fits = equal };
-          }
+          subst₂ (Yields (fsbmOf m list)) (same-config refl refl (sym none) refl) (same-config refl refl (sym none) refl) (back-to-normal is)
 
-  move-step : (c : Config) (e : ℕ) → move m list w c e .allowed ≡ true → Step m list w c (c .mode) (move m list w c e .config)
+  pub move-yields : (c : Config) (e : ℕ) → move m list w c e .allowed ≡ true → Yields (fsbmOf m list) (published w c) (published w (move m list w c e .config))
   unfolding move
-  move-step c e =
+  move-yields c e =
       cond-elim Good (wellPlaced (m .states) (length w) c) _ (goes false c c)
       (λ p. cond-elim Good (ltb e (m .transitions)) _ (changes (m .marks) c e (c .mode))
       (λ lt. cond-elim Good (eqb (transitionAt list e .from) (c .state)) (takes (m .marks) w c (transitionAt list e) (c .mode)) (goes false c c)
@@ -183,17 +131,11 @@ module _ (m : Machine) (list w : List ℕ) where
       (record { number = e; listed = ltb-true e (m .transitions) lt; from = refl; letter = refl; to = refl })
       (eqb-true (transitionAt list e .from) (c .state) same))
       (λ f h. absurd (false≢true h)))
-      (λ ge. changes-step c e (c .mode) (placed m w c p)))
+      (λ ge. changes-step c e (c .mode)))
       (λ f h. absurd (false≢true h))
     where
       Good : Move → Type 0
       Good v = v .allowed ≡ true → Step m list w c (c .mode) (v .config)
-
-  pub move-yields : (c : Config) (e : ℕ) → move m list w c e .allowed ≡ true → Yields (fsbmOf m list) (published w c) (published w (move m list w c e .config))
-  move-yields c e h = move-step c e h .yields
-
-  pub move-placed : wellFormed m list ≡ true → (c : Config) (e : ℕ) → move m list w c e .allowed ≡ true → wellPlaced (m .states) (length w) (move m list w c e .config) ≡ true
-  move-placed good c e h = unplaced m w (move m list w c e .config) (move-step c e h .stays (rules m list good))
 
 -- From the published definition to moves
 
@@ -366,9 +308,6 @@ module _ (m : Machine) (list w : List ℕ) where
       record { first = q; last = last; first-initial = (ltb-true q (m .states) lt, i); last-final = f; run = run }
 
   module _ (r : Rules m list) where
-    start-placed : (q : ℕ) → q < m .states → Placed m w (startAt q) Normal
-    start-placed q lt = record { in-word = omega arith; state-below = lt; forward = omega arith; behind = omega arith; fits = refl }
-
     path-entries : {D D′ : Configuration} {n : ℕ} → Path Configuration (Yields (fsbmOf m list)) D D′ n → (c : Config) → Placed m w c (c .mode) → published w c ≡ D
         → (last : ℕ) → final (m .marks) last ≡ true → D′ ≡ config [] last [] Normal
         → (es : List ℕ) × (length es ≡ n) × AllBelow 65536 es × (acceptingFrom m list w c es ≡ true)
@@ -377,7 +316,7 @@ module _ (m : Machine) (list w : List ℕ) where
     path-entries (step y p) c pl e last f e′ =
         let v = yields-moves m list w r y c pl e in
         let c′ = move m list w c (v .entry) .config in
-        let (es, len, below, a) = path-entries p c′ (move-step m list w c (v .entry) (v .allowed) .stays r) (v .lands) last f e′ in
+        let (es, len, below, a) = path-entries p c′ (move-stays m list w r c (v .entry) (v .allowed)) (v .lands) last f e′ in
         (v .entry ∷ es, ap suc len, more (v .small) below, and-both-true (move m list w c (v .entry) .allowed) (acceptingFrom m list w c′ es) (v .allowed) a)
 
     -- a published path of n moves is a run of n + 1 entries
@@ -385,7 +324,7 @@ module _ (m : Machine) (list w : List ℕ) where
         → (run : List ℕ) × (length run ≡ suc n) × AllBelow 65536 run × (accepting m list w run ≡ true)
     unfolding accepting
     path-run first last n (lt, i) f p =
-        let (es, len, below, a) = path-entries p (startAt first) (start-placed first lt) refl last f refl in (
+        let (es, len, below, a) = path-entries p (startAt first) (start-placed m w first lt) refl last f refl in (
           first ∷ es,
           ap suc len,
           more {x = first} (omega (arith, r .states-fit)) below,

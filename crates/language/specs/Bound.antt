@@ -27,8 +27,8 @@ use Rattle.fsbm.specs.Published.{FSBM, Listed, fsbmOf, Configuration, config, Y
 use Rattle.fsbm.specs.declared.machine.Machine.{Machine}
 use Rattle.fsbm.specs.declared.config.Mode.{Mode}
 use Rattle.fsbm.specs.declared.config.Mode.the-variants.{Normal, Buffering, Emptying}
-use Rattle.language.specs.Bools.{false-iff}
-use Rattle.language.specs.Rules.{Rules, rules, buffering-below, matching-below}
+use Rattle.graphs.specs.Bools.{false-iff}
+use Rattle.fsbm.specs.Rules.{Rules, rules, buffering-below, matching-below}
 use Rattle.language.specs.Agreement.{run-path, path-run, accepting-published}
 
 -- What a move leaves alone

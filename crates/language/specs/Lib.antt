@@ -1,9 +1,7 @@
 pub mod Agreement
-pub mod Bools
 pub mod Bound
 pub mod Chosen
 pub mod Examples
 pub mod NoWord
 pub mod Reached
-pub mod Rules
 pub mod Strings

@@ -5,32 +5,21 @@
 -- slice-reads          == the stretch is the letter and a rest: the test holds, and the rest is the stretch after it
 -- reads-drop, drop-reads == the same for the rest of the word
 -- slice-grows          == a stretch that takes in the letter at its end
--- advanced-fits        == the position after the letter: not before the old one, nor past the end
 -- slice-none           == an empty stretch starts where it ends
-use Prim.Native.Nat.{ℕ, zero, suc, _≤_, _<_}
+use Prim.Native.Nat.{ℕ, zero, suc, _≤_}
 use mathlib.Core.Path.{_≡_, refl, sym, ap, _∙_}
 use mathlib.Core.Logic.{_⊎_, inl, inr}
 use mathlib.Core.Bool.{true, false}
 use mathlib.Core.List.{List, [], _∷_, _++_, append-nil}
 use native.Mathlib.Omega.{arith}
-use native.Mathlib.Numerals.{add-one}
 use lib.ListN.{length, getD, take, drop}
 use lib.Seq.{slice, slice-cons, length-slice, take-length, take-suc, drop-append-le, length-take-le}
 use lib.Dec.{ltb, eqb, eqb·suc-zero}
-use borrow.Author.Tests.{ltb-true, ltb-false, eqb-true, eq-eqb}
-use Rattle.graphs.specs.Search.Laws.{and-true, and-both-true, true-or-false}
+use borrow.Author.Tests.{ltb-true, ltb-false, eq-eqb}
+use Rattle.graphs.specs.Search.Laws.{and-both-true, true-or-false}
 use Rattle.fsbm.specs.Moves.{readsLetter, advanced}
+use Rattle.fsbm.specs.Moves.Laws.{reads-suc, advanced-suc}
 use Rattle.fsbm.specs.Published.{symbol}
-
--- a letter that is not epsilon
-reads-suc : (w : List ℕ) (p e x : ℕ) → readsLetter w p e (suc x) ≡ true → (p < e) × (getD w p 0 ≡ suc x)
-unfolding readsLetter
-reads-suc w p e x h =
-    let both = and-true (ltb p e) (eqb (getD w p 0) (suc x)) (rw eqb·suc-zero at h) in
-    (ltb-true p e (both .0), eqb-true (getD w p 0) (suc x) (both .1))
-
-advanced-suc : (p x : ℕ) → advanced p (suc x) ≡ suc p
-advanced-suc p x = rw (eqb·suc-zero, add-one)
 
 pub reads-slice : (w : List ℕ) (p e x : ℕ) → e ≤ length w → readsLetter w p e x ≡ true → slice p e w ≡ symbol x ++ slice (advanced p x) e w
 reads-slice w p e zero le h = refl
@@ -81,10 +70,3 @@ slice-none w s e le in-word h =
     let l = length-slice s e w in-word in
     let z = ap length h in
     omega arith
-
-pub advanced-fits : (w : List ℕ) (p e x : ℕ) → p ≤ e → readsLetter w p e x ≡ true → (p ≤ advanced p x) × (advanced p x ≤ e)
-advanced-fits w p e zero le h = (omega arith, le)
-advanced-fits w p e (suc x) le h =
-    let (lt, same) = reads-suc w p e x h in
-    let next = advanced-suc p x in
-    (omega arith, omega arith)

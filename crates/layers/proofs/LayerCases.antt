@@ -23,7 +23,7 @@ use Rattle.fsbm.specs.Published.{config, begin-buffering, begin-emptying, back-
 use Rattle.fsbm.specs.declared.machine.Machine.{Machine}
 use Rattle.fsbm.specs.declared.config.Mode.{Mode}
 use Rattle.fsbm.specs.declared.config.Mode.the-variants.{Normal, Buffering, Emptying}
-use Rattle.language.specs.Rules.{Rules, buffering-below, matching-below}
+use Rattle.fsbm.specs.Rules.{Rules, buffering-below, matching-below}
 use Rattle.layers.specs.Costs.{none, Go, at, RowReal, RowBest, Bounded, Marked}
 use Rattle.layers.specs.Costs.Laws.{normal-yields, buffer-yields, empty-yields}
 use Rattle.layers.specs.Rows.{weight, Lowering, ByPass, ByChange, ofKind, Closed}

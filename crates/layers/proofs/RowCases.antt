@@ -23,7 +23,7 @@ use Rattle.fsbm.specs.declared.machine.Machine.{Machine}
 use Rattle.fsbm.specs.declared.config.Mode.{Mode}
 use Rattle.fsbm.specs.declared.config.Mode.the-variants.{Normal, Buffering, Emptying}
 use Rattle.language.specs.NoWord.{passable}
-use Rattle.language.specs.Rules.{rules}
+use Rattle.fsbm.specs.Rules.{rules}
 use Rattle.layers.specs.Ways.{keyIn, opens, Next, HasKey, StateWays, Ways, Visited}
 use Rattle.layers.specs.Ways.Laws.{list-rules, key-says, open-passable, leads-key, key-in-below}
 use Rattle.layers.specs.Costs.{at}

@@ -21,7 +21,7 @@ use Rattle.fsbm.specs.declared.machine.Machine.{Machine}
 use Rattle.fsbm.specs.declared.machine.Transition.{Transition}
 use Rattle.fsbm.specs.declared.config.Mode.{Mode}
 use Rattle.fsbm.specs.declared.config.Mode.the-variants.{Normal, Buffering, Emptying}
-use Rattle.language.specs.Rules.{rules}
+use Rattle.fsbm.specs.Rules.{rules}
 use Rattle.layers.specs.Costs.{none, at}
 use Rattle.layers.specs.Ways.{keyOf, keyIn, empties, kindHead, WaysFrom, Ways, pushed, Cleared, stateLinked}
 use Rattle.layers.specs.Ways.Laws.{list-rules, key-below, pushed-size, transition-step, state-step}

@@ -97,7 +97,7 @@ pub fn answer_line(m: Machine, list: &[u16], line: &[u8]) -> Answer
         return Answer { answer: 2, refusal };
     }
     let n = line.len() / 5;
-    if decide::places::is_accepted(m, list, &word[..n]) {
+    if decide::words::is_accepted(m, list, &word[..n]) {
         return Answer {
             answer: 1,
             refusal: 0,

@@ -29,7 +29,7 @@ use Rattle.graphs.specs.Search.Loops.{first, second}
 use Rattle.fsbm.specs.Machine.{transitionAt}
 use Rattle.fsbm.specs.declared.machine.Machine.{Machine}
 use Rattle.fsbm.specs.declared.machine.Transition.{Transition}
-use Rattle.language.specs.Bools.{cond-elim}
+use Rattle.graphs.specs.Bools.{cond-elim}
 use Rattle.product.specs.Each.{each, put}
 use Rattle.product.specs.Each.Laws.{each-step, each-over, each-same, each-none, each-block, each-skip, length-each, Putting, putting-start, putting-room, putting-step, putting-at, putting-end}
 use Rattle.product.specs.Each.Sums.{sum-const}

@@ -35,9 +35,9 @@ use Rattle.fsbm.specs.declared.config.Config.{Config}
 use Rattle.fsbm.specs.declared.config.Mode.{Mode}
 use Rattle.fsbm.specs.declared.config.Mode.the-variants.{Normal, Buffering, Emptying}
 use Rattle.language.specs.Agreement.{published, move-yields, path-run}
-use Rattle.language.specs.Bools.{same-truth}
+use Rattle.graphs.specs.Bools.{same-truth}
 use Rattle.language.specs.Bound.{accepted-iff-run}
-use Rattle.language.specs.Rules.{Rules, rules, buffering-below, matching-below}
+use Rattle.fsbm.specs.Rules.{Rules, rules, buffering-below, matching-below}
 use Rattle.product.specs.Count.{joined-count}
 use Rattle.product.specs.Product.{pairState, joint, jointMoves, joined, joinedTransitions, joinedCount, joinedMark, joinedMarks, joinedMachine, joinFault}
 use Rattle.product.specs.Rise.{Bounds, bounds}

@@ -23,7 +23,7 @@ use Rattle.graphs.specs.Search.Laws.{and-true, true-or-false, allBelow-true}
 use Rattle.fsbm.specs.Machine.{maxStates, maxLetters, maxTransitions, buffering, matching, transitionAt, goodMark, named, precedes, goodTransition, wellFormed}
 use Rattle.fsbm.specs.declared.machine.Machine.{Machine}
 use Rattle.fsbm.specs.declared.machine.Transition.{Transition}
-use Rattle.language.specs.Bools.{cond-elim}
+use Rattle.graphs.specs.Bools.{cond-elim}
 use Rattle.product.specs.Product.{plainState, plainTransition, plain, joinedCount, joinFault}
 
 abbrev pub order : Transition → ℕ

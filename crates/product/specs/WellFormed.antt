@@ -20,7 +20,7 @@ use Rattle.graphs.specs.Search.Loops.{first, second}
 use Rattle.fsbm.specs.Machine.{maxStates, maxLetters, maxTransitions, markOf, initial, final, buffering, matching, transitionAt, goodMark, named, precedes, goodTransition, wellFormed}
 use Rattle.fsbm.specs.declared.machine.Machine.{Machine}
 use Rattle.fsbm.specs.declared.machine.Transition.{Transition}
-use Rattle.language.specs.Bools.{cond-elim}
+use Rattle.graphs.specs.Bools.{cond-elim}
 use Rattle.product.specs.Count.{joined-count, joined-length}
 use Rattle.product.specs.Each.{each}
 use Rattle.product.specs.Each.Laws.{each-single}

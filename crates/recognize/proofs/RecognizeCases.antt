@@ -2,13 +2,16 @@
 --
 -- needed-fits   == the length needed is a small number
 -- refused-table, refused-slice, says-no, says-yes == what each answer comes with
-use Prim.Native.Nat.{ℕ, _+_, _*_, _≤_, _<_}
+-- copy-turn, copy-end == one entry copied, and all
+-- copied-front  == a run that is copied to the front of a slice
+use Prim.Native.Nat.{ℕ, suc, _+_, _*_, _≤_, _<_}
 use mathlib.Core.Path.{_≡_, refl, sym, _∙_, ap}
 use mathlib.Core.Bool.{Bool, true, false, cond, true≢false}
 use mathlib.Core.List.{List, _++_}
 use native.Mathlib.Omega.{arith}
 use native.Mathlib.Nat.{mul-le-mul}
-use lib.ListN.{length, take, drop}
+use lib.ListN.{length, getD, set, take, drop}
+use lib.Seq.{take-suc, take-at, drop-cons, set-at, append-snoc, length-take-le}
 use lib.Dec.{leb, eqb}
 use borrow.Author.Tests.{le-leb, lt-leb, eq-eqb, ne-eqb}
 use Rattle.graphs.specs.Search.Loops.{first, second}
@@ -17,8 +20,8 @@ use Rattle.fsbm.specs.Moves.{accepting}
 use Rattle.fsbm.specs.Accepted.{runBound, accepted}
 use Rattle.fsbm.specs.Answers.{tableAndWord, refusal}
 use Rattle.fsbm.specs.declared.machine.Machine.{Machine}
-use Rattle.language.specs.Rules.{rules}
-use Rattle.recognize.specs.Recognition.{longestRecognized, recognition, written, Recognition}
+use Rattle.fsbm.specs.Rules.{rules}
+use Rattle.recognize.specs.Recognition.{longestRecognized, recognition, written, AtFront, Recognition}
 use Rattle.recognize.specs.declared.Recognized.{Recognized}
 use Rattle.recognize.specs.declared.Recognized.the-variants.{Refused, No, Yes}
 
@@ -82,3 +85,29 @@ module _ (m : Machine) (list w before : List ℕ) where
         where
           same-run : (j : ℕ) → Yes k ≡ Yes j → accepting m list w (take j after) ≡ true
           same-run j y = let d : j ≡ k = cc in rw d acc
+
+-- copying a run entry by entry
+pub copy-turn : (out run : List ℕ) (k : ℕ) → k < length out → k < length run → set (take k out ++ drop k run) k (getD out k 0) ≡ take (k + 1) out ++ drop (k + 1) run
+copy-turn out run k lo lr =
+    ap (λ (z : List ℕ). set (take k out ++ z) k (getD out k 0)) (drop-cons run k 0 lr)
+    ∙ (set-at (take k out) (getD run k 0) (drop (suc k) run) (getD out k 0) k (length-take-le k out (omega arith))
+    ∙ (sym (append-snoc (take k out) (getD out k 0) (drop (suc k) run))
+    ∙ (ap (λ (z : List ℕ). z ++ drop (suc k) run) (sym (take-suc out k 0 lo)) ∙ ap (λ (z : ℕ). take z out ++ drop z run) one-more)))
+  where
+    one-more : suc k ≡ k + 1
+    one-more = omega arith
+
+pub copy-end : (out run run′ : List ℕ) (k count : ℕ) → run′ ≡ take k out ++ drop k run → k ≡ count → run′ ≡ take count out ++ drop count run
+copy-end out run run′ k count e s = e ∙ ap (λ (z : ℕ). take z out ++ drop z run) s
+
+pub copied-front : (m : Machine) (list w out run run′ : List ℕ) (r : ℕ) → r ≤ length out → r ≤ length run → accepting m list w (take r out) ≡ true → run′ ≡ take r out ++ drop r run
+    → AtFront m list w r run run′
+copied-front m list w out run run′ r lo lr acc e =
+    record {
+      fits = lr;
+      front = e ∙ ap (λ (z : List ℕ). z ++ drop r run) (sym same);
+      accepts = ap (λ (z : List ℕ). accepting m list w z) same ∙ acc;
+    }
+  where
+    same : take r run′ ≡ take r out
+    same = ap (λ (z : List ℕ). take r z) e ∙ take-at (take r out) (drop r run) r (length-take-le r out lo)

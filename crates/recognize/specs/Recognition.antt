@@ -2,6 +2,7 @@
 --
 -- recognition m list w len entries == the answer to a slice of len elements; entries is the length of the run that is written on yes
 -- written r                        == how many elements are written with the answer r
+-- AtFront m list w r run run′      == an accepting run of r entries stands at the front of run′, and the rest is that of run
 -- Recognition                      == the contract: the answer, the run at the front of the slice, the rest as it was
 use Prim.Native.Nat.{ℕ, _≤_}
 use mathlib.Core.Path.{_≡_}
@@ -33,6 +34,11 @@ abbrev pub written : Recognized → ℕ
 written (Refused r) = 0
 written No = 0
 written (Yes k) = k
+
+pub record AtFront (m : Machine) (list w : List ℕ) (r : ℕ) (run run′ : List ℕ) : Type 0 where
+  pub fits : r ≤ length run
+  pub front : run′ ≡ take r run′ ++ drop r run
+  pub accepts : accepting m list w (take r run′) ≡ true
 
 -- Which accepting run is written, and so how many entries it has, is left open by document 01; the rest is one equation each.
 pub record Recognition (m : Machine) (list w before after : List ℕ) (r : Recognized) : Type 0 where

@@ -1,9 +1,23 @@
 // Recognition with a run: whether a machine accepts a word, and an accepting run of it.
+ghost use Prim.Native.Nat.{ℕ, _+_, _*_, _≤_};
 ghost use mathlib.Core.Path.{_≡_};
-ghost use Rattle.recognize.specs.Recognition.{Recognition};
+ghost use mathlib.Core.Bool.{true};
+ghost use mathlib.Core.List.{_++_};
+ghost use lib.ListN.{length, getD, take, drop};
+ghost use Rattle.fsbm.specs.Machine.{wellFormed};
+ghost use Rattle.fsbm.specs.Accepted.{accepted, runBound};
+ghost use Rattle.fsbm.specs.Answers.{tableAndWord};
+ghost use Rattle.targets.specs.Targets.{Numbered};
+ghost use Rattle.decide.specs.Graph.{Good};
+ghost use Rattle.recognize.specs.Recognition.{longestRecognized, AtFront, Recognition};
+use decide::images;
+use decide::images::Kinds;
+use decide::places;
 use fsbm::answer;
 use fsbm::answer::Refusal;
 use fsbm::machine::Machine;
+use runs::walk;
+use targets::Letters;
 
 // The answer of recognize: turned down, no, or yes with the number of entries of the run.
 pub enum Recognized {
@@ -12,13 +26,202 @@ pub enum Recognized {
     Yes(usize),
 }
 
+// Copies the first entries of out, as many as counted, to the front of run.
+fn copy_front(out: &[u16], count: usize, run: &mut [u16])
+    requires { ⌜ (count ≤ length (now out)) × (count ≤ length (now run)) ⌝ }
+    ensures { λ r. ⌜ now (run .exit) ≡ take count (now (out .entry)) ++ drop count (now (run .entry)) ⌝ }
+{
+    let mut k: usize = 0;
+    while k < count {
+        run[k] = out[k];
+        k += 1;
+    }
+}
+
+// Writes an accepting run of a word that the machine accepts to the front of run, and hands back the number of its entries: the run
+// that the search finds in out, or where it finds none that is short enough for every slice that is taken, one with the fewest entries.
+fn write_with(
+    m: Machine,
+    list: &[u16],
+    table: &[u64],
+    firsts: &[u16],
+    numbers: &[u8; 256],
+    kinds: Kinds,
+    word: &[u8],
+    sets: &[u64; 256],
+    out: &mut [u16],
+    needed: usize,
+    run: &mut [u16],
+) -> usize
+    requires { ⌜ (wellFormed m (now list) ≡ true) × (length (now word) ≤ 255) × (accepted m (now list) (now word) ≡ true) × (needed ≡ runBound m (length (now word))) × (needed ≤ length (now run)) × Good (now table) (now numbers) ⌝ }
+    ensures { λ r. ⌜ AtFront m (now (list .entry)) (now (word .entry)) r (now (run .entry)) (now (run .exit)) ⌝ }
+{
+    let count = trace::walk::find_run(m, list, table, firsts, numbers, kinds, word, sets, out);
+    if count == 0 {
+        return walk::write_run(m, list, word, run);
+    }
+    if needed < count {
+        return walk::write_run(m, list, word, run);
+    }
+    copy_front(&*out, count, run);
+    count
+}
+
+// The same, with a slice for the search that is long enough for most words of this length.
+fn write(
+    m: Machine,
+    list: &[u16],
+    table: &[u64],
+    firsts: &[u16],
+    numbers: &[u8; 256],
+    kinds: Kinds,
+    word: &[u8],
+    sets: &[u64; 256],
+    needed: usize,
+    run: &mut [u16],
+) -> usize
+    requires { ⌜ (wellFormed m (now list) ≡ true) × (length (now word) ≤ 255) × (accepted m (now list) (now word) ≡ true) × (needed ≡ runBound m (length (now word))) × (needed ≤ length (now run)) × Good (now table) (now numbers) ⌝ }
+    ensures { λ r. ⌜ AtFront m (now (list .entry)) (now (word .entry)) r (now (run .entry)) (now (run .exit)) ⌝ }
+{
+    if word.len() < 16 {
+        let mut out: [u16; 256] = [0; 256];
+        return write_with(
+            m,
+            list,
+            table,
+            firsts,
+            numbers,
+            kinds,
+            word,
+            sets,
+            &mut out,
+            needed,
+            run,
+        );
+    }
+    let mut out: [u16; 4096] = [0; 4096];
+    write_with(
+        m,
+        list,
+        table,
+        firsts,
+        numbers,
+        kinds,
+        word,
+        sets,
+        &mut out,
+        needed,
+        run,
+    )
+}
+
+// The answer to input that is not refused, with a table of zeros lent.
+fn answer_with(
+    m: Machine,
+    list: &[u16],
+    letters: Letters,
+    table: &mut [u64],
+    firsts: &mut [u16],
+    word: &[u8],
+    needed: usize,
+    run: &mut [u16],
+) -> Recognized
+    requires { ⌜ (tableAndWord longestRecognized m (now list) (now word) ≡ 0) × (needed ≡ runBound m (length (now word))) × (needed ≤ length (now run)) × Numbered (now word) (letters .numbers) (letters .count)
+        × ((letters .count + 1) * 64 ≤ length (now table)) × ((i : ℕ) → getD (now table) i 0 ≡ 0) × (length (now table) ≤ length (now firsts)) ⌝ }
+    ensures { λ r. ⌜ Recognition m (now (list .entry)) (now (word .entry)) (now (run .entry)) (now (run .exit)) r ⌝ }
+{
+    targets::fill(m, list, &letters.numbers, letters.count, table, firsts);
+    let kinds = images::kinds_of(&m.marks, m.states);
+    let reached = places::decide(m, list, &*table, &letters.numbers, kinds, word);
+    if !reached.accepted {
+        return Recognized::No;
+    }
+    let entries = write(
+        m,
+        list,
+        &*table,
+        &*firsts,
+        &letters.numbers,
+        kinds,
+        word,
+        &reached.sets,
+        needed,
+        run,
+    );
+    Recognized::Yes(entries)
+}
+
+// The answer for a word of at most 3 different letters, of at most 31, and of any number.
+fn answer_few(
+    m: Machine,
+    list: &[u16],
+    letters: Letters,
+    word: &[u8],
+    needed: usize,
+    run: &mut [u16],
+) -> Recognized
+    requires { ⌜ (tableAndWord longestRecognized m (now list) (now word) ≡ 0) × (needed ≡ runBound m (length (now word))) × (needed ≤ length (now run)) × Numbered (now word) (letters .numbers) (letters .count) × (letters .count ≤ 3) ⌝ }
+    ensures { λ r. ⌜ Recognition m (now (list .entry)) (now (word .entry)) (now (run .entry)) (now (run .exit)) r ⌝ }
+{
+    let mut table: [u64; 256] = [0; 256];
+    let mut firsts: [u16; 256] = [0; 256];
+    answer_with(m, list, letters, &mut table, &mut firsts, word, needed, run)
+}
+
+fn answer_some(
+    m: Machine,
+    list: &[u16],
+    letters: Letters,
+    word: &[u8],
+    needed: usize,
+    run: &mut [u16],
+) -> Recognized
+    requires { ⌜ (tableAndWord longestRecognized m (now list) (now word) ≡ 0) × (needed ≡ runBound m (length (now word))) × (needed ≤ length (now run)) × Numbered (now word) (letters .numbers) (letters .count) × (letters .count ≤ 31) ⌝ }
+    ensures { λ r. ⌜ Recognition m (now (list .entry)) (now (word .entry)) (now (run .entry)) (now (run .exit)) r ⌝ }
+{
+    let mut table: [u64; 2048] = [0; 2048];
+    let mut firsts: [u16; 2048] = [0; 2048];
+    answer_with(m, list, letters, &mut table, &mut firsts, word, needed, run)
+}
+
+fn answer_many(
+    m: Machine,
+    list: &[u16],
+    letters: Letters,
+    word: &[u8],
+    needed: usize,
+    run: &mut [u16],
+) -> Recognized
+    requires { ⌜ (tableAndWord longestRecognized m (now list) (now word) ≡ 0) × (needed ≡ runBound m (length (now word))) × (needed ≤ length (now run)) × Numbered (now word) (letters .numbers) (letters .count) ⌝ }
+    ensures { λ r. ⌜ Recognition m (now (list .entry)) (now (word .entry)) (now (run .entry)) (now (run .exit)) r ⌝ }
+{
+    let mut table: [u64; 16384] = [0; 16384];
+    let mut firsts: [u16; 16384] = [0; 16384];
+    answer_with(m, list, letters, &mut table, &mut firsts, word, needed, run)
+}
+
+// The answer to input that is not refused.
+fn answer(m: Machine, list: &[u16], word: &[u8], needed: usize, run: &mut [u16]) -> Recognized
+    requires { ⌜ (tableAndWord longestRecognized m (now list) (now word) ≡ 0) × (needed ≡ runBound m (length (now word))) × (needed ≤ length (now run)) ⌝ }
+    ensures { λ r. ⌜ Recognition m (now (list .entry)) (now (word .entry)) (now (run .entry)) (now (run .exit)) r ⌝ }
+{
+    let letters = targets::number_letters(word);
+    if letters.count < 4 {
+        return answer_few(m, list, letters, word, needed, run);
+    }
+    if letters.count < 32 {
+        return answer_some(m, list, letters, word, needed, run);
+    }
+    answer_many(m, list, letters, word, needed, run)
+}
+
 // Whether the machine accepts the word; on yes an accepting run of it stands at the front of run, and the answer holds its number of
 // entries, the start state counted as one. Which accepting run is left open. On no and on a refusal run is as it was, and so is on yes
 // what stands past the run. It refuses 16 (the record and its list break the rules of a table), 9 (a word of more than 255 letters),
 // 8 (a letter that is not there), 17 (run shorter than 3 × states × (letters + 1), which is the length needed), in this order, before
 // the answer is known.
-// Time: on no the sets of states reached at each position; on yes also the table of fewest entries from each configuration that the
-// run is read off. Memory: on the stack, no heap; see docs/PERFORMANCE.md.
+// Time: on no the sets of states reached at each position; on yes also the search for a run along them, and where it gives up the table
+// of fewest entries from each configuration. Memory: on the stack, no heap; see docs/PERFORMANCE.md.
 pub fn recognize(m: Machine, list: &[u16], word: &[u8], run: &mut [u16]) -> Recognized
     ensures { λ r. ⌜ Recognition m (now (list .entry)) (now (word .entry)) (now (run .entry)) (now (run .exit)) r ⌝ }
 {
@@ -30,9 +233,5 @@ pub fn recognize(m: Machine, list: &[u16], word: &[u8], run: &mut [u16]) -> Reco
     if run.len() < needed {
         return Recognized::Refused(Refusal { number: 17, needed });
     }
-    if !decide::places::is_accepted(m, list, word) {
-        return Recognized::No;
-    }
-    let entries = runs::walk::write_run(m, list, word, run);
-    Recognized::Yes(entries)
+    answer(m, list, word, needed, run)
 }

@@ -27,8 +27,9 @@ use Rattle.fsbm.specs.declared.config.Config.{Config}
 use Rattle.fsbm.specs.declared.config.Move.{Move}
 use Rattle.fsbm.specs.declared.config.Mode.{Mode}
 use Rattle.fsbm.specs.declared.config.Mode.the-variants.{Normal, Buffering, Emptying}
-use Rattle.language.specs.Rules.{placed}
-use Rattle.language.specs.Agreement.{published, move-placed}
+use Rattle.fsbm.specs.Rules.{placed}
+use Rattle.fsbm.specs.Moves.Laws.{move-placed}
+use Rattle.language.specs.Agreement.{published}
 use Rattle.layers.specs.Costs.{none, at, Best}
 use Rattle.adjacency.specs.Index.{Index}
 use Rattle.tables.specs.Tables.{rowAt, PlaceRows, EmptyRow, BufferRow, EmptyingRows, BufferingRows, Sized}

@@ -47,6 +47,13 @@ pub fn add(set: u64, q: usize) -> u64
     if q < WIDTH { set | (1u64 << q) } else { set }
 }
 
+// The set of the state q alone.
+pub fn single(q: usize) -> u64
+    ensures { λ r. ⌜ SetIs r (added 0 q) (λ p. (p ≡ q) × (p < width)) ⌝ }
+{
+    add(empty(), q)
+}
+
 // The set without the state q.
 pub fn remove(set: u64, q: usize) -> u64
     ensures { λ r. ⌜ SetIs r (removed set q) (λ p. In set p × (p ≡ q → ⊥)) ⌝ }

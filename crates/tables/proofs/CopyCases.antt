@@ -20,7 +20,7 @@ use lib.ListN.{length, getD, set, drop, length-set}
 use lib.Seq.{slice, getD-set-same, getD-set-other}
 use Rattle.fsbm.specs.declared.machine.Machine.{Machine}
 use Rattle.fsbm.specs.declared.config.Mode.the-variants.{Normal, Buffering, Emptying}
-use Rattle.language.specs.Rules.{Rules}
+use Rattle.fsbm.specs.Rules.{Rules}
 use Rattle.layers.specs.Costs.{RowBest}
 use Rattle.layers.specs.Layers.Laws.{blank-buffering}
 use Rattle.layers.specs.Layers.{blankRow, EmptyingLayer, BufferingLayer}

@@ -13,7 +13,7 @@ use lib.ListN.{length, getD, set, drop, length-set, replicate, length-replicate,
 use lib.Seq.{getD-set-same, getD-set-other}
 use Rattle.fsbm.specs.declared.machine.Machine.{Machine}
 use Rattle.fsbm.specs.declared.config.Mode.the-variants.{Normal, Buffering, Emptying}
-use Rattle.language.specs.Rules.{Rules}
+use Rattle.fsbm.specs.Rules.{Rules}
 use Rattle.layers.specs.Costs.{RowBest}
 use Rattle.layers.specs.Layers.{blankRow, PlaceLayer, PlaceBest}
 use Rattle.layers.specs.declared.layer.Layer.{Layer}

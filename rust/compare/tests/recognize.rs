@@ -318,6 +318,31 @@ fn long_word(rng: &mut Rng, letters: usize, length: usize) -> Vec<u8> {
     word
 }
 
+/// A circle of states: one letter leads from the last state to the first, epsilon from each state to the next. So a run
+/// has far more entries than the word has letters.
+fn circle(states: usize) -> Machine {
+    let mut marks = vec![0; states];
+    marks[0] |= reference::INITIAL;
+    marks[states - 1] |= reference::FINAL;
+    let mut transitions = vec![(states - 1, 1, 0)];
+    transitions.extend((1..states).map(|state| (state - 1, 0, state)));
+    Machine::new(1, &marks, &transitions)
+}
+
+#[test]
+fn long_runs() {
+    let mut counts = Counts::default();
+    for states in [2, 17, 64] {
+        let machine = circle(states);
+        let ready = Ready::new(&machine);
+        for length in [0, 1, 15, 16, 63, 64, 255] {
+            assert!(ready.word(&vec![1; length], length % 3, &mut counts));
+        }
+    }
+    counts.report("circles of 2, 17 and 64 states, one letter");
+    assert_eq!(counts.most_entries, 64 * 256);
+}
+
 #[test]
 fn long_words() {
     let mut rng = Rng::new(20_240_013);

@@ -1,7 +1,8 @@
 use mathlib.Core.Path.{_≡_, refl, sym, ap, _∙_}
 use native.Mathlib.Omega.{arith}
 use borrow.Author.Tests.{not-true, not-false}
-use Rattle.copies.proofs.CopyCases.{count-few, table-good, refused-early, refused-run, refused-room, listed}
+use Rattle.fsbm.proofs.AnswerCases.{table-good}
+use Rattle.copies.proofs.CopyCases.{count-few, refused-early, refused-run, refused-room, listed}
 use borrow.Author.Needs.{needs}
 use Rattle.copies.proofs.list_copies.Statement.{statement}
 use Rattle.copies.proofs.list_copies.Tie as tie
@@ -22,7 +23,7 @@ returns c = refused-early (c .before .before .before .before .before .before .ar
 
 -- src/lib.rt:89:9
 is-accepting-run-requires : tie.Need-is-accepting-run-requires
-is-accepting-run-requires c κs = search needs
+is-accepting-run-requires c κs = table-good 255 (c .before .before .before .before .before .before .args .m) ((c .before .before .before .before .before .before .args .list) .now) ((c .before .before .before .before .before .before .args .word) .now) (sym (c .before .table-and-word .ensures) ∙ (c .if1 .left)) .0
 
 -- src/lib.rt:90:9
 returns-2 : tie.Need-returns-2

@@ -26,9 +26,9 @@ use Rattle.fsbm.specs.declared.config.Config.{Config}
 use Rattle.fsbm.specs.declared.config.Move.{Move}
 use Rattle.fsbm.specs.declared.config.Mode.{Mode}
 use Rattle.fsbm.specs.declared.config.Mode.the-variants.{Normal, Buffering, Emptying}
-use Rattle.language.specs.Bools.{cond-elim}
-use Rattle.language.specs.Rules.{Rules, rules, Placed, placed}
-use Rattle.language.specs.Strings.{advanced-fits}
+use Rattle.graphs.specs.Bools.{cond-elim}
+use Rattle.fsbm.specs.Rules.{Rules, rules, Placed, placed}
+use Rattle.fsbm.specs.Moves.Laws.{advanced-fits}
 use Rattle.copies.specs.Copies.{copyAt, copiesFrom, copiesOf, totalStored, plainAt, plainFrom, plainLetters}
 
 abbrev owed : Config → Mode → ℕ

@@ -26,7 +26,7 @@ use Rattle.fsbm.specs.declared.machine.Machine.{Machine}
 use Rattle.fsbm.specs.declared.config.Mode.{Mode}
 use Rattle.fsbm.specs.declared.config.Mode.the-variants.{Normal, Buffering, Emptying}
 use Rattle.language.specs.Agreement.{accepting-published}
-use Rattle.language.specs.Bools.{false-iff, not-says, says-not, says-not-and}
+use Rattle.graphs.specs.Bools.{false-iff, not-says, says-not, says-not-and}
 use Rattle.language.specs.Chosen.{numbers, numbers-of, chosen, chosen-of}
 use Rattle.language.specs.NoWord.{Control, control, sameControl, passable, changeable, nextMode, crossings, follows, controls, noWord}
 use Rattle.language.specs.Reached.{sameMode}

@@ -29,7 +29,7 @@ use Rattle.fsbm.specs.declared.config.Config.{Config}
 use Rattle.fsbm.specs.declared.config.Move.{Move}
 use Rattle.fsbm.specs.declared.config.Mode.{Mode}
 use Rattle.fsbm.specs.declared.config.Mode.the-variants.{Normal, Buffering, Emptying}
-use Rattle.language.specs.Bools.{cond-elim, same-truth}
+use Rattle.graphs.specs.Bools.{cond-elim, same-truth}
 use Rattle.language.specs.Bound.{accepted-iff-run}
 use Rattle.language.specs.Chosen.{numbers, numbers-of, numbers-to, chosen-of, chosen-to}
 use Rattle.language.specs.Reached.{sameMode, sameConfig, entries, successors, starts, reached, decided}

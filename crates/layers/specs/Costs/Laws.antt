@@ -22,7 +22,7 @@ use Rattle.fsbm.specs.Published.{Listed, fsbmOf, Configuration, config, Yields,
 use Rattle.fsbm.specs.declared.machine.Machine.{Machine}
 use Rattle.fsbm.specs.declared.config.Mode.{Mode}
 use Rattle.fsbm.specs.declared.config.Mode.the-variants.{Normal, Buffering, Emptying}
-use Rattle.language.specs.Bools.{not-says, says-not, not-and-says, says-not-and}
+use Rattle.graphs.specs.Bools.{not-says, says-not, not-and-says, says-not-and}
 use Rattle.language.specs.NoWord.{passable}
 use Rattle.layers.specs.Costs.{none, Go, Best, Leads}
 

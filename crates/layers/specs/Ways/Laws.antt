@@ -27,7 +27,7 @@ use Rattle.fsbm.specs.declared.machine.Transition.{Transition}
 use Rattle.fsbm.specs.declared.config.Mode.{Mode}
 use Rattle.fsbm.specs.declared.config.Mode.the-variants.{Normal, Buffering, Emptying}
 use Rattle.language.specs.NoWord.{passable}
-use Rattle.language.specs.Rules.{Rules}
+use Rattle.fsbm.specs.Rules.{Rules}
 use Rattle.layers.specs.Costs.{at, Leads}
 use Rattle.layers.specs.Rows.{ofKind}
 use Rattle.layers.specs.Ways.{keyOf, keyIn, empties, opens, Next, HasKey, StateWays, WaysFrom, Ways, pushed, Cleared, stateLinked, kindHead}

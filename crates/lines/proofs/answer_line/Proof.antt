@@ -13,7 +13,7 @@ use Rattle.lines.proofs.answer_line.Statement.{statement}
 use Rattle.lines.proofs.answer_line.Tie as tie
 use Rattle.lines.proofs.answer_line.Reads as reads
 use Rattle.lines.proofs.answer_line.Lts as lts
-use Rattle.decide.proofs.places.is_accepted.Reads as is-accepted-reads
+use Rattle.decide.proofs.words.is_accepted.Reads as is-accepted-reads
 use Rattle.lines.proofs.read_word.Reads as read-word-reads
 
 -- src/lib.rt:96:46

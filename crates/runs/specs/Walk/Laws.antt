@@ -33,10 +33,11 @@ use Rattle.fsbm.specs.declared.config.Config.{Config}
 use Rattle.fsbm.specs.declared.config.Move.{Move}
 use Rattle.fsbm.specs.declared.config.Mode.{Mode}
 use Rattle.fsbm.specs.declared.config.Mode.the-variants.{Normal, Buffering, Emptying}
-use Rattle.language.specs.Bools.{cond-elim}
-use Rattle.language.specs.Rules.{Rules, rules, Placed, placed, unplaced}
-use Rattle.language.specs.Strings.{advanced-fits, slice-none}
-use Rattle.language.specs.Agreement.{published, MovesTo, move-yields, move-placed, yields-move}
+use Rattle.graphs.specs.Bools.{cond-elim}
+use Rattle.fsbm.specs.Rules.{Rules, rules, Placed, placed, unplaced}
+use Rattle.fsbm.specs.Moves.Laws.{advanced-fits, move-placed}
+use Rattle.language.specs.Strings.{slice-none}
+use Rattle.language.specs.Agreement.{published, MovesTo, move-yields, yields-move}
 use Rattle.language.specs.NoWord.{nextMode}
 use Rattle.layers.specs.Costs.{none, at, Go, Best, RowBest}
 use Rattle.layers.specs.Costs.Laws.{Fits, go-fit, go-step}

@@ -19,7 +19,7 @@ use Rattle.fsbm.specs.Published.{Configuration, config}
 use Rattle.fsbm.specs.declared.machine.Machine.{Machine}
 use Rattle.fsbm.specs.declared.config.Mode.{Mode}
 use Rattle.fsbm.specs.declared.config.Mode.the-variants.{Normal, Buffering, Emptying}
-use Rattle.language.specs.Rules.{Rules}
+use Rattle.fsbm.specs.Rules.{Rules}
 use Rattle.layers.specs.Costs.{none, at, Go, Best, RowBest}
 use Rattle.layers.specs.Costs.Laws.{Fits, go-fit, best-none}
 use Rattle.layers.specs.Layers.{headOf, tailOf, blankRow, EmptyingLayer, BufferingLayer, PlaceLayer, PlaceBest}

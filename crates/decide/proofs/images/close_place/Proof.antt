@@ -17,14 +17,14 @@ use Rattle.stateset.proofs.size.Reads as size-reads
 use Rattle.stateset.proofs.union.Reads as union-reads
 
 abbrev Inv-loop : tie.InvT-loop
-Inv-loop list first g h set all₀ all = Good list first × Placing (Turn (graph list first g h)) set all
+Inv-loop targets numbers g h set all₀ all = Good targets numbers × Placing (Turn (graph targets numbers g h)) set all
 
 abbrev μ-loop : tie.MeasureT-loop
-μ-loop list first g h set all₀ all = width - ones all
+μ-loop targets numbers g h set all₀ all = width - ones all
 
 -- src/images.rt:214:5
 loop-holds : tie.Need-loop-holds Inv-loop μ-loop
-loop-holds c = ((c .before .pre), placing-start (Edge (graph ((c .before .args .list) .now) ((c .before .args .first) .now) (c .before .args .g) (c .before .args .h)) Normal 0) (EmptyCopy (graph ((c .before .args .list) .now) ((c .before .args .first) .now) (c .before .args .g) (c .before .args .h))) _ (omega arith))
+loop-holds c = ((c .before .pre), placing-start (Edge (graph ((c .before .args .targets) .now) ((c .before .args .numbers) .now) (c .before .args .g) (c .before .args .h)) Normal 0) (EmptyCopy (graph ((c .before .args .targets) .now) ((c .before .args .numbers) .now) (c .before .args .g) (c .before .args .h))) _ (omega arith))
 
 -- src/images.rt:215:13
 close-set-requires : tie.Need-close-set-requires Inv-loop μ-loop
@@ -48,15 +48,15 @@ size-requires-2 c κs = search needs
 
 -- src/images.rt:218:13
 returns : tie.Need-returns Inv-loop μ-loop
-returns c = placing-end (Edge (graph ((c .before .before .before .before .before .before .before .before .args .list) .now) ((c .before .before .before .before .before .before .before .before .args .first) .now) (c .before .before .before .before .before .before .before .before .args .g) (c .before .before .before .before .before .before .before .before .args .h)) Normal 0) (EmptyCopy (graph ((c .before .before .before .before .before .before .before .before .args .list) .now) ((c .before .before .before .before .before .before .before .before .args .first) .now) (c .before .before .before .before .before .before .before .before .args .g) (c .before .before .before .before .before .before .before .before .args .h))) _ _ _ _ _ ((c .before .before .before .before .before .before .loop .inv) .1) (c .before .before .before .before .before .close-set .ensures) (c .before .before .before .before .empty-copies .ensures) (members-is (c .before .before .before .union .ensures)) (same-size (Edge (graph ((c .before .before .before .before .before .before .before .before .args .list) .now) ((c .before .before .before .before .before .before .before .before .args .first) .now) (c .before .before .before .before .before .before .before .before .args .g) (c .before .before .before .before .before .before .before .before .args .h)) Normal 0) (EmptyCopy (graph ((c .before .before .before .before .before .before .before .before .args .list) .now) ((c .before .before .before .before .before .before .before .before .args .first) .now) (c .before .before .before .before .before .before .before .before .args .g) (c .before .before .before .before .before .before .before .before .args .h))) _ _ _ _ _ ((c .before .before .before .before .before .before .loop .inv) .1) (c .before .before .before .before .before .close-set .ensures) (c .before .before .before .before .empty-copies .ensures) (members-is (c .before .before .before .union .ensures)) _ _ (c .before .before .size .ensures) (c .before .size2 .ensures) (c .if1 .taken))
+returns c = placing-end (Edge (graph ((c .before .before .before .before .before .before .before .before .args .targets) .now) ((c .before .before .before .before .before .before .before .before .args .numbers) .now) (c .before .before .before .before .before .before .before .before .args .g) (c .before .before .before .before .before .before .before .before .args .h)) Normal 0) (EmptyCopy (graph ((c .before .before .before .before .before .before .before .before .args .targets) .now) ((c .before .before .before .before .before .before .before .before .args .numbers) .now) (c .before .before .before .before .before .before .before .before .args .g) (c .before .before .before .before .before .before .before .before .args .h))) _ _ _ _ _ ((c .before .before .before .before .before .before .loop .inv) .1) (c .before .before .before .before .before .close-set .ensures) (c .before .before .before .before .empty-copies .ensures) (members-is (c .before .before .before .union .ensures)) (same-size (Edge (graph ((c .before .before .before .before .before .before .before .before .args .targets) .now) ((c .before .before .before .before .before .before .before .before .args .numbers) .now) (c .before .before .before .before .before .before .before .before .args .g) (c .before .before .before .before .before .before .before .before .args .h)) Normal 0) (EmptyCopy (graph ((c .before .before .before .before .before .before .before .before .args .targets) .now) ((c .before .before .before .before .before .before .before .before .args .numbers) .now) (c .before .before .before .before .before .before .before .before .args .g) (c .before .before .before .before .before .before .before .before .args .h))) _ _ _ _ _ ((c .before .before .before .before .before .before .loop .inv) .1) (c .before .before .before .before .before .close-set .ensures) (c .before .before .before .before .empty-copies .ensures) (members-is (c .before .before .before .union .ensures)) _ _ (c .before .before .size .ensures) (c .before .size2 .ensures) (c .if1 .taken))
 
 -- src/images.rt:214:5
 loop-less : tie.Need-loop-less Inv-loop μ-loop
-loop-less c = placing-less (Edge (graph ((c .before .before .before .before .before .before .before .before .args .list) .now) ((c .before .before .before .before .before .before .before .before .args .first) .now) (c .before .before .before .before .before .before .before .before .args .g) (c .before .before .before .before .before .before .before .before .args .h)) Normal 0) (EmptyCopy (graph ((c .before .before .before .before .before .before .before .before .args .list) .now) ((c .before .before .before .before .before .before .before .before .args .first) .now) (c .before .before .before .before .before .before .before .before .args .g) (c .before .before .before .before .before .before .before .before .args .h))) _ _ _ _ _ ((c .before .before .before .before .before .before .loop .inv) .1) (c .before .before .before .before .before .close-set .ensures) (c .before .before .before .before .empty-copies .ensures) (members-is (c .before .before .before .union .ensures)) (c .before .before .before .union .ensures) (other-size (Edge (graph ((c .before .before .before .before .before .before .before .before .args .list) .now) ((c .before .before .before .before .before .before .before .before .args .first) .now) (c .before .before .before .before .before .before .before .before .args .g) (c .before .before .before .before .before .before .before .before .args .h)) Normal 0) (EmptyCopy (graph ((c .before .before .before .before .before .before .before .before .args .list) .now) ((c .before .before .before .before .before .before .before .before .args .first) .now) (c .before .before .before .before .before .before .before .before .args .g) (c .before .before .before .before .before .before .before .before .args .h))) _ _ _ _ _ ((c .before .before .before .before .before .before .loop .inv) .1) (c .before .before .before .before .before .close-set .ensures) (c .before .before .before .before .empty-copies .ensures) (members-is (c .before .before .before .union .ensures)) _ _ (c .before .before .size .ensures) (c .before .size2 .ensures) (c .if1 .left))
+loop-less c = placing-less (Edge (graph ((c .before .before .before .before .before .before .before .before .args .targets) .now) ((c .before .before .before .before .before .before .before .before .args .numbers) .now) (c .before .before .before .before .before .before .before .before .args .g) (c .before .before .before .before .before .before .before .before .args .h)) Normal 0) (EmptyCopy (graph ((c .before .before .before .before .before .before .before .before .args .targets) .now) ((c .before .before .before .before .before .before .before .before .args .numbers) .now) (c .before .before .before .before .before .before .before .before .args .g) (c .before .before .before .before .before .before .before .before .args .h))) _ _ _ _ _ ((c .before .before .before .before .before .before .loop .inv) .1) (c .before .before .before .before .before .close-set .ensures) (c .before .before .before .before .empty-copies .ensures) (members-is (c .before .before .before .union .ensures)) (c .before .before .before .union .ensures) (other-size (Edge (graph ((c .before .before .before .before .before .before .before .before .args .targets) .now) ((c .before .before .before .before .before .before .before .before .args .numbers) .now) (c .before .before .before .before .before .before .before .before .args .g) (c .before .before .before .before .before .before .before .before .args .h)) Normal 0) (EmptyCopy (graph ((c .before .before .before .before .before .before .before .before .args .targets) .now) ((c .before .before .before .before .before .before .before .before .args .numbers) .now) (c .before .before .before .before .before .before .before .before .args .g) (c .before .before .before .before .before .before .before .before .args .h))) _ _ _ _ _ ((c .before .before .before .before .before .before .loop .inv) .1) (c .before .before .before .before .before .close-set .ensures) (c .before .before .before .before .empty-copies .ensures) (members-is (c .before .before .before .union .ensures)) _ _ (c .before .before .size .ensures) (c .before .size2 .ensures) (c .if1 .left))
 
 -- src/images.rt:214:5
 loop-again : tie.Need-loop-again Inv-loop μ-loop
-loop-again c = ((c .before .before .before .before .before .before .loop .inv) .0, placing-turn (Edge (graph ((c .before .before .before .before .before .before .before .before .args .list) .now) ((c .before .before .before .before .before .before .before .before .args .first) .now) (c .before .before .before .before .before .before .before .before .args .g) (c .before .before .before .before .before .before .before .before .args .h)) Normal 0) (EmptyCopy (graph ((c .before .before .before .before .before .before .before .before .args .list) .now) ((c .before .before .before .before .before .before .before .before .args .first) .now) (c .before .before .before .before .before .before .before .before .args .g) (c .before .before .before .before .before .before .before .before .args .h))) _ _ _ _ _ ((c .before .before .before .before .before .before .loop .inv) .1) (c .before .before .before .before .before .close-set .ensures) (c .before .before .before .before .empty-copies .ensures) (members-is (c .before .before .before .union .ensures)))
+loop-again c = ((c .before .before .before .before .before .before .loop .inv) .0, placing-turn (Edge (graph ((c .before .before .before .before .before .before .before .before .args .targets) .now) ((c .before .before .before .before .before .before .before .before .args .numbers) .now) (c .before .before .before .before .before .before .before .before .args .g) (c .before .before .before .before .before .before .before .before .args .h)) Normal 0) (EmptyCopy (graph ((c .before .before .before .before .before .before .before .before .args .targets) .now) ((c .before .before .before .before .before .before .before .before .args .numbers) .now) (c .before .before .before .before .before .before .before .before .args .g) (c .before .before .before .before .before .before .before .before .args .h))) _ _ _ _ _ ((c .before .before .before .before .before .before .loop .inv) .1) (c .before .before .before .before .before .close-set .ensures) (c .before .before .before .before .empty-copies .ensures) (members-is (c .before .before .before .union .ensures)))
 
 pub close-place-spec : {M : Type 1} → statement M
 close-place-spec =

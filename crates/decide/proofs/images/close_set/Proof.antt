@@ -15,10 +15,10 @@ use Rattle.stateset.proofs.difference.Reads as difference-reads
 use Rattle.stateset.proofs.union.Reads as union-reads
 
 abbrev Inv-loop : tie.InvT-loop
-Inv-loop list first g h mode set all₀ new₀ all new = Good list first × Closing (Edge (graph list first g h) mode 0) set all new
+Inv-loop targets numbers g h mode set all₀ new₀ all new = Good targets numbers × Closing (Edge (graph targets numbers g h) mode 0) set all new
 
 abbrev μ-loop : tie.MeasureT-loop
-μ-loop list first g h mode set all₀ new₀ all new = width - ones all
+μ-loop targets numbers g h mode set all₀ new₀ all new = width - ones all
 
 -- src/images.rt:141:5
 loop-holds : tie.Need-loop-holds Inv-loop μ-loop

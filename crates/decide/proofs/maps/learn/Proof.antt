@@ -19,10 +19,10 @@ use Rattle.stateset.proofs.lowest.Reads as lowest-reads
 use Rattle.stateset.proofs.remove.Reads as remove-reads
 
 abbrev Inv-loop : tie.InvT-loop
-Inv-loop list first g h mode x map₀ known set all₀ rest₀ map all rest = Good list first × Learning (graph list first g h) mode x map set all rest
+Inv-loop targets numbers g h mode x map₀ known set all₀ rest₀ map all rest = Good targets numbers × Learning (graph targets numbers g h) mode x map set all rest
 
 abbrev μ-loop : tie.MeasureT-loop
-μ-loop list first g h mode x map₀ known set all₀ rest₀ map all rest = ones rest
+μ-loop targets numbers g h mode x map₀ known set all₀ rest₀ map all rest = ones rest
 
 -- src/maps.rt:48:9
 difference-requires : tie.Need-difference-requires Inv-loop μ-loop

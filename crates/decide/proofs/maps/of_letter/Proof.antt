@@ -3,7 +3,6 @@ use Rattle.decide.specs.declared.maps.Memo.{Memo}
 use Rattle.decide.specs.Sweep.{Recalls}
 use mathlib.Core.Path.{_≡_, refl, sym, ap, subst}
 use Rattle.decide.proofs.MapCases.{recalls-nothing}
-use borrow.Author.Needs.{needs}
 use Rattle.decide.proofs.maps.of_letter.Statement.{statement}
 use Rattle.decide.proofs.maps.of_letter.Tie as tie
 use Rattle.decide.proofs.maps.of_letter.Reads as reads

@@ -1,12 +1,11 @@
-use borrow.Author.Needs.{needs}
-use Prim.Native.Nat.{ℕ, _<_, _≤_, _-_, _+_, _/_}
-use native.Mathlib.Omega.{arith}
-use mathlib.Core.Path.{_≡_, sym, subst}
-use lib.ListN.{length}
-use native.Mathlib.Decide.{decLt}
-use Rattle.decide.specs.Reach.{Matches}
+use Rattle.decide.proofs.SquareCases.{last-down}
 use Rattle.graphs.specs.Search.Laws.{not-both}
-use Rattle.decide.proofs.RowCases.{last-down}
+use Rattle.decide.specs.Squares.{Ends}
+use Rattle.decide.specs.Reach.{Matches}
+use lib.ListN.{length}
+use Prim.Native.Nat.{ℕ, _<_, _≤_, _-_, _+_, _/_}
+use borrow.Author.Needs.{needs}
+use native.Mathlib.Omega.{arith}
 use Rattle.decide.proofs.squares.last_square.Statement.{statement}
 use Rattle.decide.proofs.squares.last_square.Tie as tie
 use Rattle.decide.proofs.squares.last_square.Reads as reads
@@ -14,46 +13,46 @@ use Rattle.decide.proofs.squares.last_square.Lts as lts
 use Rattle.decide.proofs.squares.is_square.Reads as is-square-reads
 
 abbrev Inv-loop : tie.InvT-loop
-Inv-loop word i j₀ j = (i ≤ j) × (j + (j - i) ≤ length word) × ((k : ℕ) → j < k → k + (k - i) ≤ length word → Matches word i k → ⊥)
+Inv-loop word ends₀ i j₀ ends j = (i ≤ j) × (j + (j - i) ≤ length word) × (length word ≤ 255) × Ends word ends (λ d. i + d) × ((k : ℕ) → j < k → k + (k - i) ≤ length word → Matches word i k → ⊥)
 
 abbrev μ-loop : tie.MeasureT-loop
-μ-loop word i j₀ j = j - i
+μ-loop word ends₀ i j₀ ends j = j - i
 
--- src/squares.rt:30:22
+-- src/squares.rt:55:22
 sub-j : tie.Need-sub-j Inv-loop μ-loop
 sub-j c = omega arith
 
--- src/squares.rt:30:17
+-- src/squares.rt:55:17
 add-j : tie.Need-add-j Inv-loop μ-loop
 add-j c = omega (arith, (c .before .good))
 
--- src/squares.rt:31:5
+-- src/squares.rt:56:5
 loop-holds : tie.Need-loop-holds Inv-loop μ-loop
-loop-holds c = (omega arith, omega arith, λ k (lt : (c .before .args .i) + (length ((c .before .args .word) .now) - (c .before .args .i)) / 2 < k) (room : k + (k - (c .before .args .i)) ≤ length ((c .before .args .word) .now)) m. absurd (omega arith))
+loop-holds c = (omega arith, omega arith, (c .before .pre) .1, (c .before .pre) .2, λ k (lt : (c .before .args .i) + (length ((c .before .args .word) .now) - (c .before .args .i)) / 2 < k) (room : k + (k - (c .before .args .i)) ≤ length ((c .before .args .word) .now)) m. absurd (omega arith))
 
--- src/squares.rt:32:12
+-- src/squares.rt:57:12
 is-square-requires : tie.Need-is-square-requires Inv-loop μ-loop
-is-square-requires c κs = (omega arith, (c .before .loop .inv) .1)
+is-square-requires c κs = ((c .before .loop-test .taken), (c .before .before .loop .inv) .1, (c .before .before .loop .inv) .2, (λ d. (c .before .before .before .before .args .i) + d, omega arith, (c .before .before .loop .inv) .3))
 
--- src/squares.rt:33:13
+-- src/squares.rt:58:13
 returns : tie.Need-returns Inv-loop μ-loop
-returns c = record { from = (c .before .before .before .loop .inv) .0; room = (c .before .before .before .loop .inv) .1; last = (c .before .before .before .loop .inv) .2 }
+returns c = ((c .before .is-square .ensures) .kept _ (omega arith) ((c .before .before .before .before .loop .inv) .3), record { from = (c .before .before .before .before .loop .inv) .0; room = (c .before .before .before .before .loop .inv) .1; last = (c .before .before .before .before .loop .inv) .4 })
 
--- src/squares.rt:35:9
+-- src/squares.rt:60:9
 sub-j-2 : tie.Need-sub-j-2 Inv-loop μ-loop
 sub-j-2 c = omega arith
 
--- src/squares.rt:31:5
+-- src/squares.rt:56:5
 loop-less : tie.Need-loop-less Inv-loop μ-loop
 loop-less c = omega arith
 
--- src/squares.rt:31:5
+-- src/squares.rt:56:5
 loop-again : tie.Need-loop-again Inv-loop μ-loop
-loop-again c = (omega arith, omega arith, last-down ((c .before .before .before .before .before .args .word) .now) _ _ (c .before .before .loop-test .taken) (λ m. not-both ((c .before .is-square .ensures) .1 m) (c .if1 .left)) ((c .before .before .before .loop .inv) .2))
+loop-again c = (omega arith, omega arith, (c .before .before .before .before .loop .inv) .2, (c .before .is-square .ensures) .kept _ (omega arith) ((c .before .before .before .before .loop .inv) .3), last-down ((c .before .before .before .before .before .before .args .word) .now) _ _ (c .before .before .before .loop-test .taken) (λ m. not-both ((c .before .is-square .ensures) .says .1 m) (c .if1 .left)) ((c .before .before .before .before .loop .inv) .4))
 
--- src/squares.rt:26:1
+-- src/squares.rt:51:1
 returns-2 : tie.Need-returns-2 Inv-loop μ-loop
-returns-2 c = record { from = (c .before .loop .inv) .0; room = (c .before .loop .inv) .1; last = (c .before .loop .inv) .2 }
+returns-2 c = ((c .before .loop .inv) .3, record { from = (c .before .loop .inv) .0; room = (c .before .loop .inv) .1; last = (c .before .loop .inv) .4 })
 
 pub last-square-spec : {M : Type 1} → statement M
 last-square-spec =

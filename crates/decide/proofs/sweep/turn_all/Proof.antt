@@ -9,7 +9,7 @@ use Rattle.decide.proofs.sweep.turn_all.Statement.{statement}
 use Rattle.decide.proofs.sweep.turn_all.Tie as tie
 use Rattle.decide.proofs.sweep.turn_all.Reads as reads
 use Rattle.decide.proofs.sweep.turn_all.Lts as lts
-use Rattle.decide.proofs.sweep.turning.Reads as turning-reads
+use Rattle.decide.proofs.squares.turning.Reads as turning-reads
 use Rattle.stateset.proofs.union.Reads as union-reads
 
 abbrev Inv-loop : tie.InvT-loop
@@ -40,7 +40,7 @@ element-copy-out-turning c = omega (arith, (c .before .before .loop .inv) .0, (c
 
 -- src/sweep.rt:38:13
 turning-requires : tie.Need-turning-requires Inv-loop μ-loop
-turning-requires c κs = (omega (arith, (c .before .before .loop-test .taken)), omega (arith, (c .before .before .before .loop .inv) .0, (c .before .before .before .loop .inv) .1, (c .before .before .before .loop .inv) .2 .low, (c .before .before .loop-test .taken)), (c .before .before .before .loop .inv) .1, (c .before .before .before .loop .inv) .2 .kept)
+turning-requires c κs = (omega (arith, (c .before .before .loop-test .taken)), omega (arith, (c .before .before .before .loop .inv) .0, (c .before .before .before .loop .inv) .1, (c .before .before .before .loop .inv) .2 .low, (c .before .before .loop-test .taken)), (c .before .before .before .loop .inv) .1, (λ d. _, refl, (c .before .before .before .loop .inv) .2 .kept))
 
 -- src/sweep.rt:39:35
 mul-union : tie.Need-mul-union Inv-loop μ-loop

@@ -1,64 +1,96 @@
-use Prim.Native.Nat.{_≤_, _<_, _-_}
-use mathlib.Core.Path.{_≡_, refl, sym, _∙_}
-use native.Mathlib.Omega.{arith}
-use lib.ListN.{length, drop}
-use borrow.Author.Needs.{needs}
+use Rattle.fsbm.proofs.ConfigCases.{ranges, move-change, move-not-taken, move-taken, run-end, run-on, run-off}
+use Rattle.fsbm.specs.Rules.{rules}
+use Rattle.fsbm.specs.Moves.{wellPlaced, acceptingFrom}
 use borrow.Author.Tests.{not-true, not-false}
-use Rattle.graphs.specs.Search.Loops.{pass, stop}
-use Rattle.fsbm.specs.Moves.{acceptingFrom}
-use Rattle.fsbm.proofs.ConfigCases.{run-step, run-end}
+use lib.ListN.{length, take, drop}
+use mathlib.Core.Bool.{true}
+use mathlib.Core.Path.{_≡_, refl, sym, _∙_}
+use Prim.Native.Nat.{_-_}
+use borrow.Author.Needs.{needs}
+use native.Mathlib.Omega.{arith}
 use Rattle.fsbm.proofs.run.accepts_from.Statement.{statement}
 use Rattle.fsbm.proofs.run.accepts_from.Tie as tie
 use Rattle.fsbm.proofs.run.accepts_from.Reads as reads
 use Rattle.fsbm.proofs.run.accepts_from.Lts as lts
+use Rattle.fsbm.proofs.config.Config.after.Reads as after-reads
+use Rattle.fsbm.proofs.config.Config.change_mode.Reads as change-mode-reads
 use Rattle.fsbm.proofs.config.Config.is_accepting.Reads as is-accepting-reads
-use Rattle.fsbm.proofs.config.Config.moved.Reads as moved-reads
+use Rattle.fsbm.proofs.config.Config.may_take.Reads as may-take-reads
+use Rattle.fsbm.proofs.machine.present_transition.Reads as present-transition-reads
 
 abbrev Inv-loop : tie.InvT-loop
-Inv-loop list word run m c₀ i₀ c i = acceptingFrom m list word c (drop i run) ≡ acceptingFrom m list word c₀ (drop 1 run)
+Inv-loop list word run count m c₀ i₀ c i = (wellPlaced (m .states) (length word) c ≡ true) × (acceptingFrom m list word c (drop i (take count run)) ≡ acceptingFrom m list word c₀ (drop 1 (take count run)))
 
 abbrev μ-loop : tie.MeasureT-loop
-μ-loop list word run m c₀ i₀ c i = length run - i
+μ-loop list word run count m c₀ i₀ c i = count - i
 
--- src/run.rt:20:5
+-- src/run.rt:23:5
 loop-holds : tie.Need-loop-holds Inv-loop μ-loop
-loop-holds c = refl
+loop-holds c = ((c .before .before .before .pre) .1, refl)
 
--- src/run.rt:21:72
-mul-moved : tie.Need-mul-moved Inv-loop μ-loop
-mul-moved c = omega (arith, (c .before .before .loop-test .taken), (c .before .before .before .before .before .before .before .good))
+-- src/run.rt:24:21
+mul-entry : tie.Need-mul-entry Inv-loop μ-loop
+mul-entry c = omega (arith, (c .loop-test .taken), (c .before .before .before .before .before .pre) .2, (c .before .before .before .before .before .good))
 
--- src/run.rt:21:72
-shared-slice-read-moved : tie.Need-shared-slice-read-moved Inv-loop μ-loop
-shared-slice-read-moved c = omega arith
+-- src/run.rt:24:21
+shared-slice-read-entry : tie.Need-shared-slice-read-entry Inv-loop μ-loop
+shared-slice-read-entry c = omega (arith, (c .before .loop-test .taken), (c .before .before .before .before .before .before .pre) .2)
 
--- src/run.rt:21:13
-moved-requires : tie.Need-moved-requires Inv-loop μ-loop
-moved-requires c κs = search needs
-
--- src/run.rt:23:13
-returns : tie.Need-returns Inv-loop μ-loop
-returns c = stop {a = (c .before .before .moved .result) .allowed} _ (not-true _ (c .if1 .taken)) ∙ (sym (run-step (c .before .before .before .before .before .before .before .before .before .before .before .args .t1) ((c .before .before .before .before .before .before .before .before .before .before .before .args .list) .now) ((c .before .before .before .before .before .before .before .before .before .before .before .args .word) .now) ((c .before .before .before .before .before .before .before .before .before .before .before .args .run) .now) (c .before .before .before .before .before .before .before .loop .c) (c .before .before .before .before .before .before .before .loop .i) (c .before .before .moved .result) ((c .before .before .moved .ensures) (c .before .before .before .before .before .before .before .before .before .before .before .args .t1) refl refl refl) (c .before .before .before .before .before .before .loop-test .taken)) ∙ (c .before .before .before .before .before .before .before .loop .inv))
-
--- src/run.rt:27:9
+-- src/run.rt:25:9
 add-i : tie.Need-add-i Inv-loop μ-loop
-add-i c = omega arith
+add-i c = omega (arith, (c .before .loop-test .taken), (c .before .before .before .before .before .before .fits .count))
 
--- src/run.rt:20:5
+-- src/run.rt:26:17
+cast-k : tie.Need-cast-k Inv-loop μ-loop
+cast-k c = omega (arith, (c .shared-slice-known4 .given) (c .before .before .loop .i))
+
+-- src/run.rt:28:17
+change-mode-requires : tie.Need-change-mode-requires Inv-loop μ-loop
+change-mode-requires c κs = search needs
+
+-- src/run.rt:30:17
+returns : tie.Need-returns Inv-loop μ-loop
+returns c = run-off (c .before .before .before .before .before .before .before .before .before .before .before .before .args .t1) ((c .before .before .before .before .before .before .before .before .before .before .before .before .args .list) .now) ((c .before .before .before .before .before .before .before .before .before .before .before .before .args .word) .now) ((c .before .before .before .before .before .before .before .before .before .before .before .before .args .run) .now) (c .before .before .before .before .before .before .before .before .before .before .before .before .args .count) ((c .before .before .before .before .before .before .before .before .before .before .before .before .pre) .2) (c .before .before .before .before .before .before .before .before .loop .c) (c .before .before .before .before .before .before .before .before .loop .i) (c .before .before .change-mode .result) ((c .before .before .change-mode .ensures) ∙ move-change (c .before .before .before .before .before .before .before .before .before .before .before .before .args .t1) _ _ _ refl refl refl ((c .before .before .before .before .before .before .before .before .before .before .before .before .args .list) .now) ((c .before .before .before .before .before .before .before .before .before .before .before .before .args .word) .now) (c .before .before .before .before .before .before .before .before .loop .c) _ ((c .before .before .before .before .before .before .before .before .loop .inv) .0) (c .before .before .before .before .before .if1 .taken)) (c .before .before .before .before .before .before .before .loop-test .taken) ((c .before .before .before .before .before .before .before .before .loop .inv) .1) (not-true _ (c .if2 .taken))
+
+-- src/run.rt:23:5
 loop-less : tie.Need-loop-less Inv-loop μ-loop
 loop-less c = omega arith
 
--- src/run.rt:20:5
+-- src/run.rt:23:5
 loop-again : tie.Need-loop-again Inv-loop μ-loop
-loop-again c = pass {a = (c .before .before .before .moved .result) .allowed} (not-false _ (c .before .if1 .left)) refl ∙ (sym (run-step (c .before .before .before .before .before .before .before .before .before .before .before .before .args .t1) ((c .before .before .before .before .before .before .before .before .before .before .before .before .args .list) .now) ((c .before .before .before .before .before .before .before .before .before .before .before .before .args .word) .now) ((c .before .before .before .before .before .before .before .before .before .before .before .before .args .run) .now) (c .before .before .before .before .before .before .before .before .loop .c) (c .before .before .before .before .before .before .before .before .loop .i) (c .before .before .before .moved .result) ((c .before .before .before .moved .ensures) (c .before .before .before .before .before .before .before .before .before .before .before .before .args .t1) refl refl refl) (c .before .before .before .before .before .before .before .loop-test .taken)) ∙ (c .before .before .before .before .before .before .before .before .loop .inv))
+loop-again c = run-on (c .before .before .before .before .before .before .before .before .before .before .before .before .before .args .t1) ((c .before .before .before .before .before .before .before .before .before .before .before .before .before .args .list) .now) ((c .before .before .before .before .before .before .before .before .before .before .before .before .before .args .word) .now) ((c .before .before .before .before .before .before .before .before .before .before .before .before .before .args .run) .now) (c .before .before .before .before .before .before .before .before .before .before .before .before .before .args .count) ((c .before .before .before .before .before .before .before .before .before .before .before .before .before .pre) .2) (c .before .before .before .before .before .before .before .before .before .loop .c) (c .before .before .before .before .before .before .before .before .before .loop .i) (c .before .before .before .change-mode .result) ((c .before .before .before .change-mode .ensures) ∙ move-change (c .before .before .before .before .before .before .before .before .before .before .before .before .before .args .t1) _ _ _ refl refl refl ((c .before .before .before .before .before .before .before .before .before .before .before .before .before .args .list) .now) ((c .before .before .before .before .before .before .before .before .before .before .before .before .before .args .word) .now) (c .before .before .before .before .before .before .before .before .before .loop .c) _ ((c .before .before .before .before .before .before .before .before .before .loop .inv) .0) (c .before .before .before .before .before .before .if1 .taken)) (c .before .before .before .before .before .before .before .before .loop-test .taken) ((c .before .before .before .before .before .before .before .before .before .loop .inv) .1) ((c .before .before .before .before .before .before .before .before .before .before .before .before .before .pre) .0) (not-false _ (c .before .if2 .left))
 
--- src/run.rt:29:5
+-- src/run.rt:35:17
+present-transition-requires : tie.Need-present-transition-requires Inv-loop μ-loop
+present-transition-requires c κs = omega (arith, rules (c .before .before .before .before .before .before .before .args .t1) ((c .before .before .before .before .before .before .before .args .list) .now) ((c .before .before .before .before .before .before .before .pre) .0) .list-fits, (c .if1 .left))
+
+-- src/run.rt:36:17
+may-take-requires : tie.Need-may-take-requires Inv-loop μ-loop
+may-take-requires c κs = search needs
+
+-- src/run.rt:37:17
+returns-2 : tie.Need-returns-2 Inv-loop μ-loop
+returns-2 c = run-off (c .before .before .before .before .before .before .before .before .before .before .before .before .args .t1) ((c .before .before .before .before .before .before .before .before .before .before .before .before .args .list) .now) ((c .before .before .before .before .before .before .before .before .before .before .before .before .args .word) .now) ((c .before .before .before .before .before .before .before .before .before .before .before .before .args .run) .now) (c .before .before .before .before .before .before .before .before .before .before .before .before .args .count) ((c .before .before .before .before .before .before .before .before .before .before .before .before .pre) .2) (c .before .before .before .before .before .before .before .before .loop .c) (c .before .before .before .before .before .before .before .before .loop .i) _ (move-not-taken (c .before .before .before .before .before .before .before .before .before .before .before .before .args .t1) _ _ _ refl refl refl ((c .before .before .before .before .before .before .before .before .before .before .before .before .args .list) .now) ((c .before .before .before .before .before .before .before .before .before .before .before .before .args .word) .now) (c .before .before .before .before .before .before .before .before .loop .c) _ ((c .before .before .before .before .before .before .before .before .loop .inv) .0) (c .before .before .before .before .before .if1 .left) (c .before .before .before .before .present-transition .result) (c .before .before .before .before .present-transition .ensures) (sym (c .before .may-take .ensures) ∙ not-true _ (c .if3 .taken))) (c .before .before .before .before .before .before .before .loop-test .taken) ((c .before .before .before .before .before .before .before .before .loop .inv) .1) refl
+
+-- src/run.rt:39:17
+after-requires : tie.Need-after-requires Inv-loop μ-loop
+after-requires c κs = let p = ranges _ ((c .before .before .before .before .before .before .before .before .before .before .before .before .args .word) .now) (c .before .before .before .before .before .before .before .before .loop .c) ((c .before .before .before .before .before .before .before .before .loop .inv) .0) in (omega (arith, p .0, (c .before .before .before .before .before .before .before .before .before .before .before .before .good)), p .1, p .2)
+
+-- src/run.rt:23:5
+loop-less-2 : tie.Need-loop-less-2 Inv-loop μ-loop
+loop-less-2 c = omega arith
+
+-- src/run.rt:23:5
+loop-again-2 : tie.Need-loop-again-2 Inv-loop μ-loop
+loop-again-2 c = run-on (c .before .before .before .before .before .before .before .before .before .before .before .before .before .args .t1) ((c .before .before .before .before .before .before .before .before .before .before .before .before .before .args .list) .now) ((c .before .before .before .before .before .before .before .before .before .before .before .before .before .args .word) .now) ((c .before .before .before .before .before .before .before .before .before .before .before .before .before .args .run) .now) (c .before .before .before .before .before .before .before .before .before .before .before .before .before .args .count) ((c .before .before .before .before .before .before .before .before .before .before .before .before .before .pre) .2) (c .before .before .before .before .before .before .before .before .before .loop .c) (c .before .before .before .before .before .before .before .before .before .loop .i) _ (move-taken (c .before .before .before .before .before .before .before .before .before .before .before .before .before .args .t1) _ _ _ refl refl refl ((c .before .before .before .before .before .before .before .before .before .before .before .before .before .args .list) .now) ((c .before .before .before .before .before .before .before .before .before .before .before .before .before .args .word) .now) (c .before .before .before .before .before .before .before .before .before .loop .c) _ ((c .before .before .before .before .before .before .before .before .before .loop .inv) .0) (c .before .before .before .before .before .before .if1 .left) (c .before .before .before .before .before .present-transition .result) (c .before .before .before .before .before .present-transition .ensures) (sym (c .before .before .may-take .ensures) ∙ not-false _ (c .before .if3 .left)) (c .after .result) (c .after .ensures)) (c .before .before .before .before .before .before .before .before .loop-test .taken) ((c .before .before .before .before .before .before .before .before .before .loop .inv) .1) ((c .before .before .before .before .before .before .before .before .before .before .before .before .before .pre) .0) refl
+
+-- src/run.rt:43:5
 is-accepting-requires : tie.Need-is-accepting-requires Inv-loop μ-loop
 is-accepting-requires c κs = search needs
 
--- src/run.rt:15:1
-returns-2 : tie.Need-returns-2 Inv-loop μ-loop
-returns-2 c = (c .is-accepting .ensures) ∙ (run-end (c .before .before .before .before .before .before .before .before .args .t1) ((c .before .before .before .before .before .before .before .before .args .list) .now) ((c .before .before .before .before .before .before .before .before .args .word) .now) ((c .before .before .before .before .before .before .before .before .args .run) .now) (c .before .before .before .before .loop .c) (c .before .before .before .before .loop .i) (c .before .before .before .loop-test .left) ∙ (c .before .before .before .before .loop .inv))
+-- src/run.rt:17:1
+returns-3 : tie.Need-returns-3 Inv-loop μ-loop
+returns-3 c = (c .is-accepting .ensures) ∙ (run-end (c .before .before .before .before .before .before .before .before .args .t1) ((c .before .before .before .before .before .before .before .before .args .list) .now) ((c .before .before .before .before .before .before .before .before .args .word) .now) ((c .before .before .before .before .before .before .before .before .args .run) .now) (c .before .before .before .before .before .before .before .before .args .count) ((c .before .before .before .before .before .before .before .before .pre) .2) (c .before .before .before .before .loop .c) (c .before .before .before .before .loop .i) (c .before .before .before .loop-test .left) ∙ ((c .before .before .before .before .loop .inv) .1))
 
 pub accepts-from-spec : {M : Type 1} → statement M
 accepts-from-spec =
@@ -67,12 +99,19 @@ accepts-from-spec =
     Inv-loop
     μ-loop
     loop-holds
-    mul-moved
-    shared-slice-read-moved
-    moved-requires
-    returns
+    mul-entry
+    shared-slice-read-entry
     add-i
+    cast-k
+    change-mode-requires
+    returns
     loop-less
     loop-again
+    present-transition-requires
+    may-take-requires
+    returns-2
+    after-requires
+    loop-less-2
+    loop-again-2
     is-accepting-requires
-    returns-2)
+    returns-3)

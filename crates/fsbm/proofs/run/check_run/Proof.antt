@@ -1,6 +1,7 @@
-use mathlib.Core.Path.{_≡_, refl, sym, _∙_, ap}
+use Rattle.fsbm.proofs.AnswerCases.{check-refused, check-tried, table-good}
 use Rattle.fsbm.specs.Answers.{checkedBy}
-use Rattle.fsbm.proofs.AnswerCases.{check-refused, check-tried}
+use mathlib.Core.Path.{sym, _∙_, ap}
+use borrow.Author.Needs.{needs}
 use borrow.Author.Needs.{needs}
 use Rattle.fsbm.proofs.run.check_run.Statement.{statement}
 use Rattle.fsbm.proofs.run.check_run.Tie as tie
@@ -9,23 +10,23 @@ use Rattle.fsbm.proofs.run.check_run.Lts as lts
 use Rattle.fsbm.proofs.answer.table_and_word.Reads as table-and-word-reads
 use Rattle.fsbm.proofs.run.is_accepting_run.Reads as is-accepting-run-reads
 
--- src/run.rt:56:9
+-- src/run.rt:80:9
 table-and-word-requires : tie.Need-table-and-word-requires
 table-and-word-requires c κs = search needs
 
--- src/run.rt:58:9
+-- src/run.rt:82:9
 returns : tie.Need-returns
 returns c = check-refused (c .before .before .before .before .before .args .m) ((c .before .before .before .before .before .args .list) .now) ((c .before .before .before .before .before .args .word) .now) (c .before .table-and-word .result) (c .before .table-and-word .ensures) ((c .before .before .before .before .before .args .run) .now) (c .if1 .taken)
 
--- src/run.rt:60:8
+-- src/run.rt:84:8
 is-accepting-run-requires : tie.Need-is-accepting-run-requires
-is-accepting-run-requires c κs = search needs
+is-accepting-run-requires c κs = table-good 1048576 (c .before .before .before .before .before .args .m) ((c .before .before .before .before .before .args .list) .now) ((c .before .before .before .before .before .args .word) .now) (sym (c .before .table-and-word .ensures) ∙ (c .if1 .left)) .0
 
--- src/run.rt:61:9
+-- src/run.rt:85:9
 returns-2 : tie.Need-returns-2
 returns-2 c = ap checkedBy (sym (c .if2 .taken)) ∙ check-tried (c .before .before .before .before .before .before .before .args .m) ((c .before .before .before .before .before .before .before .args .list) .now) ((c .before .before .before .before .before .before .before .args .word) .now) (c .before .before .before .table-and-word .result) (c .before .before .before .table-and-word .ensures) ((c .before .before .before .before .before .before .before .args .run) .now) (c .before .before .if1 .left) (c .before .is-accepting-run .result) (c .before .is-accepting-run .ensures)
 
--- src/run.rt:53:1
+-- src/run.rt:77:1
 returns-3 : tie.Need-returns-3
 returns-3 c = ap checkedBy (sym (c .if2 .left)) ∙ check-tried (c .before .before .before .before .before .before .before .args .m) ((c .before .before .before .before .before .before .before .args .list) .now) ((c .before .before .before .before .before .before .before .args .word) .now) (c .before .before .before .table-and-word .result) (c .before .before .before .table-and-word .ensures) ((c .before .before .before .before .before .before .before .args .run) .now) (c .before .before .if1 .left) (c .before .is-accepting-run .result) (c .before .is-accepting-run .ensures)
 

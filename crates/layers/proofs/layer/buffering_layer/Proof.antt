@@ -2,7 +2,7 @@ use Rattle.layers.proofs.LayerCases.{buffering-zero, buffering-letter, 
 use Rattle.layers.specs.Ways.Laws.{kind-ways}
 use borrow.Author.Tests.{not-true}
 use native.Mathlib.Omega.{arith}
-use Rattle.language.specs.Rules.{rules}
+use Rattle.fsbm.specs.Rules.{rules}
 use borrow.Author.Needs.{needs}
 use Rattle.layers.proofs.layer.buffering_layer.Statement.{statement}
 use Rattle.layers.proofs.layer.buffering_layer.Tie as tie

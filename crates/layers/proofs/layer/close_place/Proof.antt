@@ -1,7 +1,7 @@
 use Rattle.layers.proofs.LayerCases.{lower-here, lower-then, closed-after}
 use Rattle.layers.specs.Layers.{LowerPlace}
 use Rattle.layers.specs.Rows.{weight}
-use Rattle.language.specs.Rules.{rules}
+use Rattle.fsbm.specs.Rules.{rules}
 use borrow.Author.Tests.{not-true, not-false}
 use Prim.Native.Nat.{_+_}
 use Rattle.layers.proofs.layer.close_place.Statement.{statement}

@@ -1,6 +1,6 @@
 use Rattle.layers.proofs.LayerCases.{emptying-blank, emptying-letter, emptying-none, lives}
 use borrow.Author.Tests.{not-true}
-use Rattle.language.specs.Rules.{rules}
+use Rattle.fsbm.specs.Rules.{rules}
 use borrow.Author.Needs.{needs}
 use Rattle.layers.proofs.layer.emptying_layer.Statement.{statement}
 use Rattle.layers.proofs.layer.emptying_layer.Tie as tie

@@ -1,6 +1,6 @@
 use Rattle.layers.proofs.LayerCases.{place-zero, place-letter, place-none, lives}
 use borrow.Author.Tests.{not-true}
-use Rattle.language.specs.Rules.{rules}
+use Rattle.fsbm.specs.Rules.{rules}
 use borrow.Author.Needs.{needs}
 use Rattle.layers.proofs.layer.place_layer.Statement.{statement}
 use Rattle.layers.proofs.layer.place_layer.Tie as tie

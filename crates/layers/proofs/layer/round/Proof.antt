@@ -4,7 +4,7 @@ use mathlib.Core.Bool.{false≢true}
 use mathlib.Core.Logic.{inl, inr}
 use mathlib.Core.Path.{sym}
 use native.Mathlib.Omega.{arith}
-use Rattle.language.specs.Rules.{rules}
+use Rattle.fsbm.specs.Rules.{rules}
 use borrow.Author.Needs.{needs}
 use Rattle.layers.proofs.layer.round.Statement.{statement}
 use Rattle.layers.proofs.layer.round.Tie as tie

@@ -1,6 +1,6 @@
 use Rattle.layers.proofs.LayerCases.{storing-zero, storing-letter, storing-none, lives}
 use borrow.Author.Tests.{not-true}
-use Rattle.language.specs.Rules.{rules}
+use Rattle.fsbm.specs.Rules.{rules}
 use borrow.Author.Needs.{needs}
 use Rattle.layers.proofs.layer.storing_layer.Statement.{statement}
 use Rattle.layers.proofs.layer.storing_layer.Tie as tie

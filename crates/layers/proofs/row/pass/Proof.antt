@@ -1,5 +1,5 @@
 use Rattle.layers.specs.Ways.Laws.{key-in-below}
-use Rattle.language.specs.Rules.{rules}
+use Rattle.fsbm.specs.Rules.{rules}
 use borrow.Author.Needs.{needs}
 use mathlib.Core.Logic.{⊎-elim}
 use Prim.Native.Nat.{_-_, _+_}

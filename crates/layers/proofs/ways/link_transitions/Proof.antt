@@ -1,4 +1,4 @@
-use Rattle.language.specs.Rules.{rules}
+use Rattle.fsbm.specs.Rules.{rules}
 use Rattle.layers.proofs.WayCases.{transitions-end}
 use borrow.Author.Needs.{needs}
 use Prim.Native.Nat.{_-_}

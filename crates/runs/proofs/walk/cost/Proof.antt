@@ -1,6 +1,6 @@
 use mathlib.Core.Path.{_≡_, refl, sym, ap, _∙_}
 use native.Mathlib.Omega.{arith}
-use Rattle.language.specs.Rules.{placed}
+use Rattle.fsbm.specs.Rules.{placed}
 use Rattle.runs.specs.Walk.Laws.{best-normal, best-begun, best-past, best-buffering, best-emptying}
 use Rattle.runs.proofs.WalkCases.{best-at}
 use borrow.Author.Needs.{needs}

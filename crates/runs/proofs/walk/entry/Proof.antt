@@ -1,5 +1,5 @@
 use Rattle.runs.proofs.WalkCases.{entry-found, entry-change}
-use Rattle.language.specs.Rules.{rules}
+use Rattle.fsbm.specs.Rules.{rules}
 use native.Mathlib.Omega.{arith}
 use borrow.Author.Needs.{needs}
 use Rattle.runs.proofs.walk.entry.Statement.{statement}

@@ -1,7 +1,7 @@
 use mathlib.Core.Path.{_≡_, refl, sym, ap, _∙_}
 use native.Mathlib.Omega.{arith}
 use borrow.Author.Tests.{not-true, not-false}
-use Rattle.language.specs.Rules.{rules}
+use Rattle.fsbm.specs.Rules.{rules}
 use Rattle.runs.proofs.WalkCases.{leads-next, leads-not, leads-said, leads-elsewhere}
 use borrow.Author.Needs.{needs}
 use Rattle.runs.proofs.walk.leads.Statement.{statement}

@@ -1,5 +1,5 @@
 use Rattle.runs.proofs.WalkCases.{Passed, scan-start, scan-found, scan-more, scan-none}
-use Rattle.language.specs.Rules.{rules, placed}
+use Rattle.fsbm.specs.Rules.{rules, placed}
 use borrow.Author.Needs.{needs}
 use native.Mathlib.Omega.{arith}
 use lib.ListN.{getD}

@@ -1,6 +1,6 @@
 use Rattle.runs.proofs.WalkCases.{walk-entry, walk-refresh}
 use Rattle.runs.specs.Walk.Laws.{Walking, walk-start, walk-next, walk-end}
-use Rattle.language.specs.Rules.{rules}
+use Rattle.fsbm.specs.Rules.{rules}
 use Rattle.fsbm.specs.declared.config.Move.{Move}
 use lib.ListN.{length, length-set}
 use borrow.Author.Needs.{needs}

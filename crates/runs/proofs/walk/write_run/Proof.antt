@@ -1,4 +1,4 @@
-use Rattle.language.specs.Rules.{rules}
+use Rattle.fsbm.specs.Rules.{rules}
 use native.Mathlib.Omega.{arith}
 use borrow.Author.Needs.{needs}
 use Rattle.runs.proofs.walk.write_run.Statement.{statement}

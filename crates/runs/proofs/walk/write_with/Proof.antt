@@ -1,5 +1,5 @@
 use Rattle.runs.specs.Walk.Laws.{begun}
-use Rattle.language.specs.Rules.{rules}
+use Rattle.fsbm.specs.Rules.{rules}
 use lib.ListN.{length}
 use native.Mathlib.Omega.{arith}
 use mathlib.Core.Path.{_≡_, refl, sym, ap, _∙_, subst}

@@ -1,6 +1,6 @@
 use borrow.Author.Needs.{needs}
 use Rattle.tables.proofs.CopyCases.{Buffered, buffer-rows-start, buffer-rows-next, buffer-rows-end}
-use Rattle.language.specs.Rules.{rules}
+use Rattle.fsbm.specs.Rules.{rules}
 use lib.ListN.{length}
 use native.Mathlib.Omega.{arith}
 use mathlib.Core.Path.{_≡_, refl, sym, ap, _∙_, subst}

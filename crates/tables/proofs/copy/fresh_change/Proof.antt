@@ -1,7 +1,7 @@
 use Rattle.tables.proofs.CopyCases.{change-dead, change-wound, change-blank}
 use Rattle.tables.specs.Tables.Laws.{empty-start}
 use Rattle.tables.specs.Tables.{EmptyRow}
-use Rattle.language.specs.Rules.{rules}
+use Rattle.fsbm.specs.Rules.{rules}
 use borrow.Author.Tests.{not-true, not-false}
 use Prim.Native.Nat.{_+_}
 use native.Mathlib.Omega.{arith}

@@ -1,5 +1,5 @@
 use Rattle.tables.proofs.CopyCases.{stored-both, stored-one, stored-none}
-use Rattle.language.specs.Rules.{rules}
+use Rattle.fsbm.specs.Rules.{rules}
 use mathlib.Core.Path.{_≡_, refl, sym, ap, _∙_}
 use borrow.Author.Needs.{needs}
 use Rattle.tables.proofs.copy.stored_row.Statement.{statement}

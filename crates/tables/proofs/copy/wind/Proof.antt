@@ -1,5 +1,5 @@
 use Rattle.tables.proofs.CopyCases.{Winding, wound-next, wound-dead, wound-whole}
-use Rattle.language.specs.Rules.{rules}
+use Rattle.fsbm.specs.Rules.{rules}
 use borrow.Author.Tests.{not-true, not-false}
 use Prim.Native.Nat.{_+_, _-_}
 use native.Mathlib.Omega.{arith}

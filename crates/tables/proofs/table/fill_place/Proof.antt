@@ -2,7 +2,7 @@ use Rattle.layers.specs.Layers.{blankRow}
 use Rattle.tables.proofs.FillCases.{filling-placed, filling-blank, blank-best, onward-best}
 use Rattle.tables.specs.Tables.Laws.{place-before}
 use Rattle.tables.specs.Tables.{BufferRow}
-use Rattle.language.specs.Rules.{rules}
+use Rattle.fsbm.specs.Rules.{rules}
 use borrow.Author.Tests.{not-true, not-false}
 use native.Mathlib.Omega.{arith}
 use mathlib.Core.Bool.{false, false≢true}

@@ -1,61 +1,63 @@
-use mathlib.Core.Path.{_≡_, refl, sym, _∙_, ap}
+use Rattle.fsbm.proofs.ConfigCases.{ranges, move-unplaced, move-change, move-not-taken, move-taken}
 use borrow.Author.Tests.{not-true, not-false}
-use Rattle.fsbm.proofs.ConfigCases.{placed-buffer, move-unplaced, move-change, move-elsewhere, move-take}
-use lib.ListN.{length}
+use mathlib.Core.Path.{sym, _∙_}
+use borrow.Author.Needs.{needs}
+use native.Mathlib.Omega.{arith}
 use borrow.Author.Needs.{needs}
 use Rattle.fsbm.proofs.config.Config.moved.Statement.{statement}
 use Rattle.fsbm.proofs.config.Config.moved.Tie as tie
 use Rattle.fsbm.proofs.config.Config.moved.Reads as reads
 use Rattle.fsbm.proofs.config.Config.moved.Lts as lts
+use Rattle.fsbm.proofs.config.Config.after.Reads as after-reads
 use Rattle.fsbm.proofs.config.Config.change_mode.Reads as change-mode-reads
 use Rattle.fsbm.proofs.config.Config.is_well_placed.Reads as is-well-placed-reads
+use Rattle.fsbm.proofs.config.Config.may_take.Reads as may-take-reads
 use Rattle.fsbm.proofs.config.Config.stay.Reads as stay-reads
-use Rattle.fsbm.proofs.config.Config.take.Reads as take-reads
 use Rattle.fsbm.proofs.machine.transition_at.Reads as transition-at-reads
 
--- src/config.rt:322:13
+-- src/config.rt:318:13
 is-well-placed-requires : tie.Need-is-well-placed-requires
 is-well-placed-requires c κs = search needs
 
--- src/config.rt:323:13
+-- src/config.rt:319:13
 stay-requires : tie.Need-stay-requires
 stay-requires c κs = search needs
 
--- src/config.rt:323:13
+-- src/config.rt:319:13
 returns : tie.Need-returns
 returns c = λ m es et em. (c .stay .ensures) ∙ move-unplaced m (c .before .before .before .before .before .args .states) (c .before .before .before .before .before .args .transitions) ((c .before .before .before .before .before .args .marks) .now) es et em ((c .before .before .before .before .before .args .list) .now) ((c .before .before .before .before .before .args .word) .now) (c .before .before .before .before .before .args .self) (c .before .before .before .before .before .args .entry) (sym (c .before .before .is-well-placed .ensures) ∙ not-true _ (c .before .if1 .taken))
 
--- src/config.rt:327:13
+-- src/config.rt:323:13
 change-mode-requires : tie.Need-change-mode-requires
 change-mode-requires c κs = search needs
 
--- src/config.rt:327:13
+-- src/config.rt:323:13
 returns-2 : tie.Need-returns-2
 returns-2 c = λ m es et em. (c .change-mode .ensures) ∙ move-change m (c .before .before .before .before .before .before .args .states) (c .before .before .before .before .before .before .args .transitions) ((c .before .before .before .before .before .before .args .marks) .now) es et em ((c .before .before .before .before .before .before .args .list) .now) ((c .before .before .before .before .before .before .args .word) .now) (c .before .before .before .before .before .before .args .self) (c .before .before .before .before .before .before .args .entry) (sym (c .before .before .before .is-well-placed .ensures) ∙ not-false _ (c .before .before .if1 .left)) (c .before .if2 .taken)
 
--- src/config.rt:329:13
+-- src/config.rt:325:13
 transition-at-requires : tie.Need-transition-at-requires
 transition-at-requires c κs = search needs
 
--- src/config.rt:330:12
-cast-if3 : tie.Need-cast-if3
-cast-if3 c = search needs
+-- src/config.rt:326:13
+may-take-requires : tie.Need-may-take-requires
+may-take-requires c κs = search needs
 
--- src/config.rt:331:13
+-- src/config.rt:327:13
 stay-requires-2 : tie.Need-stay-requires-2
 stay-requires-2 c κs = search needs
 
--- src/config.rt:331:13
+-- src/config.rt:327:13
 returns-3 : tie.Need-returns-3
-returns-3 c = λ m es et em. (c .stay2 .ensures) ∙ move-elsewhere m (c .before .before .before .before .before .before .before .before .before .before .args .states) (c .before .before .before .before .before .before .before .before .before .before .args .transitions) ((c .before .before .before .before .before .before .before .before .before .before .args .marks) .now) es et em ((c .before .before .before .before .before .before .before .before .before .before .args .list) .now) ((c .before .before .before .before .before .before .before .before .before .before .args .word) .now) (c .before .before .before .before .before .before .before .before .before .before .args .self) (c .before .before .before .before .before .before .before .before .before .before .args .entry) (sym (c .before .before .before .before .before .before .before .is-well-placed .ensures) ∙ not-false _ (c .before .before .before .before .before .before .if1 .left)) (c .before .before .before .before .before .if2 .left) (c .before .before .before .before .transition-at .result) (c .before .before .before .before .transition-at .ensures) (c .before .if3 .taken)
+returns-3 c = λ m es et em. (c .stay2 .ensures) ∙ move-not-taken m (c .before .before .before .before .before .before .before .before .before .args .states) (c .before .before .before .before .before .before .before .before .before .args .transitions) ((c .before .before .before .before .before .before .before .before .before .args .marks) .now) es et em ((c .before .before .before .before .before .before .before .before .before .args .list) .now) ((c .before .before .before .before .before .before .before .before .before .args .word) .now) (c .before .before .before .before .before .before .before .before .before .args .self) (c .before .before .before .before .before .before .before .before .before .args .entry) (sym (c .before .before .before .before .before .before .is-well-placed .ensures) ∙ not-false _ (c .before .before .before .before .before .if1 .left)) (c .before .before .before .before .if2 .left) (c .before .before .before .transition-at .result) (c .before .before .before .transition-at .ensures) (sym (c .before .before .may-take .ensures) ∙ not-true _ (c .before .if3 .taken))
 
--- src/config.rt:333:9
-take-requires : tie.Need-take-requires
-take-requires c κs = placed-buffer (c .before .before .before .before .before .before .before .before .before .args .states) (length ((c .before .before .before .before .before .before .before .before .before .args .word) .now)) (c .before .before .before .before .before .before .before .before .before .args .self) (sym (c .before .before .before .before .before .before .is-well-placed .ensures) ∙ not-false _ (c .before .before .before .before .before .if1 .left))
+-- src/config.rt:331:21
+after-requires : tie.Need-after-requires
+after-requires c κs = let p = ranges (c .before .before .before .before .before .before .before .before .args .states) ((c .before .before .before .before .before .before .before .before .args .word) .now) (c .before .before .before .before .before .before .before .before .args .self) (sym (c .before .before .before .before .before .is-well-placed .ensures) ∙ not-false _ (c .before .before .before .before .if1 .left)) in (omega (arith, p .0, (c .before .before .before .before .before .before .before .before .good)), p .1, p .2)
 
--- src/config.rt:315:5
+-- src/config.rt:306:5
 returns-4 : tie.Need-returns-4
-returns-4 c = λ m es et em. (c .take .ensures) ∙ move-take m (c .before .before .before .before .before .before .before .before .before .before .args .states) (c .before .before .before .before .before .before .before .before .before .before .args .transitions) ((c .before .before .before .before .before .before .before .before .before .before .args .marks) .now) es et em ((c .before .before .before .before .before .before .before .before .before .before .args .list) .now) ((c .before .before .before .before .before .before .before .before .before .before .args .word) .now) (c .before .before .before .before .before .before .before .before .before .before .args .self) (c .before .before .before .before .before .before .before .before .before .before .args .entry) (sym (c .before .before .before .before .before .before .before .is-well-placed .ensures) ∙ not-false _ (c .before .before .before .before .before .before .if1 .left)) (c .before .before .before .before .before .if2 .left) (c .before .before .before .before .transition-at .result) (c .before .before .before .before .transition-at .ensures) (c .before .if3 .left)
+returns-4 c = λ m es et em. move-taken m (c .before .before .before .before .before .before .before .before .before .args .states) (c .before .before .before .before .before .before .before .before .before .args .transitions) ((c .before .before .before .before .before .before .before .before .before .args .marks) .now) es et em ((c .before .before .before .before .before .before .before .before .before .args .list) .now) ((c .before .before .before .before .before .before .before .before .before .args .word) .now) (c .before .before .before .before .before .before .before .before .before .args .self) (c .before .before .before .before .before .before .before .before .before .args .entry) (sym (c .before .before .before .before .before .before .is-well-placed .ensures) ∙ not-false _ (c .before .before .before .before .before .if1 .left)) (c .before .before .before .before .if2 .left) (c .before .before .before .transition-at .result) (c .before .before .before .transition-at .ensures) (sym (c .before .before .may-take .ensures) ∙ not-false _ (c .before .if3 .left)) (c .after .result) (c .after .ensures)
 
 pub moved-spec : {M : Type 1} → statement M
 moved-spec =
@@ -67,8 +69,8 @@ moved-spec =
     change-mode-requires
     returns-2
     transition-at-requires
-    cast-if3
+    may-take-requires
     stay-requires-2
     returns-3
-    take-requires
+    after-requires
     returns-4)

@@ -1,0 +1,34 @@
+use Rattle.adjacency.specs.Index.Laws.{zeros-at}
+use borrow.Author.Needs.{needs}
+use native.Mathlib.Omega.{arith}
+use borrow.Author.Needs.{needs}
+use Rattle.decide.proofs.words.accepts_few.Statement.{statement}
+use Rattle.decide.proofs.words.accepts_few.Tie as tie
+use Rattle.decide.proofs.words.accepts_few.Reads as reads
+use Rattle.decide.proofs.words.accepts_few.Lts as lts
+use Rattle.decide.proofs.words.accepts_with.Reads as accepts-with-reads
+
+-- src/words.rt:41:36
+slice-aggregate-accepts-with : tie.Need-slice-aggregate-accepts-with
+slice-aggregate-accepts-with c = search needs
+
+-- src/words.rt:41:48
+slice-aggregate-accepts-with-2 : tie.Need-slice-aggregate-accepts-with-2
+slice-aggregate-accepts-with-2 c = search needs
+
+-- src/words.rt:41:5
+accepts-with-requires : tie.Need-accepts-with-requires
+accepts-with-requires c κs = ((c .before .before .before .before .pre) .0, (c .before .before .before .before .pre) .1, (c .before .before .before .before .pre) .2, omega (arith, (c .before .before .before .before .pre) .3), zeros-at 256, omega arith)
+
+-- src/words.rt:35:1
+returns : tie.Need-returns
+returns c = search needs
+
+pub accepts-few-spec : {M : Type 1} → statement M
+accepts-few-spec =
+    tie.close
+    (tie.spec
+    slice-aggregate-accepts-with
+    slice-aggregate-accepts-with-2
+    accepts-with-requires
+    returns)

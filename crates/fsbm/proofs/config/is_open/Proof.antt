@@ -1,0 +1,25 @@
+use Rattle.graphs.specs.Search.Loops.{pass, stop}
+use mathlib.Core.Bool.{not}
+use mathlib.Core.Path.{ap}
+use borrow.Author.Needs.{needs}
+use borrow.Author.Needs.{needs}
+use Rattle.fsbm.proofs.config.is_open.Statement.{statement}
+use Rattle.fsbm.proofs.config.is_open.Tie as tie
+use Rattle.fsbm.proofs.config.is_open.Reads as reads
+use Rattle.fsbm.proofs.config.is_open.Lts as lts
+use Rattle.fsbm.proofs.machine.is_buffering.Reads as is-buffering-reads
+
+-- src/config.rt:74:9
+returns : tie.Need-returns
+returns c = stop _ (ap not (c .if1 .taken))
+
+-- src/config.rt:76:6
+is-buffering-requires : tie.Need-is-buffering-requires
+is-buffering-requires c κs = search needs
+
+-- src/config.rt:70:1
+returns-2 : tie.Need-returns-2
+returns-2 c = pass (ap not (c .before .if1 .left)) (ap not (c .is-buffering .ensures))
+
+pub is-open-spec : {M : Type 1} → statement M
+is-open-spec = tie.close (tie.spec returns is-buffering-requires returns-2)

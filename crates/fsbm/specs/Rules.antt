@@ -1,0 +1,123 @@
+-- What the rules of a table say, part by part, and where a configuration stands that a move is allowed from.
+--
+-- Rules m list         == what the laws use of wellFormed
+-- rules                == wellFormed says it
+-- buffering-below, matching-below == a state of that kind is one of the machine's
+-- Placed m w c t       == what wellPlaced says of c, its mode taken as t
+-- placed, unplaced     == wellPlaced is true exactly if it holds
+use Prim.Native.Nat.{ℕ, _*_, _-_, _/_, _%_, _≤_, _<_}
+use mathlib.Core.Path.{_≡_}
+use mathlib.Core.Logic.{_⊎_, inl, inr}
+use mathlib.Core.Bool.{Bool, true, false, _&&_, _||_}
+use mathlib.Core.List.{List}
+use native.Mathlib.Omega.{arith}
+use lib.ListN.{length}
+use lib.Dec.{leb, ltb, eqb}
+use borrow.Author.Tests.{leb-true, ltb-true, eqb-true, le-leb, lt-ltb}
+use Rattle.graphs.specs.Search.{allBelow}
+use Rattle.graphs.specs.Search.Laws.{and-true, and-both-true, true-or-false, allBelow-true}
+use Rattle.fsbm.specs.Machine.{wellFormed, goodMark, named, precedes, goodTransition, transitionAt, markOf, maxStates, maxLetters, maxTransitions, buffering, matching}
+use Rattle.fsbm.specs.Moves.{wellPlaced, bufferFits}
+use Rattle.fsbm.specs.declared.machine.Machine.{Machine}
+use Rattle.fsbm.specs.declared.machine.Transition.{Transition}
+use Rattle.fsbm.specs.declared.config.Config.{Config}
+use Rattle.fsbm.specs.declared.config.Mode.{Mode}
+
+pub record Rules (m : Machine) (list : List ℕ) : Type 0 where
+  pub some-state : 1 ≤ m .states
+  pub states-fit : m .states ≤ 64
+  pub transitions-fit : m .transitions ≤ 4000
+  pub list-fits : m .transitions * 3 ≤ length list
+  pub marks-good : (q : ℕ) → q < 64 → goodMark m q ≡ true
+  pub from-below : (k : ℕ) → k < m .transitions → transitionAt list k .from < m .states
+  pub to-below : (k : ℕ) → k < m .transitions → transitionAt list k .to < m .states
+
+named-says : (m : Machine) (t : Transition) (b : Bool) → (named (m .states) (m .letters) t && b) ≡ true → (t .from < m .states) × (t .to < m .states)
+named-says m t b h =
+    let n = and-true (named (m .states) (m .letters) t) b h .0 in
+    let (from, rest) = and-true (ltb (t .from) (m .states)) (leb (t .letter) (m .letters) && ltb (t .to) (m .states)) n in
+    let (letter, to) = and-true (leb (t .letter) (m .letters)) (ltb (t .to) (m .states)) rest in
+    (ltb-true (t .from) (m .states) from, ltb-true (t .to) (m .states) to)
+
+pub rules : (m : Machine) (list : List ℕ) → wellFormed m list ≡ true → Rules m list
+unfolding wellFormed
+rules m list h =
+    let good = goodTransition (m .states) (m .letters) list in
+    let all = allBelow maxStates (goodMark m) && allBelow (m .transitions) good in
+    let enough = leb (m .transitions * 3) (length list) in
+    let few = leb (m .transitions) maxTransitions in
+    let letters = leb (m .letters) maxLetters in
+    let (a, r₁) = and-true (leb 1 (m .states)) (leb (m .states) maxStates && (letters && (few && (enough && all)))) h in
+    let (b, r₂) = and-true (leb (m .states) maxStates) (letters && (few && (enough && all))) r₁ in
+    let (c, r₃) = and-true letters (few && (enough && all)) r₂ in
+    let (d, r₄) = and-true few (enough && all) r₃ in
+    let (e, r₅) = and-true enough all r₄ in
+    let (marks, moves) = and-true (allBelow maxStates (goodMark m)) (allBelow (m .transitions) good) r₅ in
+    let each : (k : ℕ) → k < m .transitions → (transitionAt list k .from < m .states) × (transitionAt list k .to < m .states) =
+    λ k lt. named-says m (transitionAt list k) (eqb k 0 || precedes (transitionAt list (k - 1)) (transitionAt list k)) (allBelow-true good (m .transitions) .0 moves k lt) in
+    record {
+      some-state = leb-true 1 (m .states) a;
+      states-fit = leb-true (m .states) maxStates b;
+      transitions-fit = leb-true (m .transitions) maxTransitions d;
+      list-fits = leb-true (m .transitions * 3) (length list) e;
+      marks-good = allBelow-true (goodMark m) maxStates .0 marks;
+      from-below = λ k lt. each k lt .0;
+      to-below = λ k lt. each k lt .1;
+    }
+
+-- a state whose mark is not 0 is one of the machine's
+marked : (m : Machine) (list : List ℕ) → Rules m list → (q : ℕ) → (markOf (m .marks) q ≡ 0 → ⊥) → q < m .states
+marked m list r q some = at (true-or-false (ltb q maxStates)) (true-or-false (ltb q (m .states)))
+  where
+    at : (ltb q maxStates ≡ true) ⊎ (ltb q maxStates ≡ false) → (ltb q (m .states) ≡ true) ⊎ (ltb q (m .states) ≡ false) → q < m .states
+    at a (inl t) = ltb-true q (m .states) t
+    at (inl a) (inr f) = absurd (some (eqb-true (markOf (m .marks) q) 0 (rw f at (r .marks-good q (ltb-true q maxStates a)))))
+    at (inr a) (inr f) = absurd (some (rw a))
+
+pub buffering-below : (m : Machine) (list : List ℕ) → Rules m list → (q : ℕ) → buffering (m .marks) q ≡ true → q < m .states
+buffering-below m list r q h = marked m list r q (λ z. zero-bit (markOf (m .marks) q) (eqb-true (markOf (m .marks) q / 4 % 2) 1 h) z)
+  where
+    zero-bit : (x : ℕ) → x / 4 % 2 ≡ 1 → x ≡ 0 → ⊥
+    zero-bit x e z = omega arith
+
+pub matching-below : (m : Machine) (list : List ℕ) → Rules m list → (q : ℕ) → matching (m .marks) q ≡ true → q < m .states
+matching-below m list r q h = marked m list r q (λ z. zero-bit (markOf (m .marks) q) (eqb-true (markOf (m .marks) q / 8 % 2) 1 h) z)
+  where
+    zero-bit : (x : ℕ) → x / 8 % 2 ≡ 1 → x ≡ 0 → ⊥
+    zero-bit x e z = omega arith
+
+pub record Placed (m : Machine) (w : List ℕ) (c : Config) (t : Mode) : Type 0 where
+  pub in-word : c .position ≤ length w
+  pub state-below : c .state < m .states
+  pub forward : c .start ≤ c .end
+  pub behind : c .end ≤ c .position
+  pub fits : bufferFits c t ≡ true
+
+module _ (m : Machine) (w : List ℕ) (c : Config) where
+  pub placed : wellPlaced (m .states) (length w) c ≡ true → Placed m w c (c .mode)
+  unfolding wellPlaced
+  placed h =
+      let fits = bufferFits c (c .mode) in
+      let (a, r₁) = and-true (leb (c .position) (length w)) (ltb (c .state) (m .states) && (leb (c .start) (c .end) && (leb (c .end) (c .position) && fits))) h in
+      let (b, r₂) = and-true (ltb (c .state) (m .states)) (leb (c .start) (c .end) && (leb (c .end) (c .position) && fits)) r₁ in
+      let (d, r₃) = and-true (leb (c .start) (c .end)) (leb (c .end) (c .position) && fits) r₂ in
+      let (e, f) = and-true (leb (c .end) (c .position)) fits r₃ in
+      record {
+        in-word = leb-true (c .position) (length w) a;
+        state-below = ltb-true (c .state) (m .states) b;
+        forward = leb-true (c .start) (c .end) d;
+        behind = leb-true (c .end) (c .position) e;
+        fits = f;
+      }
+
+  pub unplaced : Placed m w c (c .mode) → wellPlaced (m .states) (length w) c ≡ true
+  unfolding wellPlaced
+  unplaced p =
+      let fits = bufferFits c (c .mode) in
+      and-both-true (leb (c .position) (length w)) (ltb (c .state) (m .states) && (leb (c .start) (c .end) && (leb (c .end) (c .position) && fits)))
+      (le-leb (c .position) (length w) (p .in-word))
+      (and-both-true (ltb (c .state) (m .states)) (leb (c .start) (c .end) && (leb (c .end) (c .position) && fits))
+      (lt-ltb (c .state) (m .states) (p .state-below))
+      (and-both-true (leb (c .start) (c .end)) (leb (c .end) (c .position) && fits)
+      (le-leb (c .start) (c .end) (p .forward))
+      (and-both-true (leb (c .end) (c .position)) fits (le-leb (c .end) (c .position) (p .behind)) (p .fits))))

@@ -1,0 +1,101 @@
+use Prim.Native.Nat.{_<_, _≤_, _-_, _^_, _+_}
+use mathlib.Core.Path.{_≡_}
+use lib.ListN.{length}
+use Rattle.decide.specs.Graph.{Good}
+use borrow.Author.Needs.{needs}
+use native.Mathlib.Omega.{arith}
+use Rattle.trace.proofs.copies.any_copy_back.Statement.{statement}
+use Rattle.trace.proofs.copies.any_copy_back.Tie as tie
+use Rattle.trace.proofs.copies.any_copy_back.Reads as reads
+use Rattle.trace.proofs.copies.any_copy_back.Lts as lts
+use Rattle.trace.proofs.copies.copies_back.Reads as copies-back-reads
+use Rattle.trace.proofs.copies.starts_at.Reads as starts-at-reads
+use Rattle.trace.proofs.points.lost.Reads as lost-reads
+
+abbrev Inv-loop : tie.InvT-loop
+Inv-loop targets firsts numbers g h word sets p left at out₀ tried₀ d₀ out tried d = Good targets numbers × (p ≤ length word) × (p < 256) × (d + d ≤ p) × (length out ≡ length out₀)
+
+abbrev μ-loop : tie.MeasureT-loop
+μ-loop targets firsts numbers g h word sets p left at out₀ tried₀ d₀ out tried d = d
+
+-- src/copies.rt:284:13
+lost-requires : tie.Need-lost-requires Inv-loop μ-loop
+lost-requires c κs = search needs
+
+-- src/copies.rt:289:5
+loop-holds : tie.Need-loop-holds Inv-loop μ-loop
+loop-holds c = search needs
+
+-- src/copies.rt:291:13
+same-length : tie.Need-same-length Inv-loop μ-loop
+same-length c = search needs
+
+-- src/copies.rt:291:13
+returns : tie.Need-returns Inv-loop μ-loop
+returns c = search needs
+
+-- src/copies.rt:293:17
+sub-i : tie.Need-sub-i Inv-loop μ-loop
+sub-i c = search needs
+
+-- src/copies.rt:293:17
+sub-i-2 : tie.Need-sub-i-2 Inv-loop μ-loop
+sub-i-2 c = search needs
+
+-- src/copies.rt:294:13
+starts-at-requires : tie.Need-starts-at-requires Inv-loop μ-loop
+starts-at-requires c κs = search needs
+
+-- src/copies.rt:295:9
+copies-back-requires : tie.Need-copies-back-requires Inv-loop μ-loop
+copies-back-requires c κs = search needs
+
+-- src/copies.rt:297:13
+same-length-2 : tie.Need-same-length-2 Inv-loop μ-loop
+same-length-2 c = search needs
+
+-- src/copies.rt:297:13
+returns-2 : tie.Need-returns-2 Inv-loop μ-loop
+returns-2 c = search needs
+
+-- src/copies.rt:299:9
+sub-d : tie.Need-sub-d Inv-loop μ-loop
+sub-d c = search needs
+
+-- src/copies.rt:289:5
+loop-less : tie.Need-loop-less Inv-loop μ-loop
+loop-less c = search needs
+
+-- src/copies.rt:289:5
+loop-again : tie.Need-loop-again Inv-loop μ-loop
+loop-again c = search needs
+
+-- src/copies.rt:268:1
+same-length-3 : tie.Need-same-length-3 Inv-loop μ-loop
+same-length-3 c = search needs
+
+-- src/copies.rt:268:1
+returns-3 : tie.Need-returns-3 Inv-loop μ-loop
+returns-3 c = search needs
+
+pub any-copy-back-spec : {M : Type 1} → statement M
+any-copy-back-spec =
+    tie.close
+    (tie.spec
+    Inv-loop
+    μ-loop
+    lost-requires
+    loop-holds
+    same-length
+    returns
+    sub-i
+    sub-i-2
+    starts-at-requires
+    copies-back-requires
+    same-length-2
+    returns-2
+    sub-d
+    loop-less
+    loop-again
+    same-length-3
+    returns-3)

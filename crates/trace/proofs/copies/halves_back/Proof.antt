@@ -1,0 +1,87 @@
+use mathlib.Core.Path.{_∙_}
+use borrow.Author.Needs.{needs}
+use native.Mathlib.Omega.{arith}
+use borrow.Author.Needs.{needs}
+use Rattle.trace.proofs.copies.halves_back.Statement.{statement}
+use Rattle.trace.proofs.copies.halves_back.Tie as tie
+use Rattle.trace.proofs.copies.halves_back.Reads as reads
+use Rattle.trace.proofs.copies.halves_back.Lts as lts
+use Rattle.trace.proofs.copies.unread.Reads as unread-reads
+use Rattle.trace.proofs.levels.only.Reads as only-reads
+use Rattle.trace.proofs.levels.settle.Reads as settle-reads
+use Rattle.trace.proofs.points.come_to.Reads as come-to-reads
+
+-- src/copies.rt:144:9
+only-requires : tie.Need-only-requires
+only-requires c κs = search needs
+
+-- src/copies.rt:145:9
+settle-requires : tie.Need-settle-requires
+settle-requires c κs = search needs
+
+-- src/copies.rt:147:9
+same-length : tie.Need-same-length
+same-length c = search needs
+
+-- src/copies.rt:147:9
+returns : tie.Need-returns
+returns c = search needs
+
+-- src/copies.rt:149:9
+unread-requires : tie.Need-unread-requires
+unread-requires c κs = search needs
+
+-- src/copies.rt:151:9
+same-length-2 : tie.Need-same-length-2
+same-length-2 c = search needs
+
+-- src/copies.rt:151:9
+returns-2 : tie.Need-returns-2
+returns-2 c = search needs
+
+-- src/copies.rt:153:9
+come-to-requires : tie.Need-come-to-requires
+come-to-requires c κs = search needs
+
+-- src/copies.rt:154:9
+unread-requires-2 : tie.Need-unread-requires-2
+unread-requires-2 c κs = (c .before .before .before .before .before .before .before .before .before .before .before .before .before .before .before .before .before .before .before .before .before .before .pre)
+
+-- src/copies.rt:156:9
+same-length-3 : tie.Need-same-length-3
+same-length-3 c = (c .before .before .before .out4 .given) ∙ ((c .before .before .before .before .before .before .before .out3 .given) ∙ ((c .before .before .before .before .before .before .before .before .before .before .before .before .before .out2 .given) ∙ (c .before .before .before .before .before .before .before .before .before .before .before .before .before .before .before .before .before .before .before .out .given)))
+
+-- src/copies.rt:156:9
+returns-3 : tie.Need-returns-3
+returns-3 c = search needs
+
+-- src/copies.rt:158:5
+come-to-requires-2 : tie.Need-come-to-requires-2
+come-to-requires-2 c κs = search needs
+
+-- src/copies.rt:125:1
+same-length-4 : tie.Need-same-length-4
+same-length-4 c = (c .before .out5 .given) ∙ ((c .before .before .before .before .before .before .before .out4 .given) ∙ ((c .before .before .before .before .before .before .before .before .before .before .before .out3 .given) ∙ ((c .before .before .before .before .before .before .before .before .before .before .before .before .before .before .before .before .before .out2 .given) ∙ (c .before .before .before .before .before .before .before .before .before .before .before .before .before .before .before .before .before .before .before .before .before .before .before .out .given))))
+
+-- src/copies.rt:125:1
+returns-4 : tie.Need-returns-4
+returns-4 c = search needs
+
+pub halves-back-spec : {M : Type 1} → statement M
+halves-back-spec =
+    tie.close
+    (tie.spec
+    only-requires
+    settle-requires
+    same-length
+    returns
+    unread-requires
+    same-length-2
+    returns-2
+    come-to-requires
+    unread-requires-2
+    same-length-3
+    returns-3
+    come-to-requires-2
+    same-length-4
+    returns-4)

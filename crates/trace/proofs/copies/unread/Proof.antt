@@ -1,0 +1,114 @@
+use Prim.Native.Nat.{_<_, _≤_, _-_, _^_, _+_}
+use mathlib.Core.Path.{_≡_}
+use lib.ListN.{length}
+use Rattle.decide.specs.Graph.{Good}
+use borrow.Author.Needs.{needs}
+use native.Mathlib.Omega.{arith}
+use Rattle.trace.proofs.copies.unread.Statement.{statement}
+use Rattle.trace.proofs.copies.unread.Tie as tie
+use Rattle.trace.proofs.copies.unread.Reads as reads
+use Rattle.trace.proofs.copies.unread.Lts as lts
+use Rattle.trace.proofs.copies.letter_at.Reads as letter-at-reads
+use Rattle.trace.proofs.copies.set_at.Reads as set-at-reads
+use Rattle.trace.proofs.levels.letter_back.Reads as letter-back-reads
+use Rattle.trace.proofs.levels.only.Reads as only-reads
+use Rattle.trace.proofs.levels.settle.Reads as settle-reads
+use Rattle.trace.proofs.points.mode_of.Reads as mode-of-reads
+
+abbrev Inv-loop : tie.InvT-loop
+Inv-loop targets firsts numbers g h word i d sets from out₀ now₀ k₀ out now k = Good targets numbers × (i < 256) × (k < 256) × (length out ≡ length out₀)
+
+abbrev μ-loop : tie.MeasureT-loop
+μ-loop targets firsts numbers g h word i d sets from out₀ now₀ k₀ out now k = k
+
+-- src/copies.rt:98:5
+loop-holds : tie.Need-loop-holds Inv-loop μ-loop
+loop-holds c = search needs
+
+-- src/copies.rt:100:13
+same-length : tie.Need-same-length Inv-loop μ-loop
+same-length c = search needs
+
+-- src/copies.rt:100:13
+returns : tie.Need-returns Inv-loop μ-loop
+returns c = search needs
+
+-- src/copies.rt:102:9
+sub-k : tie.Need-sub-k Inv-loop μ-loop
+sub-k c = search needs
+
+-- src/copies.rt:103:33
+add-letter-at : tie.Need-add-letter-at Inv-loop μ-loop
+add-letter-at c = search needs
+
+-- src/copies.rt:103:13
+letter-at-requires : tie.Need-letter-at-requires Inv-loop μ-loop
+letter-at-requires c κs = search needs
+
+-- src/copies.rt:104:13
+set-at-requires : tie.Need-set-at-requires Inv-loop μ-loop
+set-at-requires c κs = search needs
+
+-- src/copies.rt:105:9
+letter-back-requires : tie.Need-letter-back-requires Inv-loop μ-loop
+letter-back-requires c κs = search needs
+
+-- src/copies.rt:98:5
+loop-less : tie.Need-loop-less Inv-loop μ-loop
+loop-less c = search needs
+
+-- src/copies.rt:98:5
+loop-again : tie.Need-loop-again Inv-loop μ-loop
+loop-again c = search needs
+
+-- src/copies.rt:108:9
+same-length-2 : tie.Need-same-length-2 Inv-loop μ-loop
+same-length-2 c = search needs
+
+-- src/copies.rt:108:9
+returns-2 : tie.Need-returns-2 Inv-loop μ-loop
+returns-2 c = search needs
+
+-- src/copies.rt:110:9
+mode-of-requires : tie.Need-mode-of-requires Inv-loop μ-loop
+mode-of-requires c κs = search needs
+
+-- src/copies.rt:111:9
+only-requires : tie.Need-only-requires Inv-loop μ-loop
+only-requires c κs = search needs
+
+-- src/copies.rt:112:5
+settle-requires : tie.Need-settle-requires Inv-loop μ-loop
+settle-requires c κs = search needs
+
+-- src/copies.rt:80:1
+same-length-3 : tie.Need-same-length-3 Inv-loop μ-loop
+same-length-3 c = search needs
+
+-- src/copies.rt:80:1
+returns-3 : tie.Need-returns-3 Inv-loop μ-loop
+returns-3 c = search needs
+
+pub unread-spec : {M : Type 1} → statement M
+unread-spec =
+    tie.close
+    (tie.spec
+    Inv-loop
+    μ-loop
+    loop-holds
+    same-length
+    returns
+    sub-k
+    add-letter-at
+    letter-at-requires
+    set-at-requires
+    letter-back-requires
+    loop-less
+    loop-again
+    same-length-2
+    returns-2
+    mode-of-requires
+    only-requires
+    settle-requires
+    same-length-3
+    returns-3)

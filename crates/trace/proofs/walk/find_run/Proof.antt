@@ -1,0 +1,56 @@
+use Prim.Native.Nat.{_<_}
+use mathlib.Core.Path.{sym, _∙_}
+use borrow.Author.Needs.{needs}
+use native.Mathlib.Omega.{arith}
+use borrow.Author.Needs.{needs}
+use Rattle.trace.proofs.walk.find_run.Statement.{statement}
+use Rattle.trace.proofs.walk.find_run.Tie as tie
+use Rattle.trace.proofs.walk.find_run.Reads as reads
+use Rattle.trace.proofs.walk.find_run.Lts as lts
+use Rattle.fsbm.proofs.run.accepts_front.Reads as accepts-front-reads
+use Rattle.trace.proofs.walk.search.Reads as search-reads
+
+-- src/walk.rt:174:9
+search-requires : tie.Need-search-requires
+search-requires c κs = search needs
+
+-- src/walk.rt:176:9
+same-length : tie.Need-same-length
+same-length c = search needs
+
+-- src/walk.rt:176:9
+returns : tie.Need-returns
+returns c = record { fits = omega arith; accepts = λ (some : 0 < 0). absurd (omega arith) }
+
+-- src/walk.rt:178:8
+accepts-front-requires : tie.Need-accepts-front-requires
+accepts-front-requires c κs = search needs
+
+-- src/walk.rt:179:9
+same-length-2 : tie.Need-same-length-2
+same-length-2 c = search needs
+
+-- src/walk.rt:179:9
+returns-2 : tie.Need-returns-2
+returns-2 c = record { fits = omega (arith, (c .before .before .before .if1 .left)); accepts = λ some. sym (c .before .accepts-front .ensures) ∙ (c .if2 .taken) }
+
+-- src/walk.rt:160:1
+same-length-3 : tie.Need-same-length-3
+same-length-3 c = search needs
+
+-- src/walk.rt:160:1
+returns-3 : tie.Need-returns-3
+returns-3 c = record { fits = omega arith; accepts = λ (some : 0 < 0). absurd (omega arith) }
+
+pub find-run-spec : {M : Type 1} → statement M
+find-run-spec =
+    tie.close
+    (tie.spec
+    search-requires
+    same-length
+    returns
+    accepts-front-requires
+    same-length-2
+    returns-2
+    same-length-3
+    returns-3)

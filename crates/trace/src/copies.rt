@@ -1,0 +1,376 @@
+// Copies back: from a point behind a copy to one before it.
+ghost use Prim.Native.Nat.{ℕ, _+_, _≤_, _<_};
+ghost use lib.ListN.{length};
+ghost use Rattle.decide.specs.Graph.{Good};
+use crate::levels;
+use crate::points;
+use crate::points::Point;
+use decide::images;
+use fsbm::config::Mode;
+use tables::halves;
+
+// Where the search has come to: a point in normal mode, its place, and how many letters may still be followed.
+pub struct Place {
+    pub at: Point,
+    pub place: usize,
+    pub left: usize,
+}
+
+// What letters lead to, and how many of them were followed.
+struct Followed {
+    set: u64,
+    letters: usize,
+}
+
+// The states of `sets` at k, none past its end.
+fn set_at(sets: &[u64; 129], k: usize) -> u64 {
+    if 129 <= k {
+        return 0;
+    }
+    sets[k]
+}
+
+fn keep_set(sets: &mut [u64; 129], k: usize, set: u64) {
+    if 129 <= k {
+        return;
+    }
+    sets[k] = set;
+}
+
+// The letter of a word at k, none (0) past its end.
+pub fn letter_at(word: &[u8], k: usize) -> u8 {
+    if word.len() <= k {
+        return 0;
+    }
+    word[k]
+}
+
+// Follows a set through the d letters from i on in a mode; the set after each of them is kept.
+fn follow(
+    targets: &[u64],
+    numbers: &[u8; 256],
+    g: u64,
+    h: u64,
+    mode: Mode,
+    word: &[u8],
+    i: usize,
+    d: usize,
+    from: u64,
+    sets: &mut [u64; 129],
+) -> Followed
+    requires { ⌜ Good (now targets) (now numbers) × (i < 256) × (d < 256) ⌝ }
+{
+    let mut set = images::close_set(targets, numbers, g, h, mode, from);
+    keep_set(sets, 0, set);
+    let mut k: usize = 0;
+    while k < d {
+        if set == 0 {
+            return Followed { set, letters: k };
+        }
+        let x = letter_at(word, i + k);
+        let read = images::step_set(targets, numbers, g, h, mode, set, x);
+        set = images::close_set(targets, numbers, g, h, mode, read);
+        k += 1;
+        keep_set(sets, k, set);
+    }
+    Followed { set, letters: k }
+}
+
+// Back from a point through the d letters from i on, along the sets that `follow` kept, to a state of the set that it began with.
+fn unread(
+    targets: &[u64],
+    firsts: &[u16],
+    numbers: &[u8; 256],
+    g: u64,
+    h: u64,
+    word: &[u8],
+    i: usize,
+    d: usize,
+    sets: &[u64; 129],
+    from: u64,
+    at: Point,
+    out: &mut [u16],
+) -> Point
+    requires { ⌜ Good (now targets) (now numbers) × (i < 256) × (d < 256) ⌝ }
+{
+    let mut now = at;
+    let mut k = d;
+    while 0 < k {
+        if 64 <= now.state {
+            return now;
+        }
+        k -= 1;
+        let x = letter_at(word, i + k);
+        let set = set_at(sets, k);
+        now = levels::letter_back(targets, firsts, numbers, g, h, false, set, x, now, out);
+    }
+    if 64 <= now.state {
+        return now;
+    }
+    let mode = points::mode_of(now.mode);
+    let begun = levels::only(mode, from);
+    levels::settle(targets, firsts, numbers, g, h, false, begun, now, out)
+}
+
+// What is left of an allowance after a cost.
+fn spend(left: usize, cost: usize) -> usize {
+    if left <= cost {
+        return 0;
+    }
+    left - cost
+}
+
+// Back from a point behind a copy of the d letters from i on, along the sets of its two halves: `ended` are the states it ends in, `turned`
+// those in which matching begins, `start` the one in which storing does.
+fn halves_back(
+    targets: &[u64],
+    firsts: &[u16],
+    numbers: &[u8; 256],
+    g: u64,
+    h: u64,
+    word: &[u8],
+    i: usize,
+    d: usize,
+    stored: &[u64; 129],
+    matched: &[u64; 129],
+    start: u64,
+    turned: u64,
+    ended: u64,
+    at: Point,
+    out: &mut [u16],
+) -> Point
+    requires { ⌜ Good (now targets) (now numbers) × (i < 256) × (d < 256) ⌝ }
+{
+    let ends = levels::only(Mode::Emptying, ended);
+    let end = levels::settle(targets, firsts, numbers, g, h, true, ends, at, out);
+    if 64 <= end.state {
+        return end;
+    }
+    let middle = unread(
+        targets,
+        firsts,
+        numbers,
+        g,
+        h,
+        word,
+        i,
+        d,
+        matched,
+        turned,
+        end,
+        out,
+    );
+    if 64 <= middle.state {
+        return middle;
+    }
+    let turn = points::come_to(Mode::Buffering, middle.state, out, middle.top, 65534);
+    let begin = unread(
+        targets,
+        firsts,
+        numbers,
+        g,
+        h,
+        word,
+        i,
+        d,
+        stored,
+        start,
+        turn,
+        out,
+    );
+    if 64 <= begin.state {
+        return begin;
+    }
+    points::come_to(Mode::Normal, begin.state, out, begin.top, 65533)
+}
+
+// Back from a point behind a copy of the d letters from i on that begins in state s, where there is one.
+fn copy_back(
+    targets: &[u64],
+    firsts: &[u16],
+    numbers: &[u8; 256],
+    g: u64,
+    h: u64,
+    word: &[u8],
+    i: usize,
+    d: usize,
+    s: usize,
+    left: usize,
+    at: Point,
+    out: &mut [u16],
+) -> Place
+    requires { ⌜ Good (now targets) (now numbers) × (i < 256) × (d < 256) ⌝ }
+{
+    let mut stored: [u64; 129] = [0; 129];
+    let mut matched: [u64; 129] = [0; 129];
+    let start = stateset::add(stateset::empty(), s);
+    let first = follow(
+        targets,
+        numbers,
+        g,
+        h,
+        Mode::Buffering,
+        word,
+        i,
+        d,
+        start,
+        &mut stored,
+    );
+    let turned = stateset::intersection(first.set, h);
+    let rest = spend(spend(left, 1), first.letters);
+    if turned == 0 {
+        return Place {
+            at: points::lost(),
+            place: 0,
+            left: rest,
+        };
+    }
+    let second = follow(
+        targets,
+        numbers,
+        g,
+        h,
+        Mode::Emptying,
+        word,
+        i,
+        d,
+        turned,
+        &mut matched,
+    );
+    let begin = halves_back(
+        targets,
+        firsts,
+        numbers,
+        g,
+        h,
+        word,
+        i,
+        d,
+        &stored,
+        &matched,
+        start,
+        turned,
+        second.set,
+        at,
+        out,
+    );
+    Place {
+        at: begin,
+        place: i,
+        left: spend(rest, second.letters),
+    }
+}
+
+// The same for the states of a set, one after the other.
+fn copies_back(
+    targets: &[u64],
+    firsts: &[u16],
+    numbers: &[u8; 256],
+    g: u64,
+    h: u64,
+    word: &[u8],
+    i: usize,
+    d: usize,
+    starts: u64,
+    left: usize,
+    at: Point,
+    out: &mut [u16],
+) -> Place
+    requires { ⌜ Good (now targets) (now numbers) × (i < 256) × (d < 256) ⌝ }
+{
+    let mut tried = Place {
+        at: points::lost(),
+        place: 0,
+        left: left,
+    };
+    let mut rest = starts;
+    while rest != 0 {
+        if tried.left == 0 {
+            return tried;
+        }
+        let s = stateset::lowest(rest) as usize;
+        rest = stateset::remove(rest, s);
+        tried = copy_back(
+            targets,
+            firsts,
+            numbers,
+            g,
+            h,
+            word,
+            i,
+            d,
+            s,
+            tried.left,
+            at,
+            out,
+        );
+        if tried.at.state < 64 {
+            return tried;
+        }
+    }
+    tried
+}
+
+// The states of `sets` at place i with which a copy of d letters may begin: none where the letters do not stand there twice.
+fn starts_at(sets: &[u64; 256], g: u64, word: &[u8], i: usize, d: usize) -> u64
+    requires { ⌜ (i + d + d ≤ length (now word)) × (i < 256) ⌝ }
+{
+    let starts = stateset::intersection(sets[i], g);
+    if starts == 0 {
+        return 0;
+    }
+    if !halves::halves_match(word, i, d) {
+        return 0;
+    }
+    starts
+}
+
+// Back from a point at place p by any copy that ends there, the longest first.
+pub fn any_copy_back(
+    targets: &[u64],
+    firsts: &[u16],
+    numbers: &[u8; 256],
+    g: u64,
+    h: u64,
+    word: &[u8],
+    sets: &[u64; 256],
+    p: usize,
+    left: usize,
+    at: Point,
+    out: &mut [u16],
+) -> Place
+    requires { ⌜ Good (now targets) (now numbers) × (p ≤ length (now word)) × (p < 256) ⌝ }
+{
+    let mut tried = Place {
+        at: points::lost(),
+        place: 0,
+        left: left,
+    };
+    let mut d = p / 2;
+    while 0 < d {
+        if tried.left == 0 {
+            return tried;
+        }
+        let i = p - d - d;
+        let starts = starts_at(sets, g, word, i, d);
+        tried = copies_back(
+            targets,
+            firsts,
+            numbers,
+            g,
+            h,
+            word,
+            i,
+            d,
+            starts,
+            tried.left,
+            at,
+            out,
+        );
+        if tried.at.state < 64 {
+            return tried;
+        }
+        d -= 1;
+    }
+    tried
+}

@@ -1,0 +1,332 @@
+// Moves back that read nothing: along the levels of sets that such moves reach one by one.
+ghost use Prim.Native.Nat.{ℕ, _<_};
+ghost use Rattle.decide.specs.Graph.{Good};
+use crate::points;
+use crate::points::Point;
+use decide::images;
+use fsbm::config::Mode;
+
+// A set of states for each mode.
+pub struct Spread {
+    pub normal: u64,
+    pub buffering: u64,
+    pub emptying: u64,
+}
+
+// The states of a set in one mode.
+pub fn only(mode: Mode, set: u64) -> Spread {
+    match mode {
+        Mode::Normal => Spread {
+            normal: set,
+            buffering: 0,
+            emptying: 0,
+        },
+        Mode::Buffering => Spread {
+            normal: 0,
+            buffering: set,
+            emptying: 0,
+        },
+        Mode::Emptying => Spread {
+            normal: 0,
+            buffering: 0,
+            emptying: set,
+        },
+    }
+}
+
+// The set of a mode.
+fn of(sets: Spread, mode: Mode) -> u64 {
+    match mode {
+        Mode::Normal => sets.normal,
+        Mode::Buffering => sets.buffering,
+        Mode::Emptying => sets.emptying,
+    }
+}
+
+// The mode before a mode.
+fn mode_before(mode: Mode) -> Mode {
+    match mode {
+        Mode::Normal => Mode::Emptying,
+        Mode::Buffering => Mode::Normal,
+        Mode::Emptying => Mode::Buffering,
+    }
+}
+
+// The entry that changes to a mode.
+fn change_to(mode: Mode) -> u16 {
+    match mode {
+        Mode::Normal => 65535,
+        Mode::Buffering => 65533,
+        Mode::Emptying => 65534,
+    }
+}
+
+// The states at which a run changes to a mode: g to buffering, h to the others.
+fn turning(mode: Mode, g: u64, h: u64) -> u64 {
+    match mode {
+        Mode::Normal => h,
+        Mode::Buffering => g,
+        Mode::Emptying => h,
+    }
+}
+
+// What changes of mode lead to.
+fn turned(sets: Spread, g: u64, h: u64) -> Spread {
+    Spread {
+        normal: stateset::intersection(sets.emptying, h),
+        buffering: stateset::intersection(sets.normal, g),
+        emptying: stateset::intersection(sets.buffering, h),
+    }
+}
+
+// What epsilon moves lead to, one for each.
+fn stepped(targets: &[u64], numbers: &[u8; 256], g: u64, h: u64, sets: Spread) -> Spread
+    requires { ⌜ Good (now targets) (now numbers) ⌝ }
+{
+    Spread {
+        normal: images::step_set(targets, numbers, g, h, Mode::Normal, sets.normal, 0),
+        buffering: images::step_set(targets, numbers, g, h, Mode::Buffering, sets.buffering, 0),
+        emptying: images::step_set(targets, numbers, g, h, Mode::Emptying, sets.emptying, 0),
+    }
+}
+
+// The states of a or b.
+fn both(a: Spread, b: Spread) -> Spread {
+    Spread {
+        normal: stateset::union(a.normal, b.normal),
+        buffering: stateset::union(a.buffering, b.buffering),
+        emptying: stateset::union(a.emptying, b.emptying),
+    }
+}
+
+// The states of a that are not in b.
+fn apart(a: Spread, b: Spread) -> Spread {
+    Spread {
+        normal: stateset::difference(a.normal, b.normal),
+        buffering: stateset::difference(a.buffering, b.buffering),
+        emptying: stateset::difference(a.emptying, b.emptying),
+    }
+}
+
+fn is_empty(sets: Spread) -> bool {
+    if sets.normal != 0 {
+        return false;
+    }
+    if sets.buffering != 0 {
+        return false;
+    }
+    sets.emptying == 0
+}
+
+// What one move that reads nothing leads to; changes of mode only where turns says so.
+fn next(targets: &[u64], numbers: &[u8; 256], g: u64, h: u64, turns: bool, sets: Spread) -> Spread
+    requires { ⌜ Good (now targets) (now numbers) ⌝ }
+{
+    let free = stepped(targets, numbers, g, h, sets);
+    if turns {
+        return both(free, turned(sets, g, h));
+    }
+    free
+}
+
+// Keeps the sets of level k.
+fn save(levels: &mut [u64; 579], k: usize, sets: Spread) {
+    if 193 <= k {
+        return;
+    }
+    levels[k * 3] = sets.normal;
+    levels[k * 3 + 1] = sets.buffering;
+    levels[k * 3 + 2] = sets.emptying;
+}
+
+// The sets of level k.
+fn load(levels: &[u64; 579], k: usize) -> Spread {
+    if 193 <= k {
+        return only(Mode::Normal, 0);
+    }
+    Spread {
+        normal: levels[k * 3],
+        buffering: levels[k * 3 + 1],
+        emptying: levels[k * 3 + 2],
+    }
+}
+
+// The first level at which state q is reached in a mode, level 0 the given sets, all levels up to it kept; 193 where there is none:
+// each level has a state of a mode that no level before it has, so there are at most 192.
+fn spread_to(
+    targets: &[u64],
+    numbers: &[u8; 256],
+    g: u64,
+    h: u64,
+    turns: bool,
+    from: Spread,
+    mode: Mode,
+    q: usize,
+    levels: &mut [u64; 579],
+) -> usize
+    requires { ⌜ Good (now targets) (now numbers) ⌝ }
+{
+    let mut level = from;
+    let mut seen = from;
+    let mut k: usize = 0;
+    while k < 193 {
+        save(levels, k, level);
+        if stateset::member(of(level, mode), q) {
+            return k;
+        }
+        level = apart(next(targets, numbers, g, h, turns, level), seen);
+        if is_empty(level) {
+            return 193;
+        }
+        seen = both(seen, level);
+        k += 1;
+    }
+    193
+}
+
+// Back from a point by one move that reads nothing, from the given sets.
+fn free_back(
+    targets: &[u64],
+    firsts: &[u16],
+    numbers: &[u8; 256],
+    g: u64,
+    h: u64,
+    sets: Spread,
+    at: Point,
+    out: &mut [u16],
+) -> Point
+    requires { ⌜ Good (now targets) (now numbers) ⌝ }
+{
+    let mode = points::mode_of(at.mode);
+    let before = mode_before(mode);
+    let turn = stateset::intersection(of(sets, before), turning(mode, g, h));
+    if stateset::member(turn, at.state) {
+        return points::come_to(before, at.state, out, at.top, change_to(mode));
+    }
+    points::read_back(targets, firsts, numbers, g, h, of(sets, mode), 0, at, out)
+}
+
+// Back from a point of level k to one of level 0.
+fn down(
+    targets: &[u64],
+    firsts: &[u16],
+    numbers: &[u8; 256],
+    g: u64,
+    h: u64,
+    levels: &[u64; 579],
+    k: usize,
+    at: Point,
+    out: &mut [u16],
+) -> Point
+    requires { ⌜ Good (now targets) (now numbers) ⌝ }
+{
+    let mut now = at;
+    let mut left = k;
+    while 0 < left {
+        if 64 <= now.state {
+            return now;
+        }
+        left -= 1;
+        now = free_back(targets, firsts, numbers, g, h, load(levels, left), now, out);
+    }
+    now
+}
+
+// Back from a point to one of the given sets by any number of moves that read nothing.
+fn far_back(
+    targets: &[u64],
+    firsts: &[u16],
+    numbers: &[u8; 256],
+    g: u64,
+    h: u64,
+    turns: bool,
+    from: Spread,
+    at: Point,
+    out: &mut [u16],
+) -> Point
+    requires { ⌜ Good (now targets) (now numbers) ⌝ }
+{
+    let mut levels: [u64; 579] = [0; 579];
+    let mode = points::mode_of(at.mode);
+    let k = spread_to(
+        targets,
+        numbers,
+        g,
+        h,
+        turns,
+        from,
+        mode,
+        at.state,
+        &mut levels,
+    );
+    if 193 <= k {
+        return points::lost();
+    }
+    down(targets, firsts, numbers, g, h, &levels, k, at, out)
+}
+
+// The same, none or one such move tried first. Where turns is false, all given sets are of the point's mode.
+pub fn settle(
+    targets: &[u64],
+    firsts: &[u16],
+    numbers: &[u8; 256],
+    g: u64,
+    h: u64,
+    turns: bool,
+    from: Spread,
+    at: Point,
+    out: &mut [u16],
+) -> Point
+    requires { ⌜ Good (now targets) (now numbers) ⌝ }
+{
+    let mode = points::mode_of(at.mode);
+    if stateset::member(of(from, mode), at.state) {
+        return at;
+    }
+    let one = free_back(targets, firsts, numbers, g, h, from, at, out);
+    if one.state < 64 {
+        return one;
+    }
+    far_back(targets, firsts, numbers, g, h, turns, from, at, out)
+}
+
+// Back from a point to a state of the set, by a transition with letter x and any number of moves after it that read nothing.
+pub fn letter_back(
+    targets: &[u64],
+    firsts: &[u16],
+    numbers: &[u8; 256],
+    g: u64,
+    h: u64,
+    turns: bool,
+    set: u64,
+    x: u8,
+    at: Point,
+    out: &mut [u16],
+) -> Point
+    requires { ⌜ Good (now targets) (now numbers) ⌝ }
+{
+    let direct = points::read_back(targets, firsts, numbers, g, h, set, x, at, out);
+    if direct.state < 64 {
+        return direct;
+    }
+    let mode = points::mode_of(at.mode);
+    let read = images::step_set(targets, numbers, g, h, mode, set, x);
+    if read == 0 {
+        return direct;
+    }
+    let near = settle(
+        targets,
+        firsts,
+        numbers,
+        g,
+        h,
+        turns,
+        only(mode, read),
+        at,
+        out,
+    );
+    if 64 <= near.state {
+        return near;
+    }
+    points::read_back(targets, firsts, numbers, g, h, set, x, near, out)
+}

@@ -1,0 +1,192 @@
+// The search for a run from the end of a word back to its beginning.
+ghost use Prim.Native.Nat.{_≤_};
+ghost use mathlib.Core.Path.{_≡_};
+ghost use mathlib.Core.Bool.{true};
+ghost use lib.ListN.{length};
+ghost use Rattle.fsbm.specs.Machine.{wellFormed};
+ghost use Rattle.decide.specs.Graph.{Good};
+ghost use Rattle.trace.specs.Found.{Found};
+use crate::copies;
+use crate::copies::Place;
+use crate::levels;
+use crate::points;
+use crate::points::Point;
+use decide::images::Kinds;
+use fsbm::config::Mode;
+use fsbm::machine::Machine;
+use fsbm::run;
+
+// Back from a point in normal mode to one at an earlier place: by a letter, or by a copy.
+fn place_back(
+    targets: &[u64],
+    firsts: &[u16],
+    numbers: &[u8; 256],
+    g: u64,
+    h: u64,
+    word: &[u8],
+    sets: &[u64; 256],
+    here: Place,
+    out: &mut [u16],
+) -> Place
+    requires { ⌜ Good (now targets) (now numbers) ⌝ }
+{
+    let p = here.place;
+    let at = here.at;
+    let left = here.left;
+    if p == 0 {
+        return here;
+    }
+    if word.len() < p {
+        return here;
+    }
+    if 256 <= p {
+        return here;
+    }
+    let x = copies::letter_at(word, p - 1);
+    let read = levels::letter_back(
+        targets,
+        firsts,
+        numbers,
+        g,
+        h,
+        true,
+        sets[p - 1],
+        x,
+        at,
+        out,
+    );
+    if read.state < 64 {
+        return Place {
+            at: read,
+            place: p - 1,
+            left: left,
+        };
+    }
+    copies::any_copy_back(targets, firsts, numbers, g, h, word, sets, p, left, at, out)
+}
+
+// Back from a point at the end of the word to one at its beginning. Each step leads to an earlier place.
+fn walk_back(
+    targets: &[u64],
+    firsts: &[u16],
+    numbers: &[u8; 256],
+    g: u64,
+    h: u64,
+    word: &[u8],
+    sets: &[u64; 256],
+    end: Place,
+    out: &mut [u16],
+) -> Point
+    requires { ⌜ Good (now targets) (now numbers) ⌝ }
+{
+    let mut here = end;
+    let mut steps: usize = 0;
+    while steps < 256 {
+        if 64 <= here.at.state {
+            return points::lost();
+        }
+        if here.place == 0 {
+            let at = here.at;
+            return at;
+        }
+        here = place_back(targets, firsts, numbers, g, h, word, sets, here, out);
+        steps += 1;
+    }
+    points::lost()
+}
+
+// Moves the entries from top on to the front, and hands back how many there are.
+fn move_front(out: &mut [u16], top: usize) -> usize {
+    if out.len() <= top {
+        return 0;
+    }
+    let count = out.len() - top;
+    let mut k: usize = 0;
+    while k < count {
+        out[k] = out[top + k];
+        k += 1;
+    }
+    count
+}
+
+// Writes the start state before the entries that lead on from a point at the beginning of the word, and hands back how many entries the
+// run has; 0 where it has no room.
+fn begin(at: Point, out: &mut [u16]) -> usize {
+    if at.top == 0 {
+        return 0;
+    }
+    if 64 <= at.state {
+        return 0;
+    }
+    let top = points::put(out, at.top, at.state as u16);
+    move_front(out, top)
+}
+
+// Searches a run of the word, and hands back how many entries it wrote to the front of out; 0 where it gave up.
+fn search(
+    targets: &[u64],
+    firsts: &[u16],
+    numbers: &[u8; 256],
+    kinds: Kinds,
+    word: &[u8],
+    sets: &[u64; 256],
+    out: &mut [u16],
+) -> usize
+    requires { ⌜ Good (now targets) (now numbers) × (length (now word) ≤ 255) ⌝ }
+{
+    let n = word.len();
+    let g = kinds.buffering;
+    let h = kinds.matching;
+    let ended = stateset::intersection(sets[n], kinds.finals);
+    if ended == 0 {
+        return 0;
+    }
+    let end = Place {
+        at: Point {
+            mode: 0,
+            state: stateset::lowest(ended) as usize,
+            top: out.len(),
+        },
+        place: n,
+        left: n * 64 + 64,
+    };
+    let back = walk_back(targets, firsts, numbers, g, h, word, sets, end, out);
+    if 64 <= back.state {
+        return 0;
+    }
+    let first = levels::only(Mode::Normal, kinds.initial);
+    let at = levels::settle(targets, firsts, numbers, g, h, true, first, back, out);
+    if 64 <= at.state {
+        return 0;
+    }
+    begin(at, out)
+}
+
+// An accepting run of a word at the front of out, and the number of its entries; 0 where none was found in the time that the search
+// takes. It goes by the table of targets, the first transition of each of its sets, the states of each kind, and the states reached at
+// each place, but needs none of them to be right: what the search writes is checked entry by entry.
+// Time: for each place a look at the states before it; for each copy that is tried a set for each of its letters, at most 64 letters
+// for each letter of the word and 64 more in all; the run once more. Memory: 7 KB of stack.
+pub fn find_run(
+    m: Machine,
+    list: &[u16],
+    targets: &[u64],
+    firsts: &[u16],
+    numbers: &[u8; 256],
+    kinds: Kinds,
+    word: &[u8],
+    sets: &[u64; 256],
+    out: &mut [u16],
+) -> usize
+    requires { ⌜ (wellFormed m (now list) ≡ true) × Good (now targets) (now numbers) × (length (now word) ≤ 255) ⌝ }
+    ensures { λ r. ⌜ Found m (now (list .entry)) (now (word .entry)) (now (out .exit)) r ⌝ }
+{
+    let count = search(targets, firsts, numbers, kinds, word, sets, out);
+    if out.len() < count {
+        return 0;
+    }
+    if run::accepts_front(m, list, word, &*out, count) {
+        return count;
+    }
+    0
+}
