@@ -10,7 +10,7 @@
 -- image-none, image-some  == the two ends of image_of
 -- edge-image              == what image_of finds are the edges of a state
 -- read-.., advance-.., empty-.. == the ways through read_set, advance, empty_copies
--- marked-turn             == one turn of states_with
+-- marked-turn             == one turn of kinds_of, for one kind
 use Prim.Native.Nat.{ℕ, _+_, _*_, _/_, _%_, _^_, _<_}
 use mathlib.Core.Path.{_≡_, sym, ap, _∙_, subst}
 use mathlib.Core.Logic.{_⊎_, inl, inr}

@@ -6,6 +6,7 @@ ghost use mathlib.Core.Path.{_≡_};
 ghost use mathlib.Core.Bool.{true};
 ghost use mathlib.Core.Logic.{_⊎_};
 ghost use lib.ListN.{length, getD};
+ghost use lib.Dec.{eqb};
 ghost use Rattle.stateset.specs.Set.{width, In};
 ghost use Rattle.fsbm.specs.Machine.{markOf};
 ghost use Rattle.fsbm.specs.declared.config.Mode.the-variants.{Normal, Buffering, Emptying};
@@ -23,19 +24,12 @@ pub fn add_if(set: u64, q: usize, yes: bool) -> u64
     set
 }
 
-// The states below a number whose mark has this bit: 0 initial, 1 final, 2 buffering, 3 matching.
-pub fn states_with(marks: &[u8; 64], states: usize, bit: usize) -> u64
-    requires { ⌜ (states ≤ width) × (bit < 4) ⌝ }
-    ensures { λ r. ⌜ Members r (λ q. (q < states) × (markOf (now (marks .entry)) q / 2 ^ bit % 2 ≡ 1)) ⌝ }
+// The set with q where its mark has this bit: 0 initial, 1 final, 2 buffering, 3 matching.
+fn add_marked(set: u64, q: usize, mark: usize, bit: usize) -> u64
+    requires { ⌜ bit < 4 ⌝ }
+    ensures { λ r. ⌜ Members r (λ p. In set p ⊎ ((p ≡ q) × (p < width) × (eqb (mark / 2 ^ bit % 2) 1 ≡ true))) ⌝ }
 {
-    let mut set = stateset::empty();
-    let mut q: usize = 0;
-    while q < states {
-        let mark = machine::mark(marks, q) as usize;
-        set = add_if(set, q, (mark >> bit) % 2 == 1);
-        q += 1;
-    }
-    set
+    add_if(set, q, (mark >> bit) % 2 == 1)
 }
 
 // The states of each kind.
@@ -46,16 +40,29 @@ pub struct Kinds {
     pub matching: u64,
 }
 
-// The states of each kind by their marks. Time: the states, four times.
+// The states of each kind by their marks. Time: the states, each once.
 pub fn kinds_of(marks: &[u8; 64], states: usize) -> Kinds
     requires { ⌜ states ≤ width ⌝ }
     ensures { λ r. ⌜ KindsOf (now (marks .entry)) states r ⌝ }
 {
+    let mut initial = stateset::empty();
+    let mut finals = stateset::empty();
+    let mut buffering = stateset::empty();
+    let mut matching = stateset::empty();
+    let mut q: usize = 0;
+    while q < states {
+        let mark = machine::mark(marks, q) as usize;
+        initial = add_marked(initial, q, mark, 0);
+        finals = add_marked(finals, q, mark, 1);
+        buffering = add_marked(buffering, q, mark, 2);
+        matching = add_marked(matching, q, mark, 3);
+        q += 1;
+    }
     Kinds {
-        initial: states_with(marks, states, 0),
-        finals: states_with(marks, states, 1),
-        buffering: states_with(marks, states, 2),
-        matching: states_with(marks, states, 3),
+        initial: initial,
+        finals: finals,
+        buffering: buffering,
+        matching: matching,
     }
 }
 

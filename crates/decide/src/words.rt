@@ -9,53 +9,53 @@ ghost use Rattle.targets.specs.Targets.{Numbered};
 use crate::images;
 use crate::places;
 use fsbm::machine::Machine;
-use targets::Letters;
 
 // The answer with a table of zeros lent.
 fn accepts_with(
     m: Machine,
     list: &[u16],
-    letters: Letters,
+    numbers: &[u8; 256],
+    count: usize,
     table: &mut [u64],
     firsts: &mut [u16],
     word: &[u8],
 ) -> bool
-    requires { ⌜ (wellFormed m (now list) ≡ true) × (length (now word) ≤ 255) × Numbered (now word) (letters .numbers) (letters .count) × ((letters .count + 1) * 64 ≤ length (now table))
+    requires { ⌜ (wellFormed m (now list) ≡ true) × (length (now word) ≤ 255) × Numbered (now word) (now numbers) count × ((count + 1) * 64 ≤ length (now table))
         × ((i : ℕ) → getD (now table) i 0 ≡ 0) × (length (now table) ≤ length (now firsts)) ⌝ }
     ensures { λ r. ⌜ r ≡ accepted m (now (list .entry)) (now (word .entry)) ⌝ }
 {
-    targets::fill(m, list, &letters.numbers, letters.count, table, firsts);
+    targets::fill(m, list, numbers, count, table, firsts);
     let kinds = images::kinds_of(&m.marks, m.states);
-    let reached = places::decide(m, list, &*table, &letters.numbers, kinds, word);
+    let reached = places::decide(m, list, &*table, numbers, kinds, word);
     reached.accepted
 }
 
 // The answer for a word of at most 3 different letters, of at most 31, and of any number.
-fn accepts_few(m: Machine, list: &[u16], letters: Letters, word: &[u8]) -> bool
-    requires { ⌜ (wellFormed m (now list) ≡ true) × (length (now word) ≤ 255) × Numbered (now word) (letters .numbers) (letters .count) × (letters .count ≤ 3) ⌝ }
+fn accepts_few(m: Machine, list: &[u16], numbers: &[u8; 256], count: usize, word: &[u8]) -> bool
+    requires { ⌜ (wellFormed m (now list) ≡ true) × (length (now word) ≤ 255) × Numbered (now word) (now numbers) count × (count ≤ 3) ⌝ }
     ensures { λ r. ⌜ r ≡ accepted m (now (list .entry)) (now (word .entry)) ⌝ }
 {
     let mut table: [u64; 256] = [0; 256];
     let mut firsts: [u16; 256] = [0; 256];
-    accepts_with(m, list, letters, &mut table, &mut firsts, word)
+    accepts_with(m, list, numbers, count, &mut table, &mut firsts, word)
 }
 
-fn accepts_some(m: Machine, list: &[u16], letters: Letters, word: &[u8]) -> bool
-    requires { ⌜ (wellFormed m (now list) ≡ true) × (length (now word) ≤ 255) × Numbered (now word) (letters .numbers) (letters .count) × (letters .count ≤ 31) ⌝ }
+fn accepts_some(m: Machine, list: &[u16], numbers: &[u8; 256], count: usize, word: &[u8]) -> bool
+    requires { ⌜ (wellFormed m (now list) ≡ true) × (length (now word) ≤ 255) × Numbered (now word) (now numbers) count × (count ≤ 31) ⌝ }
     ensures { λ r. ⌜ r ≡ accepted m (now (list .entry)) (now (word .entry)) ⌝ }
 {
     let mut table: [u64; 2048] = [0; 2048];
     let mut firsts: [u16; 2048] = [0; 2048];
-    accepts_with(m, list, letters, &mut table, &mut firsts, word)
+    accepts_with(m, list, numbers, count, &mut table, &mut firsts, word)
 }
 
-fn accepts_many(m: Machine, list: &[u16], letters: Letters, word: &[u8]) -> bool
-    requires { ⌜ (wellFormed m (now list) ≡ true) × (length (now word) ≤ 255) × Numbered (now word) (letters .numbers) (letters .count) ⌝ }
+fn accepts_many(m: Machine, list: &[u16], numbers: &[u8; 256], count: usize, word: &[u8]) -> bool
+    requires { ⌜ (wellFormed m (now list) ≡ true) × (length (now word) ≤ 255) × Numbered (now word) (now numbers) count ⌝ }
     ensures { λ r. ⌜ r ≡ accepted m (now (list .entry)) (now (word .entry)) ⌝ }
 {
     let mut table: [u64; 16384] = [0; 16384];
     let mut firsts: [u16; 16384] = [0; 16384];
-    accepts_with(m, list, letters, &mut table, &mut firsts, word)
+    accepts_with(m, list, numbers, count, &mut table, &mut firsts, word)
 }
 
 // Whether a machine accepts a word of at most 255 letters. The caller has tested that the record and its list obey the rules of a
@@ -68,10 +68,10 @@ pub fn is_accepted(m: Machine, list: &[u16], word: &[u8]) -> bool
 {
     let letters = targets::number_letters(word);
     if letters.count < 4 {
-        return accepts_few(m, list, letters, word);
+        return accepts_few(m, list, &letters.numbers, letters.count, word);
     }
     if letters.count < 32 {
-        return accepts_some(m, list, letters, word);
+        return accepts_some(m, list, &letters.numbers, letters.count, word);
     }
-    accepts_many(m, list, letters, word)
+    accepts_many(m, list, &letters.numbers, letters.count, word)
 }

@@ -17,7 +17,6 @@ use fsbm::answer;
 use fsbm::answer::Refusal;
 use fsbm::machine::Machine;
 use runs::walk;
-use targets::Letters;
 
 // The answer of recognize: turned down, no, or yes with the number of entries of the run.
 pub enum Recognized {
@@ -119,20 +118,21 @@ fn write(
 fn answer_with(
     m: Machine,
     list: &[u16],
-    letters: Letters,
+    numbers: &[u8; 256],
+    count: usize,
     table: &mut [u64],
     firsts: &mut [u16],
     word: &[u8],
     needed: usize,
     run: &mut [u16],
 ) -> Recognized
-    requires { ⌜ (tableAndWord longestRecognized m (now list) (now word) ≡ 0) × (needed ≡ runBound m (length (now word))) × (needed ≤ length (now run)) × Numbered (now word) (letters .numbers) (letters .count)
-        × ((letters .count + 1) * 64 ≤ length (now table)) × ((i : ℕ) → getD (now table) i 0 ≡ 0) × (length (now table) ≤ length (now firsts)) ⌝ }
+    requires { ⌜ (tableAndWord longestRecognized m (now list) (now word) ≡ 0) × (needed ≡ runBound m (length (now word))) × (needed ≤ length (now run)) × Numbered (now word) (now numbers) count
+        × ((count + 1) * 64 ≤ length (now table)) × ((i : ℕ) → getD (now table) i 0 ≡ 0) × (length (now table) ≤ length (now firsts)) ⌝ }
     ensures { λ r. ⌜ Recognition m (now (list .entry)) (now (word .entry)) (now (run .entry)) (now (run .exit)) r ⌝ }
 {
-    targets::fill(m, list, &letters.numbers, letters.count, table, firsts);
+    targets::fill(m, list, numbers, count, table, firsts);
     let kinds = images::kinds_of(&m.marks, m.states);
-    let reached = places::decide(m, list, &*table, &letters.numbers, kinds, word);
+    let reached = places::decide(m, list, &*table, numbers, kinds, word);
     if !reached.accepted {
         return Recognized::No;
     }
@@ -141,7 +141,7 @@ fn answer_with(
         list,
         &*table,
         &*firsts,
-        &letters.numbers,
+        numbers,
         kinds,
         word,
         &reached.sets,
@@ -155,49 +155,82 @@ fn answer_with(
 fn answer_few(
     m: Machine,
     list: &[u16],
-    letters: Letters,
+    numbers: &[u8; 256],
+    count: usize,
     word: &[u8],
     needed: usize,
     run: &mut [u16],
 ) -> Recognized
-    requires { ⌜ (tableAndWord longestRecognized m (now list) (now word) ≡ 0) × (needed ≡ runBound m (length (now word))) × (needed ≤ length (now run)) × Numbered (now word) (letters .numbers) (letters .count) × (letters .count ≤ 3) ⌝ }
+    requires { ⌜ (tableAndWord longestRecognized m (now list) (now word) ≡ 0) × (needed ≡ runBound m (length (now word))) × (needed ≤ length (now run)) × Numbered (now word) (now numbers) count × (count ≤ 3) ⌝ }
     ensures { λ r. ⌜ Recognition m (now (list .entry)) (now (word .entry)) (now (run .entry)) (now (run .exit)) r ⌝ }
 {
     let mut table: [u64; 256] = [0; 256];
     let mut firsts: [u16; 256] = [0; 256];
-    answer_with(m, list, letters, &mut table, &mut firsts, word, needed, run)
+    answer_with(
+        m,
+        list,
+        numbers,
+        count,
+        &mut table,
+        &mut firsts,
+        word,
+        needed,
+        run,
+    )
 }
 
 fn answer_some(
     m: Machine,
     list: &[u16],
-    letters: Letters,
+    numbers: &[u8; 256],
+    count: usize,
     word: &[u8],
     needed: usize,
     run: &mut [u16],
 ) -> Recognized
-    requires { ⌜ (tableAndWord longestRecognized m (now list) (now word) ≡ 0) × (needed ≡ runBound m (length (now word))) × (needed ≤ length (now run)) × Numbered (now word) (letters .numbers) (letters .count) × (letters .count ≤ 31) ⌝ }
+    requires { ⌜ (tableAndWord longestRecognized m (now list) (now word) ≡ 0) × (needed ≡ runBound m (length (now word))) × (needed ≤ length (now run)) × Numbered (now word) (now numbers) count × (count ≤ 31) ⌝ }
     ensures { λ r. ⌜ Recognition m (now (list .entry)) (now (word .entry)) (now (run .entry)) (now (run .exit)) r ⌝ }
 {
     let mut table: [u64; 2048] = [0; 2048];
     let mut firsts: [u16; 2048] = [0; 2048];
-    answer_with(m, list, letters, &mut table, &mut firsts, word, needed, run)
+    answer_with(
+        m,
+        list,
+        numbers,
+        count,
+        &mut table,
+        &mut firsts,
+        word,
+        needed,
+        run,
+    )
 }
 
 fn answer_many(
     m: Machine,
     list: &[u16],
-    letters: Letters,
+    numbers: &[u8; 256],
+    count: usize,
     word: &[u8],
     needed: usize,
     run: &mut [u16],
 ) -> Recognized
-    requires { ⌜ (tableAndWord longestRecognized m (now list) (now word) ≡ 0) × (needed ≡ runBound m (length (now word))) × (needed ≤ length (now run)) × Numbered (now word) (letters .numbers) (letters .count) ⌝ }
+    requires { ⌜ (tableAndWord longestRecognized m (now list) (now word) ≡ 0) × (needed ≡ runBound m (length (now word))) × (needed ≤ length (now run)) × Numbered (now word) (now numbers) count ⌝ }
     ensures { λ r. ⌜ Recognition m (now (list .entry)) (now (word .entry)) (now (run .entry)) (now (run .exit)) r ⌝ }
 {
     let mut table: [u64; 16384] = [0; 16384];
     let mut firsts: [u16; 16384] = [0; 16384];
-    answer_with(m, list, letters, &mut table, &mut firsts, word, needed, run)
+    answer_with(
+        m,
+        list,
+        numbers,
+        count,
+        &mut table,
+        &mut firsts,
+        word,
+        needed,
+        run,
+    )
 }
 
 // The answer to input that is not refused.
@@ -207,12 +240,12 @@ fn answer(m: Machine, list: &[u16], word: &[u8], needed: usize, run: &mut [u16])
 {
     let letters = targets::number_letters(word);
     if letters.count < 4 {
-        return answer_few(m, list, letters, word, needed, run);
+        return answer_few(m, list, &letters.numbers, letters.count, word, needed, run);
     }
     if letters.count < 32 {
-        return answer_some(m, list, letters, word, needed, run);
+        return answer_some(m, list, &letters.numbers, letters.count, word, needed, run);
     }
-    answer_many(m, list, letters, word, needed, run)
+    answer_many(m, list, &letters.numbers, letters.count, word, needed, run)
 }
 
 // Whether the machine accepts the word; on yes an accepting run of it stands at the front of run, and the answer holds its number of

@@ -4,14 +4,13 @@ ghost use lib.ListN.{length};
 ghost use Rattle.decide.specs.Graph.{Good};
 use crate::levels;
 use crate::points;
-use crate::points::Point;
 use decide::images;
 use fsbm::config::Mode;
 use tables::halves;
 
 // Where the search has come to: a point in normal mode, its place, and how many letters may still be followed.
 pub struct Place {
-    pub at: Point,
+    pub at: usize,
     pub place: usize,
     pub left: usize,
 }
@@ -88,15 +87,15 @@ fn unread(
     d: usize,
     sets: &[u64; 129],
     from: u64,
-    at: Point,
+    at: usize,
     out: &mut [u16],
-) -> Point
+) -> usize
     requires { ⌜ Good (now targets) (now numbers) × (i < 256) × (d < 256) ⌝ }
 {
     let mut now = at;
     let mut k = d;
     while 0 < k {
-        if 64 <= now.state {
+        if points::is_lost(now) {
             return now;
         }
         k -= 1;
@@ -104,10 +103,10 @@ fn unread(
         let set = set_at(sets, k);
         now = levels::letter_back(targets, firsts, numbers, g, h, false, set, x, now, out);
     }
-    if 64 <= now.state {
+    if points::is_lost(now) {
         return now;
     }
-    let mode = points::mode_of(now.mode);
+    let mode = points::mode_of(now);
     let begun = levels::only(mode, from);
     levels::settle(targets, firsts, numbers, g, h, false, begun, now, out)
 }
@@ -136,14 +135,14 @@ fn halves_back(
     start: u64,
     turned: u64,
     ended: u64,
-    at: Point,
+    at: usize,
     out: &mut [u16],
-) -> Point
+) -> usize
     requires { ⌜ Good (now targets) (now numbers) × (i < 256) × (d < 256) ⌝ }
 {
     let ends = levels::only(Mode::Emptying, ended);
     let end = levels::settle(targets, firsts, numbers, g, h, true, ends, at, out);
-    if 64 <= end.state {
+    if points::is_lost(end) {
         return end;
     }
     let middle = unread(
@@ -160,10 +159,16 @@ fn halves_back(
         end,
         out,
     );
-    if 64 <= middle.state {
+    if points::is_lost(middle) {
         return middle;
     }
-    let turn = points::come_to(Mode::Buffering, middle.state, out, middle.top, 65534);
+    let turn = points::come_to(
+        Mode::Buffering,
+        points::state_of(middle),
+        out,
+        points::top_of(middle),
+        65534,
+    );
     let begin = unread(
         targets,
         firsts,
@@ -178,10 +183,16 @@ fn halves_back(
         turn,
         out,
     );
-    if 64 <= begin.state {
+    if points::is_lost(begin) {
         return begin;
     }
-    points::come_to(Mode::Normal, begin.state, out, begin.top, 65533)
+    points::come_to(
+        Mode::Normal,
+        points::state_of(begin),
+        out,
+        points::top_of(begin),
+        65533,
+    )
 }
 
 // Back from a point behind a copy of the d letters from i on that begins in state s, where there is one.
@@ -196,7 +207,7 @@ fn copy_back(
     d: usize,
     s: usize,
     left: usize,
-    at: Point,
+    at: usize,
     out: &mut [u16],
 ) -> Place
     requires { ⌜ Good (now targets) (now numbers) × (i < 256) × (d < 256) ⌝ }
@@ -273,7 +284,7 @@ fn copies_back(
     d: usize,
     starts: u64,
     left: usize,
-    at: Point,
+    at: usize,
     out: &mut [u16],
 ) -> Place
     requires { ⌜ Good (now targets) (now numbers) × (i < 256) × (d < 256) ⌝ }
@@ -304,7 +315,7 @@ fn copies_back(
             at,
             out,
         );
-        if tried.at.state < 64 {
+        if !points::is_lost(tried.at) {
             return tried;
         }
     }
@@ -336,7 +347,7 @@ pub fn any_copy_back(
     sets: &[u64; 256],
     p: usize,
     left: usize,
-    at: Point,
+    at: usize,
     out: &mut [u16],
 ) -> Place
     requires { ⌜ Good (now targets) (now numbers) × (p ≤ length (now word)) × (p < 256) ⌝ }
@@ -367,7 +378,7 @@ pub fn any_copy_back(
             at,
             out,
         );
-        if tried.at.state < 64 {
+        if !points::is_lost(tried.at) {
             return tried;
         }
         d -= 1;

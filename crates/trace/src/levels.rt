@@ -2,7 +2,6 @@
 ghost use Prim.Native.Nat.{ℕ, _<_};
 ghost use Rattle.decide.specs.Graph.{Good};
 use crate::points;
-use crate::points::Point;
 use decide::images;
 use fsbm::config::Mode;
 
@@ -192,16 +191,22 @@ fn free_back(
     g: u64,
     h: u64,
     sets: Spread,
-    at: Point,
+    at: usize,
     out: &mut [u16],
-) -> Point
+) -> usize
     requires { ⌜ Good (now targets) (now numbers) ⌝ }
 {
-    let mode = points::mode_of(at.mode);
+    let mode = points::mode_of(at);
     let before = mode_before(mode);
     let turn = stateset::intersection(of(sets, before), turning(mode, g, h));
-    if stateset::member(turn, at.state) {
-        return points::come_to(before, at.state, out, at.top, change_to(mode));
+    if stateset::member(turn, points::state_of(at)) {
+        return points::come_to(
+            before,
+            points::state_of(at),
+            out,
+            points::top_of(at),
+            change_to(mode),
+        );
     }
     points::read_back(targets, firsts, numbers, g, h, of(sets, mode), 0, at, out)
 }
@@ -215,15 +220,15 @@ fn down(
     h: u64,
     levels: &[u64; 579],
     k: usize,
-    at: Point,
+    at: usize,
     out: &mut [u16],
-) -> Point
+) -> usize
     requires { ⌜ Good (now targets) (now numbers) ⌝ }
 {
     let mut now = at;
     let mut left = k;
     while 0 < left {
-        if 64 <= now.state {
+        if points::is_lost(now) {
             return now;
         }
         left -= 1;
@@ -241,13 +246,13 @@ fn far_back(
     h: u64,
     turns: bool,
     from: Spread,
-    at: Point,
+    at: usize,
     out: &mut [u16],
-) -> Point
+) -> usize
     requires { ⌜ Good (now targets) (now numbers) ⌝ }
 {
     let mut levels: [u64; 579] = [0; 579];
-    let mode = points::mode_of(at.mode);
+    let mode = points::mode_of(at);
     let k = spread_to(
         targets,
         numbers,
@@ -256,7 +261,7 @@ fn far_back(
         turns,
         from,
         mode,
-        at.state,
+        points::state_of(at),
         &mut levels,
     );
     if 193 <= k {
@@ -274,17 +279,17 @@ pub fn settle(
     h: u64,
     turns: bool,
     from: Spread,
-    at: Point,
+    at: usize,
     out: &mut [u16],
-) -> Point
+) -> usize
     requires { ⌜ Good (now targets) (now numbers) ⌝ }
 {
-    let mode = points::mode_of(at.mode);
-    if stateset::member(of(from, mode), at.state) {
+    let mode = points::mode_of(at);
+    if stateset::member(of(from, mode), points::state_of(at)) {
         return at;
     }
     let one = free_back(targets, firsts, numbers, g, h, from, at, out);
-    if one.state < 64 {
+    if !points::is_lost(one) {
         return one;
     }
     far_back(targets, firsts, numbers, g, h, turns, from, at, out)
@@ -300,16 +305,16 @@ pub fn letter_back(
     turns: bool,
     set: u64,
     x: u8,
-    at: Point,
+    at: usize,
     out: &mut [u16],
-) -> Point
+) -> usize
     requires { ⌜ Good (now targets) (now numbers) ⌝ }
 {
     let direct = points::read_back(targets, firsts, numbers, g, h, set, x, at, out);
-    if direct.state < 64 {
+    if !points::is_lost(direct) {
         return direct;
     }
-    let mode = points::mode_of(at.mode);
+    let mode = points::mode_of(at);
     let read = images::step_set(targets, numbers, g, h, mode, set, x);
     if read == 0 {
         return direct;
@@ -325,7 +330,7 @@ pub fn letter_back(
         at,
         out,
     );
-    if 64 <= near.state {
+    if points::is_lost(near) {
         return near;
     }
     points::read_back(targets, firsts, numbers, g, h, set, x, near, out)

@@ -4,25 +4,34 @@ ghost use Rattle.decide.specs.Graph.{Good};
 use decide::images;
 use fsbm::config::Mode;
 
-// A mode (0 normal, 1 buffering, 2 emptying) and a state, and where the entries begin that lead on from there, at the back of a slice.
-// State 64 says that no way back was found. All fields are of one size: a point is copied at every step.
-pub struct Point {
-    pub mode: usize,
-    pub state: usize,
-    pub top: usize,
+// A point is a number: 256 times where the entries begin that lead on from there, at the back of a slice, 64 times the mode's number (0
+// normal, 1 buffering, 2 emptying), and the state. It is handed from call to call at every step, and as one number it stays in a
+// register. What is lost has the mode's number 3.
+pub fn lost() -> usize {
+    192
 }
 
-// What says that no way back was found.
-pub fn lost() -> Point {
-    Point {
-        mode: 0,
-        state: 64,
-        top: 0,
-    }
+// Whether no way back was found.
+pub fn is_lost(at: usize) -> bool {
+    at / 64 % 4 == 3
+}
+
+// The state of a point.
+pub fn state_of(at: usize) -> usize
+    ensures { λ r. ⌜ r < 64 ⌝ }
+{
+    at % 64
+}
+
+// Where the entries begin that lead on from a point.
+pub fn top_of(at: usize) -> usize {
+    at / 256
 }
 
 // The number of a mode in a point.
-pub fn number_of(mode: Mode) -> usize {
+fn number_of(mode: Mode) -> usize
+    ensures { λ r. ⌜ r < 3 ⌝ }
+{
     match mode {
         Mode::Normal => 0,
         Mode::Buffering => 1,
@@ -30,8 +39,9 @@ pub fn number_of(mode: Mode) -> usize {
     }
 }
 
-// The mode of a number in a point.
-pub fn mode_of(number: usize) -> Mode {
+// The mode of a point.
+pub fn mode_of(at: usize) -> Mode {
+    let number = at / 64 % 4;
     if number == 0 {
         return Mode::Normal;
     }
@@ -39,6 +49,17 @@ pub fn mode_of(number: usize) -> Mode {
         return Mode::Buffering;
     }
     Mode::Emptying
+}
+
+// The point in this mode and state with the entries from top on.
+pub fn point(mode: Mode, state: usize, top: usize) -> usize {
+    if 64 <= state {
+        return lost();
+    }
+    if 65536 <= top {
+        return lost();
+    }
+    top * 256 + number_of(mode) * 64 + state
 }
 
 // Writes an entry before those from top on, and hands back where they begin then. There is no room before 0, and what begins there is
@@ -55,12 +76,8 @@ pub fn put(out: &mut [u16], top: usize, entry: u16) -> usize {
 }
 
 // The point in this mode and state, the entry written that leads on from there.
-pub fn come_to(mode: Mode, state: usize, out: &mut [u16], top: usize, entry: u16) -> Point {
-    Point {
-        mode: number_of(mode),
-        state,
-        top: put(out, top, entry),
-    }
+pub fn come_to(mode: Mode, state: usize, out: &mut [u16], top: usize, entry: u16) -> usize {
+    point(mode, state, put(out, top, entry))
 }
 
 // The lowest state of a set from which a transition with letter x leads to q in a mode; 64 where there is none.
@@ -114,17 +131,17 @@ pub fn read_back(
     h: u64,
     set: u64,
     x: u8,
-    at: Point,
+    at: usize,
     out: &mut [u16],
-) -> Point
+) -> usize
     requires { ⌜ Good (now targets) (now numbers) ⌝ }
 {
-    let mode = mode_of(at.mode);
-    let q = at.state;
+    let mode = mode_of(at);
+    let q = state_of(at);
     let p = source(targets, numbers, g, h, mode, set, x, q);
     if 64 <= p {
         return lost();
     }
     let entry = number(targets, firsts, numbers, p, x, q);
-    come_to(mode, p, out, at.top, entry)
+    come_to(mode, p, out, top_of(at), entry)
 }

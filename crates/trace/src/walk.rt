@@ -10,7 +10,6 @@ use crate::copies;
 use crate::copies::Place;
 use crate::levels;
 use crate::points;
-use crate::points::Point;
 use decide::images::Kinds;
 use fsbm::config::Mode;
 use fsbm::machine::Machine;
@@ -55,7 +54,7 @@ fn place_back(
         at,
         out,
     );
-    if read.state < 64 {
+    if !points::is_lost(read) {
         return Place {
             at: read,
             place: p - 1,
@@ -76,18 +75,17 @@ fn walk_back(
     sets: &[u64; 256],
     end: Place,
     out: &mut [u16],
-) -> Point
+) -> usize
     requires { ⌜ Good (now targets) (now numbers) ⌝ }
 {
     let mut here = end;
     let mut steps: usize = 0;
     while steps < 256 {
-        if 64 <= here.at.state {
+        if points::is_lost(here.at) {
             return points::lost();
         }
         if here.place == 0 {
-            let at = here.at;
-            return at;
+            return here.at;
         }
         here = place_back(targets, firsts, numbers, g, h, word, sets, here, out);
         steps += 1;
@@ -111,14 +109,11 @@ fn move_front(out: &mut [u16], top: usize) -> usize {
 
 // Writes the start state before the entries that lead on from a point at the beginning of the word, and hands back how many entries the
 // run has; 0 where it has no room.
-fn begin(at: Point, out: &mut [u16]) -> usize {
-    if at.top == 0 {
+fn begin(at: usize, out: &mut [u16]) -> usize {
+    if points::top_of(at) == 0 {
         return 0;
     }
-    if 64 <= at.state {
-        return 0;
-    }
-    let top = points::put(out, at.top, at.state as u16);
+    let top = points::put(out, points::top_of(at), points::state_of(at) as u16);
     move_front(out, top)
 }
 
@@ -142,21 +137,17 @@ fn search(
         return 0;
     }
     let end = Place {
-        at: Point {
-            mode: 0,
-            state: stateset::lowest(ended) as usize,
-            top: out.len(),
-        },
+        at: points::point(Mode::Normal, stateset::lowest(ended) as usize, out.len()),
         place: n,
         left: n * 64 + 64,
     };
     let back = walk_back(targets, firsts, numbers, g, h, word, sets, end, out);
-    if 64 <= back.state {
+    if points::is_lost(back) {
         return 0;
     }
     let first = levels::only(Mode::Normal, kinds.initial);
     let at = levels::settle(targets, firsts, numbers, g, h, true, first, back, out);
-    if 64 <= at.state {
+    if points::is_lost(at) {
         return 0;
     }
     begin(at, out)

@@ -8,19 +8,19 @@ use Rattle.decide.proofs.words.accepts_few.Reads as reads
 use Rattle.decide.proofs.words.accepts_few.Lts as lts
 use Rattle.decide.proofs.words.accepts_with.Reads as accepts-with-reads
 
--- src/words.rt:41:36
+-- src/words.rt:40:43
 slice-aggregate-accepts-with : tie.Need-slice-aggregate-accepts-with
 slice-aggregate-accepts-with c = search needs
 
--- src/words.rt:41:48
+-- src/words.rt:40:55
 slice-aggregate-accepts-with-2 : tie.Need-slice-aggregate-accepts-with-2
 slice-aggregate-accepts-with-2 c = search needs
 
--- src/words.rt:41:5
+-- src/words.rt:40:5
 accepts-with-requires : tie.Need-accepts-with-requires
 accepts-with-requires c κs = ((c .before .before .before .before .pre) .0, (c .before .before .before .before .pre) .1, (c .before .before .before .before .pre) .2, omega (arith, (c .before .before .before .before .pre) .3), zeros-at 256, omega arith)
 
--- src/words.rt:35:1
+-- src/words.rt:34:1
 returns : tie.Need-returns
 returns c = search needs
 

@@ -12,25 +12,25 @@ use Rattle.targets.proofs.fill.Reads as fill-reads
 
 -- src/words.rt:27:5
 fill-requires : tie.Need-fill-requires
-fill-requires c κs = ((c .before .before .before .before .before .before .before .before .pre) .0, (c .before .before .before .before .before .before .before .before .pre) .2 .distinct .small, (c .before .before .before .before .before .before .before .before .pre) .3, (c .before .before .before .before .before .before .before .before .pre) .4, (c .before .before .before .before .before .before .before .before .pre) .5)
+fill-requires c κs = ((c .before .before .before .before .before .before .pre) .0, (c .before .before .before .before .before .before .pre) .2 .distinct .small, (c .before .before .before .before .before .before .pre) .3, (c .before .before .before .before .before .before .pre) .4, (c .before .before .before .before .before .before .pre) .5)
 
 -- src/words.rt:28:9
 kinds-of-requires : tie.Need-kinds-of-requires
-kinds-of-requires c κs = sorted (c .before .before .before .before .before .before .before .before .before .before .before .before .before .before .before .args .t1) ((c .before .before .before .before .before .before .before .before .before .before .before .before .before .before .before .args .list) .now) ((c .before .before .before .before .before .before .before .before .before .before .before .before .before .before .before .pre) .0) .states-fit
+kinds-of-requires c κs = sorted (c .before .before .before .before .before .before .before .before .before .before .before .before .before .args .t1) ((c .before .before .before .before .before .before .before .before .before .before .before .before .before .args .list) .now) ((c .before .before .before .before .before .before .before .before .before .before .before .before .before .pre) .0) .states-fit
 
 -- src/words.rt:29:9
 decide-requires : tie.Need-decide-requires
-decide-requires c κs = ((c .before .before .before .before .before .before .before .before .before .before .before .before .before .before .before .before .before .before .before .pre) .0, (c .before .before .before .before .before .before .before .before .before .before .before .before .before .before .before .before .before .before .before .pre) .1, (c .before .before .before .before .before .before .before .before .before .before .fill .ensures) _ _ ((c .before .before .before .before .before .before .before .before .before .before .before .before .before .before .before .before .before .before .before .pre) .2), (c .before .before .before .kinds-of .ensures))
+decide-requires c κs = ((c .before .before .before .before .before .before .before .before .before .before .before .before .before .before .before .pre) .0, (c .before .before .before .before .before .before .before .before .before .before .before .before .before .before .before .pre) .1, (c .before .before .before .before .before .before .before .before .fill .ensures) _ _ ((c .before .before .before .before .before .before .before .before .before .before .before .before .before .before .before .pre) .2), (c .before .kinds-of .ensures))
 
--- src/words.rt:15:1
+-- src/words.rt:14:1
 same-length : tie.Need-same-length
 same-length c = search needs
 
--- src/words.rt:15:1
+-- src/words.rt:14:1
 same-length-2 : tie.Need-same-length-2
 same-length-2 c = search needs
 
--- src/words.rt:15:1
+-- src/words.rt:14:1
 returns : tie.Need-returns
 returns c = (c .decide .ensures)
 

@@ -13,79 +13,88 @@ use Rattle.trace.proofs.copies.set_at.Reads as set-at-reads
 use Rattle.trace.proofs.levels.letter_back.Reads as letter-back-reads
 use Rattle.trace.proofs.levels.only.Reads as only-reads
 use Rattle.trace.proofs.levels.settle.Reads as settle-reads
+use Rattle.trace.proofs.points.is_lost.Reads as is-lost-reads
 use Rattle.trace.proofs.points.mode_of.Reads as mode-of-reads
 
 abbrev Inv-loop : tie.InvT-loop
-Inv-loop targets firsts numbers g h word i d sets from out₀ now₀ k₀ out now k = Good targets numbers × (i < 256) × (k < 256) × (length out ≡ length out₀)
+Inv-loop targets firsts numbers g h word i d sets from at out₀ now₀ k₀ out now k = Good targets numbers × (i < 256) × (k < 256) × (length out ≡ length out₀)
 
 abbrev μ-loop : tie.MeasureT-loop
-μ-loop targets firsts numbers g h word i d sets from out₀ now₀ k₀ out now k = k
+μ-loop targets firsts numbers g h word i d sets from at out₀ now₀ k₀ out now k = k
 
--- src/copies.rt:98:5
+-- src/copies.rt:97:5
 loop-holds : tie.Need-loop-holds Inv-loop μ-loop
 loop-holds c = search needs
 
--- src/copies.rt:100:13
+-- src/copies.rt:98:12
+is-lost-requires : tie.Need-is-lost-requires Inv-loop μ-loop
+is-lost-requires c κs = search needs
+
+-- src/copies.rt:99:13
 same-length : tie.Need-same-length Inv-loop μ-loop
 same-length c = search needs
 
--- src/copies.rt:100:13
+-- src/copies.rt:99:13
 returns : tie.Need-returns Inv-loop μ-loop
 returns c = search needs
 
--- src/copies.rt:102:9
+-- src/copies.rt:101:9
 sub-k : tie.Need-sub-k Inv-loop μ-loop
 sub-k c = search needs
 
--- src/copies.rt:103:33
+-- src/copies.rt:102:33
 add-letter-at : tie.Need-add-letter-at Inv-loop μ-loop
 add-letter-at c = search needs
 
--- src/copies.rt:103:13
+-- src/copies.rt:102:13
 letter-at-requires : tie.Need-letter-at-requires Inv-loop μ-loop
 letter-at-requires c κs = search needs
 
--- src/copies.rt:104:13
+-- src/copies.rt:103:13
 set-at-requires : tie.Need-set-at-requires Inv-loop μ-loop
 set-at-requires c κs = search needs
 
--- src/copies.rt:105:9
+-- src/copies.rt:104:9
 letter-back-requires : tie.Need-letter-back-requires Inv-loop μ-loop
 letter-back-requires c κs = search needs
 
--- src/copies.rt:98:5
+-- src/copies.rt:97:5
 loop-less : tie.Need-loop-less Inv-loop μ-loop
 loop-less c = search needs
 
--- src/copies.rt:98:5
+-- src/copies.rt:97:5
 loop-again : tie.Need-loop-again Inv-loop μ-loop
 loop-again c = search needs
 
--- src/copies.rt:108:9
+-- src/copies.rt:106:8
+is-lost-requires-2 : tie.Need-is-lost-requires-2 Inv-loop μ-loop
+is-lost-requires-2 c κs = search needs
+
+-- src/copies.rt:107:9
 same-length-2 : tie.Need-same-length-2 Inv-loop μ-loop
 same-length-2 c = search needs
 
--- src/copies.rt:108:9
+-- src/copies.rt:107:9
 returns-2 : tie.Need-returns-2 Inv-loop μ-loop
 returns-2 c = search needs
 
--- src/copies.rt:110:9
+-- src/copies.rt:109:9
 mode-of-requires : tie.Need-mode-of-requires Inv-loop μ-loop
 mode-of-requires c κs = search needs
 
--- src/copies.rt:111:9
+-- src/copies.rt:110:9
 only-requires : tie.Need-only-requires Inv-loop μ-loop
 only-requires c κs = search needs
 
--- src/copies.rt:112:5
+-- src/copies.rt:111:5
 settle-requires : tie.Need-settle-requires Inv-loop μ-loop
 settle-requires c κs = search needs
 
--- src/copies.rt:80:1
+-- src/copies.rt:79:1
 same-length-3 : tie.Need-same-length-3 Inv-loop μ-loop
 same-length-3 c = search needs
 
--- src/copies.rt:80:1
+-- src/copies.rt:79:1
 returns-3 : tie.Need-returns-3 Inv-loop μ-loop
 returns-3 c = search needs
 
@@ -96,6 +105,7 @@ unread-spec =
     Inv-loop
     μ-loop
     loop-holds
+    is-lost-requires
     same-length
     returns
     sub-k
@@ -105,6 +115,7 @@ unread-spec =
     letter-back-requires
     loop-less
     loop-again
+    is-lost-requires-2
     same-length-2
     returns-2
     mode-of-requires

@@ -1,6 +1,7 @@
-use Rattle.decide.specs.Graph.{Good}
-use lib.ListN.{length}
+use Prim.Native.Nat.{_<_, _≤_, _-_, _^_, _+_}
 use mathlib.Core.Path.{_≡_}
+use lib.ListN.{length}
+use Rattle.decide.specs.Graph.{Good}
 use borrow.Author.Needs.{needs}
 use native.Mathlib.Omega.{arith}
 use Rattle.trace.proofs.levels.down.Statement.{statement}
@@ -9,50 +10,55 @@ use Rattle.trace.proofs.levels.down.Reads as reads
 use Rattle.trace.proofs.levels.down.Lts as lts
 use Rattle.trace.proofs.levels.free_back.Reads as free-back-reads
 use Rattle.trace.proofs.levels.load.Reads as load-reads
+use Rattle.trace.proofs.points.is_lost.Reads as is-lost-reads
 
 abbrev Inv-loop : tie.InvT-loop
-Inv-loop targets firsts numbers g h levels k out₀ now₀ left₀ out now left = Good targets numbers × (length out ≡ length out₀)
+Inv-loop targets firsts numbers g h levels k at out₀ now₀ left₀ out now left = Good targets numbers × (length out ≡ length out₀)
 
 abbrev μ-loop : tie.MeasureT-loop
-μ-loop targets firsts numbers g h levels k out₀ now₀ left₀ out now left = left
+μ-loop targets firsts numbers g h levels k at out₀ now₀ left₀ out now left = left
 
--- src/levels.rt:225:5
+-- src/levels.rt:224:5
 loop-holds : tie.Need-loop-holds Inv-loop μ-loop
 loop-holds c = search needs
 
--- src/levels.rt:227:13
+-- src/levels.rt:225:12
+is-lost-requires : tie.Need-is-lost-requires Inv-loop μ-loop
+is-lost-requires c κs = search needs
+
+-- src/levels.rt:226:13
 same-length : tie.Need-same-length Inv-loop μ-loop
 same-length c = search needs
 
--- src/levels.rt:227:13
+-- src/levels.rt:226:13
 returns : tie.Need-returns Inv-loop μ-loop
 returns c = search needs
 
--- src/levels.rt:229:9
+-- src/levels.rt:228:9
 sub-left : tie.Need-sub-left Inv-loop μ-loop
 sub-left c = search needs
 
--- src/levels.rt:230:57
+-- src/levels.rt:229:57
 load-requires : tie.Need-load-requires Inv-loop μ-loop
 load-requires c κs = search needs
 
--- src/levels.rt:230:9
+-- src/levels.rt:229:9
 free-back-requires : tie.Need-free-back-requires Inv-loop μ-loop
 free-back-requires c κs = search needs
 
--- src/levels.rt:225:5
+-- src/levels.rt:224:5
 loop-less : tie.Need-loop-less Inv-loop μ-loop
 loop-less c = search needs
 
--- src/levels.rt:225:5
+-- src/levels.rt:224:5
 loop-again : tie.Need-loop-again Inv-loop μ-loop
 loop-again c = search needs
 
--- src/levels.rt:210:1
+-- src/levels.rt:209:1
 same-length-2 : tie.Need-same-length-2 Inv-loop μ-loop
 same-length-2 c = search needs
 
--- src/levels.rt:210:1
+-- src/levels.rt:209:1
 returns-2 : tie.Need-returns-2 Inv-loop μ-loop
 returns-2 c = search needs
 
@@ -63,6 +69,7 @@ down-spec =
     Inv-loop
     μ-loop
     loop-holds
+    is-lost-requires
     same-length
     returns
     sub-left

@@ -8,6 +8,7 @@ use Rattle.trace.proofs.walk.walk_back.Statement.{statement}
 use Rattle.trace.proofs.walk.walk_back.Tie as tie
 use Rattle.trace.proofs.walk.walk_back.Reads as reads
 use Rattle.trace.proofs.walk.walk_back.Lts as lts
+use Rattle.trace.proofs.points.is_lost.Reads as is-lost-reads
 use Rattle.trace.proofs.points.lost.Reads as lost-reads
 use Rattle.trace.proofs.walk.place_back.Reads as place-back-reads
 
@@ -17,55 +18,59 @@ Inv-loop targets firsts numbers g h word sets out₀ here₀ steps₀ out here s
 abbrev μ-loop : tie.MeasureT-loop
 μ-loop targets firsts numbers g h word sets out₀ here₀ steps₀ out here steps = 256 - steps
 
--- src/walk.rt:66:5
+-- src/walk.rt:83:5
 loop-holds : tie.Need-loop-holds Inv-loop μ-loop
 loop-holds c = search needs
 
--- src/walk.rt:68:13
+-- src/walk.rt:84:12
+is-lost-requires : tie.Need-is-lost-requires Inv-loop μ-loop
+is-lost-requires c κs = search needs
+
+-- src/walk.rt:85:13
 lost-requires : tie.Need-lost-requires Inv-loop μ-loop
 lost-requires c κs = search needs
 
--- src/walk.rt:68:13
+-- src/walk.rt:85:13
 same-length : tie.Need-same-length Inv-loop μ-loop
 same-length c = search needs
 
--- src/walk.rt:68:13
+-- src/walk.rt:85:13
 returns : tie.Need-returns Inv-loop μ-loop
 returns c = search needs
 
--- src/walk.rt:72:13
+-- src/walk.rt:88:13
 same-length-2 : tie.Need-same-length-2 Inv-loop μ-loop
 same-length-2 c = search needs
 
--- src/walk.rt:72:13
+-- src/walk.rt:88:13
 returns-2 : tie.Need-returns-2 Inv-loop μ-loop
 returns-2 c = search needs
 
--- src/walk.rt:74:9
+-- src/walk.rt:90:9
 place-back-requires : tie.Need-place-back-requires Inv-loop μ-loop
 place-back-requires c κs = search needs
 
--- src/walk.rt:75:9
+-- src/walk.rt:91:9
 add-steps : tie.Need-add-steps Inv-loop μ-loop
 add-steps c = search needs
 
--- src/walk.rt:66:5
+-- src/walk.rt:83:5
 loop-less : tie.Need-loop-less Inv-loop μ-loop
 loop-less c = search needs
 
--- src/walk.rt:66:5
+-- src/walk.rt:83:5
 loop-again : tie.Need-loop-again Inv-loop μ-loop
 loop-again c = search needs
 
--- src/walk.rt:77:5
+-- src/walk.rt:93:5
 lost-requires-2 : tie.Need-lost-requires-2 Inv-loop μ-loop
 lost-requires-2 c κs = search needs
 
--- src/walk.rt:51:1
+-- src/walk.rt:68:1
 same-length-3 : tie.Need-same-length-3 Inv-loop μ-loop
 same-length-3 c = search needs
 
--- src/walk.rt:51:1
+-- src/walk.rt:68:1
 returns-3 : tie.Need-returns-3 Inv-loop μ-loop
 returns-3 c = search needs
 
@@ -76,6 +81,7 @@ walk-back-spec =
     Inv-loop
     μ-loop
     loop-holds
+    is-lost-requires
     lost-requires
     same-length
     returns
