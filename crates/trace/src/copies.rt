@@ -8,11 +8,13 @@ use decide::images;
 use fsbm::config::Mode;
 use tables::halves;
 
-// Where the search has come to: a point in normal mode, its place, and how many letters may still be followed.
+// Where the search has come to: a point in normal mode, its place, how many letters may still be followed, and how many letters the
+// last copy stored that it came back by (0: none yet).
 pub struct Place {
     pub at: usize,
     pub place: usize,
     pub left: usize,
+    pub half: usize,
 }
 
 // What letters lead to, and how many of them were followed.
@@ -29,6 +31,7 @@ fn set_at(sets: &[u64; 129], k: usize) -> u64 {
     sets[k]
 }
 
+// Keeps a set at k, where there is room.
 fn keep_set(sets: &mut [u64; 129], k: usize, set: u64) {
     if 129 <= k {
         return;
@@ -234,6 +237,7 @@ fn copy_back(
             at: points::lost(),
             place: 0,
             left: rest,
+            half: 0,
         };
     }
     let second = follow(
@@ -269,6 +273,7 @@ fn copy_back(
         at: begin,
         place: i,
         left: spend(rest, second.letters),
+        half: d,
     }
 }
 
@@ -293,6 +298,7 @@ fn copies_back(
         at: points::lost(),
         place: 0,
         left: left,
+        half: 0,
     };
     let mut rest = starts;
     while rest != 0 {
@@ -336,8 +342,43 @@ fn starts_at(sets: &[u64; 256], g: u64, word: &[u8], i: usize, d: usize) -> u64
     starts
 }
 
+// Back from a point at place p by a copy of d letters that ends there.
+fn half_back(
+    targets: &[u64],
+    firsts: &[u16],
+    numbers: &[u8; 256],
+    g: u64,
+    h: u64,
+    word: &[u8],
+    sets: &[u64; 256],
+    p: usize,
+    d: usize,
+    left: usize,
+    at: usize,
+    out: &mut [u16],
+) -> Place
+    requires { ⌜ Good (now targets) (now numbers) × (p ≤ length (now word)) × (p < 256) × (d + d ≤ p) ⌝ }
+{
+    let i = p - d - d;
+    let starts = starts_at(sets, g, word, i, d);
+    copies_back(
+        targets,
+        firsts,
+        numbers,
+        g,
+        h,
+        word,
+        i,
+        d,
+        starts,
+        left,
+        at,
+        out,
+    )
+}
+
 // Back from a point at place p by any copy that ends there, the longest first.
-pub fn any_copy_back(
+fn longest_back(
     targets: &[u64],
     firsts: &[u16],
     numbers: &[u8; 256],
@@ -356,24 +397,23 @@ pub fn any_copy_back(
         at: points::lost(),
         place: 0,
         left: left,
+        half: 0,
     };
     let mut d = p / 2;
     while 0 < d {
         if tried.left == 0 {
             return tried;
         }
-        let i = p - d - d;
-        let starts = starts_at(sets, g, word, i, d);
-        tried = copies_back(
+        tried = half_back(
             targets,
             firsts,
             numbers,
             g,
             h,
             word,
-            i,
+            sets,
+            p,
             d,
-            starts,
             tried.left,
             at,
             out,
@@ -384,4 +424,59 @@ pub fn any_copy_back(
         d -= 1;
     }
     tried
+}
+
+// The same, with as many letters as the last copy tried first: runs often have many copies of one length.
+pub fn any_copy_back(
+    targets: &[u64],
+    firsts: &[u16],
+    numbers: &[u8; 256],
+    g: u64,
+    h: u64,
+    word: &[u8],
+    sets: &[u64; 256],
+    p: usize,
+    half: usize,
+    left: usize,
+    at: usize,
+    out: &mut [u16],
+) -> Place
+    requires { ⌜ Good (now targets) (now numbers) × (p ≤ length (now word)) × (p < 256) ⌝ }
+{
+    if half == 0 {
+        return longest_back(targets, firsts, numbers, g, h, word, sets, p, left, at, out);
+    }
+    if p / 2 < half {
+        return longest_back(targets, firsts, numbers, g, h, word, sets, p, left, at, out);
+    }
+    let again = half_back(
+        targets,
+        firsts,
+        numbers,
+        g,
+        h,
+        word,
+        sets,
+        p,
+        half,
+        left,
+        at,
+        out,
+    );
+    if !points::is_lost(again.at) {
+        return again;
+    }
+    longest_back(
+        targets,
+        firsts,
+        numbers,
+        g,
+        h,
+        word,
+        sets,
+        p,
+        again.left,
+        at,
+        out,
+    )
 }

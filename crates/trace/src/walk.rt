@@ -59,9 +59,23 @@ fn place_back(
             at: read,
             place: p - 1,
             left: left,
+            half: here.half,
         };
     }
-    copies::any_copy_back(targets, firsts, numbers, g, h, word, sets, p, left, at, out)
+    copies::any_copy_back(
+        targets,
+        firsts,
+        numbers,
+        g,
+        h,
+        word,
+        sets,
+        p,
+        here.half,
+        left,
+        at,
+        out,
+    )
 }
 
 // Back from a point at the end of the word to one at its beginning. Each step leads to an earlier place.
@@ -139,7 +153,8 @@ fn search(
     let end = Place {
         at: points::point(Mode::Normal, stateset::lowest(ended) as usize, out.len()),
         place: n,
-        left: n * 64 + 64,
+        left: n * 256 + 256,
+        half: 0,
     };
     let back = walk_back(targets, firsts, numbers, g, h, word, sets, end, out);
     if points::is_lost(back) {
@@ -156,8 +171,8 @@ fn search(
 // An accepting run of a word at the front of out, and the number of its entries; 0 where none was found in the time that the search
 // takes. It goes by the table of targets, the first transition of each of its sets, the states of each kind, and the states reached at
 // each place, but needs none of them to be right: what the search writes is checked entry by entry.
-// Time: for each place a look at the states before it; for each copy that is tried a set for each of its letters, at most 64 letters
-// for each letter of the word and 64 more in all; the run once more. Memory: 7 KB of stack.
+// Time: for each place a look at the states before it; for each copy that is tried a set for each of its letters, at most 256 letters
+// for each letter of the word and 256 more in all; the run once more. Memory: 7 KB of stack.
 pub fn find_run(
     m: Machine,
     list: &[u16],

@@ -4,12 +4,11 @@ use lib.ListN.{length}
 use Rattle.decide.specs.Graph.{Good}
 use borrow.Author.Needs.{needs}
 use native.Mathlib.Omega.{arith}
-use Rattle.trace.proofs.copies.any_copy_back.Statement.{statement}
-use Rattle.trace.proofs.copies.any_copy_back.Tie as tie
-use Rattle.trace.proofs.copies.any_copy_back.Reads as reads
-use Rattle.trace.proofs.copies.any_copy_back.Lts as lts
-use Rattle.trace.proofs.copies.copies_back.Reads as copies-back-reads
-use Rattle.trace.proofs.copies.starts_at.Reads as starts-at-reads
+use Rattle.trace.proofs.copies.longest_back.Statement.{statement}
+use Rattle.trace.proofs.copies.longest_back.Tie as tie
+use Rattle.trace.proofs.copies.longest_back.Reads as reads
+use Rattle.trace.proofs.copies.longest_back.Lts as lts
+use Rattle.trace.proofs.copies.half_back.Reads as half-back-reads
 use Rattle.trace.proofs.points.is_lost.Reads as is-lost-reads
 use Rattle.trace.proofs.points.lost.Reads as lost-reads
 
@@ -19,72 +18,60 @@ Inv-loop targets firsts numbers g h word sets p left at out₀ tried₀ d₀ out
 abbrev μ-loop : tie.MeasureT-loop
 μ-loop targets firsts numbers g h word sets p left at out₀ tried₀ d₀ out tried d = d
 
--- src/copies.rt:344:13
+-- src/copies.rt:397:13
 lost-requires : tie.Need-lost-requires Inv-loop μ-loop
 lost-requires c κs = search needs
 
--- src/copies.rt:349:5
+-- src/copies.rt:403:5
 loop-holds : tie.Need-loop-holds Inv-loop μ-loop
 loop-holds c = search needs
 
--- src/copies.rt:351:13
+-- src/copies.rt:405:13
 same-length : tie.Need-same-length Inv-loop μ-loop
 same-length c = search needs
 
--- src/copies.rt:351:13
+-- src/copies.rt:405:13
 returns : tie.Need-returns Inv-loop μ-loop
 returns c = search needs
 
--- src/copies.rt:353:17
-sub-i : tie.Need-sub-i Inv-loop μ-loop
-sub-i c = search needs
+-- src/copies.rt:407:9
+half-back-requires : tie.Need-half-back-requires Inv-loop μ-loop
+half-back-requires c κs = search needs
 
--- src/copies.rt:353:17
-sub-i-2 : tie.Need-sub-i-2 Inv-loop μ-loop
-sub-i-2 c = search needs
-
--- src/copies.rt:354:13
-starts-at-requires : tie.Need-starts-at-requires Inv-loop μ-loop
-starts-at-requires c κs = search needs
-
--- src/copies.rt:355:9
-copies-back-requires : tie.Need-copies-back-requires Inv-loop μ-loop
-copies-back-requires c κs = search needs
-
--- src/copies.rt:369:13
+-- src/copies.rt:421:13
 is-lost-requires : tie.Need-is-lost-requires Inv-loop μ-loop
 is-lost-requires c κs = search needs
 
--- src/copies.rt:370:13
+-- src/copies.rt:422:13
 same-length-2 : tie.Need-same-length-2 Inv-loop μ-loop
 same-length-2 c = search needs
 
--- src/copies.rt:370:13
+-- src/copies.rt:422:13
 returns-2 : tie.Need-returns-2 Inv-loop μ-loop
 returns-2 c = search needs
 
--- src/copies.rt:372:9
+-- src/copies.rt:424:9
 sub-d : tie.Need-sub-d Inv-loop μ-loop
 sub-d c = search needs
 
--- src/copies.rt:349:5
+-- src/copies.rt:403:5
 loop-less : tie.Need-loop-less Inv-loop μ-loop
 loop-less c = search needs
 
--- src/copies.rt:349:5
+-- src/copies.rt:403:5
 loop-again : tie.Need-loop-again Inv-loop μ-loop
 loop-again c = search needs
 
--- src/copies.rt:328:1
+-- src/copies.rt:381:1
 same-length-3 : tie.Need-same-length-3 Inv-loop μ-loop
 same-length-3 c = search needs
 
--- src/copies.rt:328:1
+-- src/copies.rt:381:1
 returns-3 : tie.Need-returns-3 Inv-loop μ-loop
 returns-3 c = search needs
 
-pub any-copy-back-spec : {M : Type 1} → statement M
-any-copy-back-spec =
+pub longest-back-spec : {M : Type 1} → statement M
+longest-back-spec =
     tie.close
     (tie.spec
     Inv-loop
@@ -93,10 +80,7 @@ any-copy-back-spec =
     loop-holds
     same-length
     returns
-    sub-i
-    sub-i-2
-    starts-at-requires
-    copies-back-requires
+    half-back-requires
     is-lost-requires
     same-length-2
     returns-2
