@@ -6,9 +6,8 @@
 -- some-member             == any other number has one
 -- single-is               == the set of one state
 -- row-cases               == what holds of a list whose element at one place is new
--- normal-.., buffering-.., emptying-.. == the ways through may_normal, may_buffering, may_emptying
--- image-none, image-some  == the two ends of image_of
--- edge-image              == what image_of finds are the edges of a state
+-- normal-moves, buffering-moves, emptying-moves == what step_normal, step_buffering, step_emptying put together
+-- edges-taken             == the moves by the row of a letter are its edges
 -- read-.., advance-.., empty-.. == the ways through read_set, advance, empty_copies
 -- marked-turn             == one turn of kinds_of, for one kind
 use Prim.Native.Nat.{ℕ, _+_, _*_, _/_, _%_, _^_, _<_}
@@ -25,11 +24,11 @@ use lib.Dec.{eqb}
 use borrow.Author.Tests.{eqb-true, eq-eqb}
 use Rattle.graphs.specs.Search.Laws.{not-both}
 use Rattle.stateset.specs.Set.{width, In, has, SetIs}
-use Rattle.stateset.specs.Set.Laws.{has-in, in-lt, empty-in, lowest-in}
+use Rattle.stateset.specs.Set.Laws.{has-in, in-lt, in?, empty-in, lowest-in}
 use Rattle.fsbm.specs.Machine.{markOf}
 use Rattle.fsbm.specs.declared.config.Mode.{Mode}
 use Rattle.fsbm.specs.declared.config.Mode.the-variants.{Normal, Buffering, Emptying}
-use Rattle.decide.specs.Graph.{Members, From, Graph, graph, May, Edge, Free, Advance, EmptyCopy}
+use Rattle.decide.specs.Graph.{Members, From, Graph, graph, Taken, Edge, Free, Advance, EmptyCopy}
 
 pub members-is : {r v : ℕ} {P : ℕ → Type 0} → SetIs r v P → Members r P
 members-is s = record { fits = s .fits; members = s .members }
@@ -89,58 +88,82 @@ module _ (set q r : ℕ) (b : Bool) where
       back p (inl h) = h
       back p (inr h) = absurd (not-both (h .2) f)
 
--- where a move may lead
+-- the moves of a set by a row of the table: those of its matching states apart from the others
 
-module _ (g h p r : ℕ) where
-  pub normal-none : In g p → Members r (λ q. ⊥) → Members r (λ q. (q < width) × May g h Normal p q)
-  normal-none i s = members-as s (λ q z. absurd z) (λ q z. z .1 .1 i)
+module _ (targets : List ℕ) (row g h set : ℕ) where
+  abbrev pub Has : ℕ → ℕ → Type 0
+  Has p q = In (getD targets (row + p) 0) q
 
-  pub normal-apart : (f : ℕ) → (In g p → ⊥) → In h p → Members f (λ q. (q < width) × (q < width)) → Members r (λ q. In f q × (In h q → ⊥))
-      → Members r (λ q. (q < width) × May g h Normal p q)
-  normal-apart f n i all s = members-as s
-      (λ q z. (all .members q .0 (z .0) .0, (λ y. z .1 (y .1), n)))
-      (λ q z. (all .members q .1 (z .0, z .0), λ y. z .1 .0 (i, y)))
+  pub normal-moves : (free plain a matching b c r : ℕ) → Members free (λ q. In set q × (In g q → ⊥)) → Members plain (λ q. In free q × (In h q → ⊥)) → Members a (From plain Has)
+      → Members matching (λ q. In free q × In h q) → Members b (From matching Has) → Members c (λ q. In b q × (In h q → ⊥)) → Members r (λ q. In a q ⊎ In c q)
+      → Members r (From set (Taken targets row g h Normal))
+  normal-moves free plain a matching b c r frees plains hasA matchings bs cs s = members-as s to back
+    where
+      to : (q : ℕ) → In a q ⊎ In c q → From set (Taken targets row g h Normal) q
+      to q (inl m) =
+          let z = hasA .members q .0 m in
+          let y = plains .members (z .0) .0 (z .1) in
+          let f = frees .members (z .0) .0 (y .0) in
+          (z .0, f .0, (z .2, ((λ w. y .1 (w .0)), f .1)))
+      to q (inr m) =
+          let v = cs .members q .0 m in
+          let z = bs .members q .0 (v .0) in
+          let y = matchings .members (z .0) .0 (z .1) in
+          let f = frees .members (z .0) .0 (y .0) in
+          (z .0, f .0, (z .2, ((λ w. v .1 (w .1)), f .1)))
 
-  pub normal-all : (In g p → ⊥) → (In h p → ⊥) → Members r (λ q. (q < width) × (q < width)) → Members r (λ q. (q < width) × May g h Normal p q)
-  normal-all n k s = members-as s (λ q z. (z .0, (λ y. k (y .0), n))) (λ q z. (z .0, z .0))
+      from : (p q : ℕ) → In set p → Has p q → (In h p × In h q → ⊥) → (In g p → ⊥) → Dec (In h p) → In a q ⊎ In c q
+      from p q i t n k (yes e) = inr (cs .members q .1 (bs .members q .1 (p, matchings .members p .1 (frees .members p .1 (i, k), e), t), λ w. n (e, w)))
+      from p q i t n k (no e) = inl (hasA .members q .1 (p, plains .members p .1 (frees .members p .1 (i, k), e), t))
 
-  pub buffering-apart : (f b : ℕ) → In h p → Members f (λ q. (q < width) × (q < width)) → Members b (λ q. In f q × (In g q → ⊥)) → Members r (λ q. In b q × (In h q → ⊥))
-      → Members r (λ q. (q < width) × May g h Buffering p q)
-  buffering-apart f b i all calm s = members-as s
-      (λ q z. let c = calm .members q .0 (z .0) in (all .members q .0 (c .0) .0, (λ y. z .1 (y .1), c .1)))
-      (λ q z. (calm .members q .1 (all .members q .1 (z .0, z .0), z .1 .1), λ y. z .1 .0 (i, y)))
+      back : (q : ℕ) → From set (Taken targets row g h Normal) q → In a q ⊎ In c q
+      back q z = let t = z .2 in from (z .0) q (z .1) (t .0) (t .1 .0) (t .1 .1) (in? h (z .0))
 
-  pub buffering-all : (f : ℕ) → (In h p → ⊥) → Members f (λ q. (q < width) × (q < width)) → Members r (λ q. In f q × (In g q → ⊥))
-      → Members r (λ q. (q < width) × May g h Buffering p q)
-  buffering-all f k all calm = members-as calm
-      (λ q z. (all .members q .0 (z .0) .0, (λ y. k (y .0), z .1)))
-      (λ q z. (all .members q .1 (z .0, z .0), z .1 .1))
+  pub buffering-moves : (plain a matching b c all r : ℕ) → Members plain (λ q. In set q × (In h q → ⊥)) → Members a (From plain Has) → Members matching (λ q. In set q × In h q)
+      → Members b (From matching Has) → Members c (λ q. In b q × (In h q → ⊥)) → Members all (λ q. In a q ⊎ In c q) → Members r (λ q. In all q × (In g q → ⊥))
+      → Members r (From set (Taken targets row g h Buffering))
+  buffering-moves plain a matching b c all r plains hasA matchings bs cs alls s = members-as s (λ q z. to q (alls .members q .0 (z .0)) (z .1)) back
+    where
+      to : (q : ℕ) → In a q ⊎ In c q → (In g q → ⊥) → From set (Taken targets row g h Buffering) q
+      to q (inl m) k =
+          let z = hasA .members q .0 m in
+          let y = plains .members (z .0) .0 (z .1) in
+          (z .0, y .0, (z .2, ((λ w. y .1 (w .0)), k)))
+      to q (inr m) k =
+          let v = cs .members q .0 m in
+          let z = bs .members q .0 (v .0) in
+          let y = matchings .members (z .0) .0 (z .1) in
+          (z .0, y .0, (z .2, ((λ w. v .1 (w .1)), k)))
 
-  pub emptying-none : (In h p → ⊥) → Members r (λ q. ⊥) → Members r (λ q. (q < width) × May g h Emptying p q)
-  emptying-none k s = members-as s (λ q z. absurd z) (λ q z. k (z .1 .0))
+      from : (p q : ℕ) → In set p → Has p q → (In h p × In h q → ⊥) → Dec (In h p) → In a q ⊎ In c q
+      from p q i t n (yes e) = inr (cs .members q .1 (bs .members q .1 (p, matchings .members p .1 (i, e), t), λ w. n (e, w)))
+      from p q i t n (no e) = inl (hasA .members q .1 (p, plains .members p .1 (i, e), t))
 
-pub emptying-some : (g h p : ℕ) → h < 2 ^ width → In h p → Members h (λ q. (q < width) × May g h Emptying p q)
-emptying-some g h p fits i = record { fits = fits; members = λ q. (λ z. (in-lt {w = width} {x = h} {q = q} fits z, (i, z)), λ z. z .1 .1) }
+      back : (q : ℕ) → From set (Taken targets row g h Buffering) q → In all q × (In g q → ⊥)
+      back q z = let t = z .2 in (alls .members q .1 (from (z .0) q (z .1) (t .0) (t .1 .0) (in? h (z .0))), t .1 .1)
 
--- the moves of one state; t is what the table has for it
-
-module _ (g h : ℕ) (T : Mode) (p t : ℕ) where
-  pub image-none : t ≡ 0 → Members 0 (λ q. In t q × May g h T p q)
-  image-none e = members-none (λ q z. none-in e q (z .0))
-
-  pub image-some : t < 2 ^ width → (a r : ℕ) → Members a (λ q. (q < width) × May g h T p q) → Members r (λ q. In t q × In a q) → Members r (λ q. In t q × May g h T p q)
-  image-some fits a r allowed both = members-as both
-      (λ q z. (z .0, allowed .members q .0 (z .1) .1))
-      (λ q z. (z .0, allowed .members q .1 (in-lt {w = width} {x = t} {q = q} fits (z .0), z .1)))
+  pub emptying-moves : (matching b r : ℕ) → Members matching (λ q. In set q × In h q) → Members b (From matching Has) → Members r (λ q. In b q × In h q)
+      → Members r (From set (Taken targets row g h Emptying))
+  emptying-moves matching b r matchings bs s = members-as s
+      (λ q v.
+      let z = bs .members q .0 (v .0) in
+      let y = matchings .members (z .0) .0 (z .1) in
+      (z .0, y .0, (z .2, (y .1, v .1))))
+      (λ q z. let t = z .2 in (bs .members q .1 (z .0, matchings .members (z .0) .1 (z .1, t .1 .0), t .0), t .1 .1))
 
 -- they are the edges, where row is that of the letter x
-pub edge-image : (targets numbers : List ℕ) (g h : ℕ) (T : Mode) (x row p r : ℕ) → row ≡ getD numbers x 0 * 64 → p < width
-    → Members r (λ q. In (getD targets (row + p) 0) q × May g h T p q) → Members r (Edge (graph targets numbers g h) T x p)
-edge-image targets numbers g h T x row p r e lt s =
-    let at : row + p ≡ getD numbers x 0 * 64 + p = omega arith in
+pub edges-taken : (targets numbers : List ℕ) (g h : ℕ) (T : Mode) (x row set r : ℕ) → row ≡ getD numbers x 0 * 64 → set < 2 ^ width
+    → Members r (From set (Taken targets row g h T)) → Members r (From set (Edge (graph targets numbers g h) T x))
+edges-taken targets numbers g h T x row set r e fits s =
     members-as s
-    (λ q z. record { state = lt; target = subst (λ (n : ℕ). In (getD targets n 0) q) at (z .0); may = z .1 })
-    (λ q z. (subst (λ (n : ℕ). In (getD targets n 0) q) (sym at) (z .target), z .may))
+    (λ q z.
+    let t = z .2 in
+    let at : row + z .0 ≡ getD numbers x 0 * 64 + z .0 = omega arith in
+    (z .0, z .1, record { state = in-lt {w = width} {x = set} {q = z .0} fits (z .1); target = subst (λ (n : ℕ). In (getD targets n 0) q) at (t .0); may = t .1 }))
+    (λ q z.
+    let t = z .2 in
+    let at : row + z .0 ≡ getD numbers x 0 * 64 + z .0 = omega arith in
+    (z .0, z .1, (subst (λ (n : ℕ). In (getD targets n 0) q) (sym at) (t .target), t .may)))
 
 -- a letter of a word, and the epsilon moves after it
 

@@ -10,7 +10,7 @@ ghost use lib.Dec.{eqb};
 ghost use Rattle.stateset.specs.Set.{width, In};
 ghost use Rattle.fsbm.specs.Machine.{markOf};
 ghost use Rattle.fsbm.specs.declared.config.Mode.the-variants.{Normal, Buffering, Emptying};
-ghost use Rattle.decide.specs.Graph.{Members, From, Star, graph, May, Edge, Free, Advance, EmptyCopy, Turn, Good, KindsOf};
+ghost use Rattle.decide.specs.Graph.{Members, From, Star, graph, May, Taken, Edge, Free, Advance, EmptyCopy, Turn, Good, KindsOf};
 use fsbm::config::Mode;
 use fsbm::machine;
 
@@ -66,51 +66,6 @@ pub fn kinds_of(marks: &[u8; 64], states: usize) -> Kinds
     }
 }
 
-// Where a normal move from p may lead.
-fn may_normal(g: u64, h: u64, p: usize) -> u64
-    ensures { λ r. ⌜ Members r (λ q. (q < width) × May g h Normal p q) ⌝ }
-{
-    if stateset::member(g, p) {
-        return stateset::empty();
-    }
-    if stateset::member(h, p) {
-        return stateset::difference(stateset::full(stateset::WIDTH), h);
-    }
-    stateset::full(stateset::WIDTH)
-}
-
-// Where a buffering move from p may lead.
-fn may_buffering(g: u64, h: u64, p: usize) -> u64
-    ensures { λ r. ⌜ Members r (λ q. (q < width) × May g h Buffering p q) ⌝ }
-{
-    let calm = stateset::difference(stateset::full(stateset::WIDTH), g);
-    if stateset::member(h, p) {
-        return stateset::difference(calm, h);
-    }
-    calm
-}
-
-// Where an emptying move from p may lead.
-fn may_emptying(g: u64, h: u64, p: usize) -> u64
-    ensures { λ r. ⌜ Members r (λ q. (q < width) × May g h Emptying p q) ⌝ }
-{
-    if stateset::member(h, p) {
-        return h;
-    }
-    stateset::empty()
-}
-
-// Where a move from p may lead in a mode.
-fn may(g: u64, h: u64, mode: Mode, p: usize) -> u64
-    ensures { λ r. ⌜ Members r (λ q. (q < width) × May g h mode p q) ⌝ }
-{
-    match mode {
-        Mode::Normal => may_normal(g, h, p),
-        Mode::Buffering => may_buffering(g, h, p),
-        Mode::Emptying => may_emptying(g, h, p),
-    }
-}
-
 fn wide(x: u8) -> usize
     ensures { λ r. ⌜ (r ≡ x) × (r ≤ 255) ⌝ }
 {
@@ -124,16 +79,51 @@ pub fn row_of(numbers: &[u8; 256], x: u8) -> usize
     wide(numbers[x as usize]) * 64
 }
 
-// Where the moves from p lead in a mode, by the transitions of the letter whose row begins there.
-pub fn image_of(targets: &[u64], g: u64, h: u64, mode: Mode, row: usize, p: usize) -> u64
-    requires { ⌜ (p < width) × (row + width ≤ length (now targets)) ⌝ }
-    ensures { λ r. ⌜ Members r (λ q. In (getD (now (targets .entry)) (row + p) 0) q × May g h mode p q) ⌝ }
+// The union of what a row of the table has for the states of a set.
+fn row_union(targets: &[u64], row: usize, set: u64) -> u64
+    requires { ⌜ row + width ≤ length (now targets) ⌝ }
+    ensures { λ r. ⌜ Members r (From set (λ p q. In (getD (now (targets .entry)) (row + p) 0) q)) ⌝ }
 {
-    let found = targets[row + p];
-    if found == 0 {
-        return 0;
+    let mut all = stateset::empty();
+    let mut rest = set;
+    while rest != 0 {
+        let p = stateset::lowest(rest) as usize;
+        rest = stateset::without_lowest(rest);
+        all = stateset::union(all, targets[row + p]);
     }
-    stateset::intersection(found, may(g, h, mode, p))
+    all
+}
+
+// The image of a set under the normal moves by the letter whose row begins there: those of a buffering state may not be taken, and
+// those of a matching state do not lead to a matching state.
+fn step_normal(targets: &[u64], g: u64, h: u64, row: usize, set: u64) -> u64
+    requires { ⌜ row + width ≤ length (now targets) ⌝ }
+    ensures { λ r. ⌜ Members r (From set (Taken (now (targets .entry)) row g h Normal)) ⌝ }
+{
+    let free = stateset::difference(set, g);
+    let plain = row_union(targets, row, stateset::difference(free, h));
+    let matching = row_union(targets, row, stateset::intersection(free, h));
+    stateset::union(plain, stateset::difference(matching, h))
+}
+
+// The same for buffering moves: none leads to a buffering state, and those of a matching state do not lead to a matching state.
+fn step_buffering(targets: &[u64], g: u64, h: u64, row: usize, set: u64) -> u64
+    requires { ⌜ row + width ≤ length (now targets) ⌝ }
+    ensures { λ r. ⌜ Members r (From set (Taken (now (targets .entry)) row g h Buffering)) ⌝ }
+{
+    let plain = row_union(targets, row, stateset::difference(set, h));
+    let matching = row_union(targets, row, stateset::intersection(set, h));
+    let all = stateset::union(plain, stateset::difference(matching, h));
+    stateset::difference(all, g)
+}
+
+// The same for emptying moves: all are from a matching state to a matching state.
+fn step_emptying(targets: &[u64], g: u64, h: u64, row: usize, set: u64) -> u64
+    requires { ⌜ row + width ≤ length (now targets) ⌝ }
+    ensures { λ r. ⌜ Members r (From set (Taken (now (targets .entry)) row g h Emptying)) ⌝ }
+{
+    let found = row_union(targets, row, stateset::intersection(set, h));
+    stateset::intersection(found, h)
 }
 
 // The image of a set under the moves that read x in a mode. Time: the members of the set, each once.
@@ -150,14 +140,11 @@ pub fn step_set(
     ensures { λ r. ⌜ Members r (From set (Edge (graph (now (targets .entry)) (now (numbers .entry)) g h) mode x)) ⌝ }
 {
     let row = row_of(numbers, x);
-    let mut image = stateset::empty();
-    let mut rest = set;
-    while rest != 0 {
-        let p = stateset::lowest(rest) as usize;
-        rest = stateset::remove(rest, p);
-        image = stateset::union(image, image_of(targets, g, h, mode, row, p));
+    match mode {
+        Mode::Normal => step_normal(targets, g, h, row, set),
+        Mode::Buffering => step_buffering(targets, g, h, row, set),
+        Mode::Emptying => step_emptying(targets, g, h, row, set),
     }
-    image
 }
 
 // The states that a set reaches by epsilon moves in a mode.
@@ -241,6 +228,9 @@ pub fn close_place(targets: &[u64], numbers: &[u8; 256], g: u64, h: u64, set: u6
     requires { ⌜ Good (now targets) (now numbers) ⌝ }
     ensures { λ r. ⌜ Members r (From set (Star (Turn (graph (now (targets .entry)) (now (numbers .entry)) g h)))) ⌝ }
 {
+    if set == 0 {
+        return 0;
+    }
     let mut all = set;
     loop {
         let near = close_set(targets, numbers, g, h, Mode::Normal, all);

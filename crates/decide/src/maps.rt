@@ -56,7 +56,7 @@ fn image(map: &[u64; 64], set: u64) -> u64
     let mut rest = set;
     while rest != 0 {
         let p = stateset::lowest(rest) as usize;
-        rest = stateset::remove(rest, p);
+        rest = stateset::without_lowest(rest);
         all = stateset::union(all, map[p]);
     }
     all

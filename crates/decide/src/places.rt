@@ -22,12 +22,10 @@ use crate::walks::Tail;
 use fsbm::config::Mode;
 use fsbm::machine::Machine;
 
-// The reached set of each place of a word: one for each place 0 to 255.
+// The reached set of each place of a word, one for each place 0 to 255; the set at its end, and whether one of those states is final:
+// 0 and no before that is known.
 pub struct Reached {
     pub sets: [u64; 256],
-    // What is left of the allowance for copies; 0 where it did not suffice, and then the sets are not complete.
-    pub left: usize,
-    // The states reached at the end of the word, and whether one of them is final; 0 and no before that is known.
     pub end: u64,
     pub accepted: bool,
 }
@@ -155,78 +153,92 @@ fn pass_place(
 }
 
 // The sets at the start of a word: the initial states at place 0.
-fn start_at(initial: u64, left: usize) -> Reached
+fn start_at(initial: u64) -> Reached
     ensures { λ r. ⌜ ((G : Graph) (w : List ℕ) → Stage G w initial (r .sets) 0) ⌝ }
 {
     let mut sets: [u64; 256] = [0; 256];
     sets[0] = initial;
     Reached {
         sets: sets,
-        left: left,
         end: 0,
         accepted: false,
     }
 }
 
-// The sets of all places of a word, from those at its start; left is 0 where the allowance does not suffice.
+// 1 where the letters are not the same, else 0.
+fn change(x: u8, y: u8) -> usize
+    ensures { λ r. ⌜ r ≤ 1 ⌝ }
+{
+    if x == y {
+        return 0;
+    }
+    1
+}
+
+// How many places of a word have another letter than the place before.
+fn letter_changes(word: &[u8]) -> usize
+    ensures { λ r. ⌜ r ≤ length (now (word .entry)) ⌝ }
+{
+    let mut changes: usize = 0;
+    let mut i: usize = 1;
+    while i < word.len() {
+        changes += change(word[i - 1], word[i]);
+        i += 1;
+    }
+    changes
+}
+
+// The allowance for the copies of a word: how many steps of a set they may take before the word is swept instead. The sweep looks up
+// all states anew where the letter changes, so each change allows more steps.
+fn allowance(word: &[u8]) -> usize
+    requires { ⌜ length (now word) ≤ 255 ⌝ }
+{
+    word.len() * 4 + letter_changes(word) * 28 + 1
+}
+
+// Completes the sets of all places of a word, from those at its start. What is left of the allowance is returned, 0 where it does not
+// suffice, and then the sets are not complete.
 fn reach_all(
     targets: &[u64],
     numbers: &[u8; 256],
     g: u64,
     h: u64,
     word: &[u8],
-    start: Reached,
-) -> Reached
-    requires { ⌜ Good (now targets) (now numbers) × (length (now word) ≤ 255) × Fitting 256 (start .sets) ⌝ }
-    ensures { λ r. ⌜ (0 < r .left → (q : ℕ) → Stage (graph (now (targets .entry)) (now (numbers .entry)) g h) (now (word .entry)) q (start .sets) 0
-        → Stage (graph (now (targets .entry)) (now (numbers .entry)) g h) (now (word .entry)) q (r .sets) (length (now (word .entry)) + 1)) ⌝ }
+    sets: &mut [u64; 256],
+    allowed: usize,
+) -> usize
+    requires { ⌜ Good (now targets) (now numbers) × (length (now word) ≤ 255) × Fitting 256 (now sets) ⌝ }
+    ensures { λ r. ⌜ (0 < r → (q : ℕ) → Stage (graph (now (targets .entry)) (now (numbers .entry)) g h) (now (word .entry)) q (now (sets .entry)) 0
+        → Stage (graph (now (targets .entry)) (now (numbers .entry)) g h) (now (word .entry)) q (now (sets .exit)) (length (now (word .entry)) + 1)) ⌝ }
 {
-    let mut left = start.left;
-    let mut r = start;
+    let mut left = allowed;
     let mut ends: [u8; 256] = [0; 256];
     let mut i: usize = 0;
     while i <= word.len() {
         if left == 0 {
-            r.left = 0;
-            return r;
+            return 0;
         }
-        left = pass_place(
-            targets,
-            numbers,
-            g,
-            h,
-            word,
-            &mut ends,
-            &mut r.sets,
-            i,
-            left,
-        );
+        left = pass_place(targets, numbers, g, h, word, &mut ends, sets, i, left);
         i += 1;
     }
-    r.left = left;
-    r
+    left
 }
 
-// The states reached at the end of a word in normal mode. Copies are first followed start by start, which is fast where few squares
-// are long; past an allowance the word is swept instead.
-fn reach_end(
+// The reached sets as a sweep over the whole word finds them.
+fn swept(
     targets: &[u64],
     numbers: &[u8; 256],
     g: u64,
     h: u64,
     word: &[u8],
     initial: u64,
+    reached: Reached,
 ) -> Reached
     requires { ⌜ Good (now targets) (now numbers) × (length (now word) ≤ 255) ⌝ }
     ensures { λ r. ⌜ Members (r .end) (Reach (graph (now (targets .entry)) (now (numbers .entry)) g h) (now (word .entry)) initial (length (now (word .entry)))) ⌝ }
 {
-    let n = word.len();
-    let mut r = reach_all(targets, numbers, g, h, word, start_at(initial, n * 4 + 1));
-    if r.left == 0 {
-        r.end = sweep::sweep(targets, numbers, g, h, word, initial, &mut r.sets);
-        return r;
-    }
-    r.end = r.sets[n];
+    let mut r = reached;
+    r.end = sweep::sweep(targets, numbers, g, h, word, initial, &mut r.sets);
     r
 }
 
@@ -237,9 +249,9 @@ fn reach_end(
 // Time: for a word of n letters one step of a set for each place, which looks up each of its states. Copies are followed start by
 // start, one such step for each letter of the longest square from a start, and for each square with which storing ends one for each
 // letter of its matching half, those not counted again that the square before it has read from the same states, within an allowance
-// of 4 n such steps. Past it the word is swept: for each place each state is looked up once for each mode, and each copy in work (at
-// most n²/2 in all) takes a union of at most 64 sets, none where the copy before it is in the same states. Finding the squares
-// compares at most n² letters in all.
+// of 4 n such steps and 28 more for each place whose letter is not that of the place before. Past it the word is swept: for each such
+// place each state is looked up once for each mode, and each copy in work (at most n²/2 in all) takes a union of at most 64 sets, none
+// where the copy before it is in the same states. Finding the squares compares at most n² letters in all.
 // Memory: the 256 sets (2 KB) and 256 bytes; the sweep has its own of both, and two lists of 64 sets.
 pub fn decide(
     m: Machine,
@@ -252,14 +264,14 @@ pub fn decide(
     requires { ⌜ (wellFormed m (now list) ≡ true) × (length (now word) ≤ 255) × Targets m (now list) (now word) (now numbers) (now targets) × KindsOf (m .marks) (m .states) kinds ⌝ }
     ensures { λ r. ⌜ r .accepted ≡ accepted m (now (list .entry)) (now (word .entry)) ⌝ }
 {
-    let mut r = reach_end(
-        targets,
-        numbers,
-        kinds.buffering,
-        kinds.matching,
-        word,
-        kinds.initial,
-    );
+    let g = kinds.buffering;
+    let h = kinds.matching;
+    let mut r = start_at(kinds.initial);
+    let left = reach_all(targets, numbers, g, h, word, &mut r.sets, allowance(word));
+    r.end = r.sets[word.len()];
+    if left == 0 {
+        r = swept(targets, numbers, g, h, word, kinds.initial, r);
+    }
     let shared = stateset::intersection(r.end, kinds.finals);
     r.accepted = shared != 0;
     r

@@ -1,5 +1,5 @@
 // Recognition with a run: whether a machine accepts a word, and an accepting run of it.
-ghost use Prim.Native.Nat.{ℕ, _+_, _*_, _≤_};
+ghost use Prim.Native.Nat.{ℕ, _+_, _*_, _≤_, _<_};
 ghost use mathlib.Core.Path.{_≡_};
 ghost use mathlib.Core.Bool.{true};
 ghost use mathlib.Core.List.{_++_};
@@ -37,8 +37,46 @@ fn copy_front(out: &[u16], count: usize, run: &mut [u16])
     }
 }
 
+// Whether a search has found a run, of so many entries, that is short enough for every slice that is taken.
+fn is_found(count: usize, needed: usize) -> bool
+    ensures { λ r. ⌜ (r ≡ true → (0 < count) × (count ≤ needed)) ⌝ }
+{
+    if count == 0 {
+        return false;
+    }
+    if needed < count {
+        return false;
+    }
+    true
+}
+
 // Writes an accepting run of a word that the machine accepts to the front of run, and hands back the number of its entries: the run
-// that the search finds in out, or where it finds none that is short enough for every slice that is taken, one with the fewest entries.
+// that the search finds where it has room for the longest run that is needed, else one with the fewest entries.
+fn write_slowly(
+    m: Machine,
+    list: &[u16],
+    table: &[u64],
+    firsts: &[u16],
+    numbers: &[u8; 256],
+    kinds: Kinds,
+    word: &[u8],
+    sets: &[u64; 256],
+    needed: usize,
+    run: &mut [u16],
+) -> usize
+    requires { ⌜ (wellFormed m (now list) ≡ true) × (length (now word) ≤ 255) × (accepted m (now list) (now word) ≡ true) × (needed ≡ runBound m (length (now word))) × (needed ≤ length (now run)) × Good (now table) (now numbers) ⌝ }
+    ensures { λ r. ⌜ AtFront m (now (list .entry)) (now (word .entry)) r (now (run .entry)) (now (run .exit)) ⌝ }
+{
+    let mut out: [u16; 49152] = [0; 49152];
+    let count = trace::walk::find_run(m, list, table, firsts, numbers, kinds, word, sets, &mut out);
+    if is_found(count, needed) {
+        copy_front(&out, count, run);
+        return count;
+    }
+    walk::write_run(m, list, word, run)
+}
+
+// The same with the run that the search finds in out, where that is long enough.
 fn write_with(
     m: Machine,
     list: &[u16],
@@ -57,16 +95,38 @@ fn write_with(
 {
     let count = trace::walk::find_run(m, list, table, firsts, numbers, kinds, word, sets, out);
     if count == 0 {
-        return walk::write_run(m, list, word, run);
+        return write_slowly(
+            m,
+            list,
+            table,
+            firsts,
+            numbers,
+            kinds,
+            word,
+            sets,
+            needed,
+            run,
+        );
     }
     if needed < count {
-        return walk::write_run(m, list, word, run);
+        return write_slowly(
+            m,
+            list,
+            table,
+            firsts,
+            numbers,
+            kinds,
+            word,
+            sets,
+            needed,
+            run,
+        );
     }
     copy_front(&*out, count, run);
     count
 }
 
-// The same, with a slice for the search that is long enough for most words of this length.
+// The same, with a slice for the search that is long enough for most words of this length: 16 entries a letter.
 fn write(
     m: Machine,
     list: &[u16],
@@ -84,6 +144,22 @@ fn write(
 {
     if word.len() < 16 {
         let mut out: [u16; 256] = [0; 256];
+        return write_with(
+            m,
+            list,
+            table,
+            firsts,
+            numbers,
+            kinds,
+            word,
+            sets,
+            &mut out,
+            needed,
+            run,
+        );
+    }
+    if word.len() < 64 {
+        let mut out: [u16; 1024] = [0; 1024];
         return write_with(
             m,
             list,
@@ -151,8 +227,8 @@ fn answer_with(
     Recognized::Yes(entries)
 }
 
-// The answer for a word of at most 3 different letters, of at most 31, and of any number.
-fn answer_few(
+// The answer for a word of at most 2, 7, 15 or 31 different letters, and of any number: a small table is cleared sooner.
+fn answer_of_two(
     m: Machine,
     list: &[u16],
     numbers: &[u8; 256],
@@ -161,11 +237,11 @@ fn answer_few(
     needed: usize,
     run: &mut [u16],
 ) -> Recognized
-    requires { ⌜ (tableAndWord longestRecognized m (now list) (now word) ≡ 0) × (needed ≡ runBound m (length (now word))) × (needed ≤ length (now run)) × Numbered (now word) (now numbers) count × (count ≤ 3) ⌝ }
+    requires { ⌜ (tableAndWord longestRecognized m (now list) (now word) ≡ 0) × (needed ≡ runBound m (length (now word))) × (needed ≤ length (now run)) × Numbered (now word) (now numbers) count × (count ≤ 2) ⌝ }
     ensures { λ r. ⌜ Recognition m (now (list .entry)) (now (word .entry)) (now (run .entry)) (now (run .exit)) r ⌝ }
 {
-    let mut table: [u64; 256] = [0; 256];
-    let mut firsts: [u16; 256] = [0; 256];
+    let mut table: [u64; 192] = [0; 192];
+    let mut firsts: [u16; 192] = [0; 192];
     answer_with(
         m,
         list,
@@ -179,7 +255,61 @@ fn answer_few(
     )
 }
 
-fn answer_some(
+fn answer_of_seven(
+    m: Machine,
+    list: &[u16],
+    numbers: &[u8; 256],
+    count: usize,
+    word: &[u8],
+    needed: usize,
+    run: &mut [u16],
+) -> Recognized
+    requires { ⌜ (tableAndWord longestRecognized m (now list) (now word) ≡ 0) × (needed ≡ runBound m (length (now word))) × (needed ≤ length (now run)) × Numbered (now word) (now numbers) count × (count ≤ 7) ⌝ }
+    ensures { λ r. ⌜ Recognition m (now (list .entry)) (now (word .entry)) (now (run .entry)) (now (run .exit)) r ⌝ }
+{
+    let mut table: [u64; 512] = [0; 512];
+    let mut firsts: [u16; 512] = [0; 512];
+    answer_with(
+        m,
+        list,
+        numbers,
+        count,
+        &mut table,
+        &mut firsts,
+        word,
+        needed,
+        run,
+    )
+}
+
+fn answer_of_fifteen(
+    m: Machine,
+    list: &[u16],
+    numbers: &[u8; 256],
+    count: usize,
+    word: &[u8],
+    needed: usize,
+    run: &mut [u16],
+) -> Recognized
+    requires { ⌜ (tableAndWord longestRecognized m (now list) (now word) ≡ 0) × (needed ≡ runBound m (length (now word))) × (needed ≤ length (now run)) × Numbered (now word) (now numbers) count × (count ≤ 15) ⌝ }
+    ensures { λ r. ⌜ Recognition m (now (list .entry)) (now (word .entry)) (now (run .entry)) (now (run .exit)) r ⌝ }
+{
+    let mut table: [u64; 1024] = [0; 1024];
+    let mut firsts: [u16; 1024] = [0; 1024];
+    answer_with(
+        m,
+        list,
+        numbers,
+        count,
+        &mut table,
+        &mut firsts,
+        word,
+        needed,
+        run,
+    )
+}
+
+fn answer_of_thirty_one(
     m: Machine,
     list: &[u16],
     numbers: &[u8; 256],
@@ -206,7 +336,7 @@ fn answer_some(
     )
 }
 
-fn answer_many(
+fn answer_of_any(
     m: Machine,
     list: &[u16],
     numbers: &[u8; 256],
@@ -233,28 +363,13 @@ fn answer_many(
     )
 }
 
-// The answer to input that is not refused.
-fn answer(m: Machine, list: &[u16], word: &[u8], needed: usize, run: &mut [u16]) -> Recognized
-    requires { ⌜ (tableAndWord longestRecognized m (now list) (now word) ≡ 0) × (needed ≡ runBound m (length (now word))) × (needed ≤ length (now run)) ⌝ }
-    ensures { λ r. ⌜ Recognition m (now (list .entry)) (now (word .entry)) (now (run .entry)) (now (run .exit)) r ⌝ }
-{
-    let letters = targets::number_letters(word);
-    if letters.count < 4 {
-        return answer_few(m, list, &letters.numbers, letters.count, word, needed, run);
-    }
-    if letters.count < 32 {
-        return answer_some(m, list, &letters.numbers, letters.count, word, needed, run);
-    }
-    answer_many(m, list, &letters.numbers, letters.count, word, needed, run)
-}
-
 // Whether the machine accepts the word; on yes an accepting run of it stands at the front of run, and the answer holds its number of
 // entries, the start state counted as one. Which accepting run is left open. On no and on a refusal run is as it was, and so is on yes
 // what stands past the run. It refuses 16 (the record and its list break the rules of a table), 9 (a word of more than 255 letters),
 // 8 (a letter that is not there), 17 (run shorter than 3 × states × (letters + 1), which is the length needed), in this order, before
 // the answer is known.
-// Time: on no the sets of states reached at each position; on yes also the search for a run along them, and where it gives up the table
-// of fewest entries from each configuration. Memory: on the stack, no heap; see docs/PERFORMANCE.md.
+// Time: on no the sets of states reached at each position; on yes also the search for a run along them, twice where the run is long, and
+// where it gives up the table of fewest entries from each configuration. Memory: on the stack, no heap; see docs/PERFORMANCE.md.
 pub fn recognize(m: Machine, list: &[u16], word: &[u8], run: &mut [u16]) -> Recognized
     ensures { λ r. ⌜ Recognition m (now (list .entry)) (now (word .entry)) (now (run .entry)) (now (run .exit)) r ⌝ }
 {
@@ -266,5 +381,21 @@ pub fn recognize(m: Machine, list: &[u16], word: &[u8], run: &mut [u16]) -> Reco
     if run.len() < needed {
         return Recognized::Refused(Refusal { number: 17, needed });
     }
-    answer(m, list, word, needed, run)
+    // One choice after another, here and not in a function of its own: so the compiler takes the last ones for rare and keeps their large
+    // tables out of the frame of the others.
+    let letters = targets::number_letters(word);
+    let count = letters.count;
+    if count < 3 {
+        return answer_of_two(m, list, &letters.numbers, count, word, needed, run);
+    }
+    if count < 8 {
+        return answer_of_seven(m, list, &letters.numbers, count, word, needed, run);
+    }
+    if count < 16 {
+        return answer_of_fifteen(m, list, &letters.numbers, count, word, needed, run);
+    }
+    if count < 32 {
+        return answer_of_thirty_one(m, list, &letters.numbers, count, word, needed, run);
+    }
+    answer_of_any(m, list, &letters.numbers, count, word, needed, run)
 }

@@ -9,6 +9,7 @@
 -- without x y         == the members of x that are no members of y
 -- below n             == the states below n
 -- count n p           == how many k < n have p k
+-- lowestOf x          == the lowest member of x, or width where x is empty
 -- SetIs r v P         == r is the number v, which is the set of the states p with P p
 -- Size x r            == r is the number of members of x
 -- Lowest x r          == r is the lowest member of x, or width where x is empty
@@ -53,6 +54,9 @@ unfoldable pub count : ℕ → (ℕ → Bool) → ℕ
 count zero p = 0
 count (suc n) p = one (p n) + count n p
 
+abbrev pub lowestOf : ℕ → ℕ
+lowestOf x = trailingZeros width x
+
 pub record SetIs (r v : ℕ) (P : ℕ → Type 0) : Type 0 where
   pub value : r ≡ v
   pub fits : r < 2 ^ width
@@ -64,7 +68,7 @@ pub record Size (x r : ℕ) : Type 0 where
   pub within : r ≤ width
 
 pub record Lowest (x r : ℕ) : Type 0 where
-  pub value : r ≡ trailingZeros width x
+  pub value : r ≡ lowestOf x
   pub within : r ≤ width
   pub none : x ≡ 0 → r ≡ width
   pub member : 0 < x → In x r

@@ -6,7 +6,7 @@ ghost use mathlib.Core.Logic.{_⊎_};
 ghost use Prim.Native.Nat.{_<_};
 ghost use lib.Bits.{bitAnd, bitOr};
 ghost use lib.Dec.{eqb};
-ghost use Rattle.stateset.specs.Set.{width, In, has, added, removed, without, below, SetIs, Size, Lowest};
+ghost use Rattle.stateset.specs.Set.{width, In, has, added, removed, without, below, lowestOf, SetIs, Size, Lowest};
 
 // How many states a set can hold.
 pub const WIDTH: usize = 64;
@@ -59,6 +59,16 @@ pub fn remove(set: u64, q: usize) -> u64
     ensures { λ r. ⌜ SetIs r (removed set q) (λ p. In set p × (p ≡ q → ⊥)) ⌝ }
 {
     if q < WIDTH { set & !(1u64 << q) } else { set }
+}
+
+// The set without its lowest member; empty where it is empty. The step of a loop over the members.
+pub fn without_lowest(set: u64) -> u64
+    ensures { λ r. ⌜ SetIs r (removed set (lowestOf set)) (λ p. In set p × (p ≡ lowestOf set → ⊥)) ⌝ }
+{
+    if set == 0 {
+        return 0;
+    }
+    set & (set - 1)
 }
 
 // The members of a and those of b.

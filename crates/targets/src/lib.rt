@@ -46,17 +46,18 @@ pub fn number_letters(word: &[u8]) -> Letters
     requires { ⌜ length (now word) ≤ 255 ⌝ }
     ensures { λ r. ⌜ Numbered (now (word .entry)) (r .numbers) (r .count) ⌝ }
 {
-    let mut numbers: [u8; 256] = [0; 256];
+    let mut letters = Letters {
+        numbers: [0; 256],
+        count: 0,
+    };
     let mut count: usize = 0;
     let mut i: usize = 0;
     while i < word.len() {
-        count = number_letter(&mut numbers, count, word[i]);
+        count = number_letter(&mut letters.numbers, count, word[i]);
         i += 1;
     }
-    Letters {
-        numbers: numbers,
-        count: count,
-    }
+    letters.count = count;
+    letters
 }
 
 fn wide(x: u8) -> usize

@@ -70,8 +70,7 @@ fn follow(
             return Followed { set, letters: k };
         }
         let x = letter_at(word, i + k);
-        let read = images::step_set(targets, numbers, g, h, mode, set, x);
-        set = images::close_set(targets, numbers, g, h, mode, read);
+        set = images::advance(targets, numbers, g, h, mode, set, x);
         k += 1;
         keep_set(sets, k, set);
     }
@@ -123,7 +122,7 @@ fn spend(left: usize, cost: usize) -> usize {
 }
 
 // Back from a point behind a copy of the d letters from i on, along the sets of its two halves: `ended` are the states it ends in, `turned`
-// those in which matching begins, `start` the one in which storing does.
+// those in which matching begins, `starts` those in which storing does.
 fn halves_back(
     targets: &[u64],
     firsts: &[u16],
@@ -135,7 +134,7 @@ fn halves_back(
     d: usize,
     stored: &[u64; 129],
     matched: &[u64; 129],
-    start: u64,
+    starts: u64,
     turned: u64,
     ended: u64,
     at: usize,
@@ -182,7 +181,7 @@ fn halves_back(
         i,
         d,
         stored,
-        start,
+        starts,
         turn,
         out,
     );
@@ -198,7 +197,7 @@ fn halves_back(
     )
 }
 
-// Back from a point behind a copy of the d letters from i on that begins in state s, where there is one.
+// Back from a point behind a copy of the d letters from i on that begins in a state of a set, where there is one.
 fn copy_back(
     targets: &[u64],
     firsts: &[u16],
@@ -208,7 +207,7 @@ fn copy_back(
     word: &[u8],
     i: usize,
     d: usize,
-    s: usize,
+    starts: u64,
     left: usize,
     at: usize,
     out: &mut [u16],
@@ -217,7 +216,6 @@ fn copy_back(
 {
     let mut stored: [u64; 129] = [0; 129];
     let mut matched: [u64; 129] = [0; 129];
-    let start = stateset::add(stateset::empty(), s);
     let first = follow(
         targets,
         numbers,
@@ -227,14 +225,14 @@ fn copy_back(
         word,
         i,
         d,
-        start,
+        starts,
         &mut stored,
     );
     let turned = stateset::intersection(first.set, h);
     let rest = spend(spend(left, 1), first.letters);
     if turned == 0 {
         return Place {
-            at: points::lost(),
+            at: points::LOST,
             place: 0,
             left: rest,
             half: 0,
@@ -263,7 +261,7 @@ fn copy_back(
         d,
         &stored,
         &matched,
-        start,
+        starts,
         turned,
         second.set,
         at,
@@ -275,57 +273,6 @@ fn copy_back(
         left: spend(rest, second.letters),
         half: d,
     }
-}
-
-// The same for the states of a set, one after the other.
-fn copies_back(
-    targets: &[u64],
-    firsts: &[u16],
-    numbers: &[u8; 256],
-    g: u64,
-    h: u64,
-    word: &[u8],
-    i: usize,
-    d: usize,
-    starts: u64,
-    left: usize,
-    at: usize,
-    out: &mut [u16],
-) -> Place
-    requires { ⌜ Good (now targets) (now numbers) × (i < 256) × (d < 256) ⌝ }
-{
-    let mut tried = Place {
-        at: points::lost(),
-        place: 0,
-        left: left,
-        half: 0,
-    };
-    let mut rest = starts;
-    while rest != 0 {
-        if tried.left == 0 {
-            return tried;
-        }
-        let s = stateset::lowest(rest) as usize;
-        rest = stateset::remove(rest, s);
-        tried = copy_back(
-            targets,
-            firsts,
-            numbers,
-            g,
-            h,
-            word,
-            i,
-            d,
-            s,
-            tried.left,
-            at,
-            out,
-        );
-        if !points::is_lost(tried.at) {
-            return tried;
-        }
-    }
-    tried
 }
 
 // The states of `sets` at place i with which a copy of d letters may begin: none where the letters do not stand there twice.
@@ -361,7 +308,15 @@ fn half_back(
 {
     let i = p - d - d;
     let starts = starts_at(sets, g, word, i, d);
-    copies_back(
+    if starts == 0 {
+        return Place {
+            at: points::LOST,
+            place: 0,
+            left: left,
+            half: 0,
+        };
+    }
+    copy_back(
         targets,
         firsts,
         numbers,
@@ -394,7 +349,7 @@ fn longest_back(
     requires { ⌜ Good (now targets) (now numbers) × (p ≤ length (now word)) × (p < 256) ⌝ }
 {
     let mut tried = Place {
-        at: points::lost(),
+        at: points::LOST,
         place: 0,
         left: left,
         half: 0,

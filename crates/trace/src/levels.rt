@@ -265,7 +265,7 @@ fn far_back(
         &mut levels,
     );
     if 193 <= k {
-        return points::lost();
+        return points::LOST;
     }
     down(targets, firsts, numbers, g, h, &levels, k, at, out)
 }

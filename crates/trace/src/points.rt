@@ -6,10 +6,10 @@ use fsbm::config::Mode;
 
 // A point is a number: 256 times where the entries begin that lead on from there, at the back of a slice, 64 times the mode's number (0
 // normal, 1 buffering, 2 emptying), and the state. It is handed from call to call at every step, and as one number it stays in a
-// register. What is lost has the mode's number 3.
-pub fn lost() -> usize {
-    192
-}
+// register.
+
+// What is handed back where no way back was found: state 0, and 3 as the mode's number.
+pub const LOST: usize = 192;
 
 // Whether no way back was found.
 pub fn is_lost(at: usize) -> bool {
@@ -54,10 +54,10 @@ pub fn mode_of(at: usize) -> Mode {
 // The point in this mode and state with the entries from top on.
 pub fn point(mode: Mode, state: usize, top: usize) -> usize {
     if 64 <= state {
-        return lost();
+        return LOST;
     }
     if 65536 <= top {
-        return lost();
+        return LOST;
     }
     top * 256 + number_of(mode) * 64 + state
 }
@@ -80,26 +80,48 @@ pub fn come_to(mode: Mode, state: usize, out: &mut [u16], top: usize, entry: u16
     point(mode, state, put(out, top, entry))
 }
 
-// The lowest state of a set from which a transition with letter x leads to q in a mode; 64 where there is none.
-fn source(
-    targets: &[u64],
-    numbers: &[u8; 256],
-    g: u64,
-    h: u64,
-    mode: Mode,
-    set: u64,
-    x: u8,
-    q: usize,
-) -> usize
-    requires { ⌜ Good (now targets) (now numbers) ⌝ }
+// The states of a set from which a move may lead to q in a mode.
+fn sources(g: u64, h: u64, mode: Mode, set: u64, q: usize) -> u64 {
+    let matching = stateset::member(h, q);
+    match mode {
+        Mode::Normal => {
+            let free = stateset::difference(set, g);
+            if matching {
+                return stateset::difference(free, h);
+            }
+            free
+        }
+        Mode::Buffering => {
+            if stateset::member(g, q) {
+                return 0;
+            }
+            if matching {
+                return stateset::difference(set, h);
+            }
+            set
+        }
+        Mode::Emptying => {
+            if matching {
+                return stateset::intersection(set, h);
+            }
+            0
+        }
+    }
+}
+
+// A state of a set from which a transition with letter x leads to q, q itself where it is one, else the lowest; 64 where there is none.
+fn source(targets: &[u64], numbers: &[u8; 256], set: u64, x: u8, q: usize) -> usize
+    requires { ⌜ (q < 64) × Good (now targets) (now numbers) ⌝ }
 {
     let row = images::row_of(numbers, x);
+    if stateset::member(stateset::intersection(set, targets[row + q]), q) {
+        return q;
+    }
     let mut rest = set;
     while rest != 0 {
         let p = stateset::lowest(rest) as usize;
         rest = stateset::remove(rest, p);
-        let image = images::image_of(targets, g, h, mode, row, p);
-        if stateset::member(image, q) {
+        if stateset::member(targets[row + p], q) {
             return p;
         }
     }
@@ -119,6 +141,9 @@ fn number(targets: &[u64], firsts: &[u16], numbers: &[u8; 256], p: usize, x: u8,
         return 0;
     }
     let lower = stateset::intersection(targets[k], stateset::full(q));
+    if lower == 0 {
+        return firsts[k];
+    }
     firsts[k] + stateset::size(lower) as u16
 }
 
@@ -138,9 +163,9 @@ pub fn read_back(
 {
     let mode = mode_of(at);
     let q = state_of(at);
-    let p = source(targets, numbers, g, h, mode, set, x, q);
+    let p = source(targets, numbers, sources(g, h, mode, set, q), x, q);
     if 64 <= p {
-        return lost();
+        return LOST;
     }
     let entry = number(targets, firsts, numbers, p, x, q);
     come_to(mode, p, out, top_of(at), entry)

@@ -96,7 +96,7 @@ fn walk_back(
     let mut steps: usize = 0;
     while steps < 256 {
         if points::is_lost(here.at) {
-            return points::lost();
+            return points::LOST;
         }
         if here.place == 0 {
             return here.at;
@@ -104,7 +104,7 @@ fn walk_back(
         here = place_back(targets, firsts, numbers, g, h, word, sets, here, out);
         steps += 1;
     }
-    points::lost()
+    points::LOST
 }
 
 // Moves the entries from top on to the front, and hands back how many there are.

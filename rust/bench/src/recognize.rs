@@ -123,11 +123,17 @@ fn dense() -> Table {
     Table::new("dense", 1, &marks, &moves)
 }
 
-/// Words of the kind: sixteen, or of one letter as many as there are letters, up to sixteen.
+/// Words of the kind: sixteen, or of one letter and of two in turn as many as there are letters, up to sixteen.
 fn words(kind: &str, letters: usize, length: usize) -> Vec<Vec<u8>> {
     if kind == "one letter" {
         let letters = letters.min(16) as u8;
         return (1..=letters).map(|letter| vec![letter; length]).collect();
+    }
+    if kind == "two in turn" {
+        let pair = |first: usize, place: usize| 1 + ((first + place % 2) % letters) as u8;
+        return (0..letters.min(16))
+            .map(|first| (0..length).map(|place| pair(first, place)).collect())
+            .collect();
     }
     let mut numbers = Numbers(88_172_645_463_325_252);
     let mut any = |count: usize| -> Vec<u8> {
@@ -198,7 +204,7 @@ pub fn section() {
             // Over one letter all words of a length are the same.
             let kinds: &[&'static str] = match table.letters {
                 1 => &["one letter"],
-                _ => &["mixed", "one letter", "nearly square"],
+                _ => &["mixed", "one letter", "two in turn", "nearly square"],
             };
             for kind in kinds {
                 let row = row(table, length, kind);

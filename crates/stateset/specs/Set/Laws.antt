@@ -16,6 +16,8 @@
 -- ones-count                       == the ones are as many as the members
 -- lowest-in, lowest-lt, lowest-not == the lowest is a member, below the width, and nothing below it is a member
 -- lowest-of-zero                   == the lowest of the empty set is the width
+-- less-one, in-less-one            == the digits of x - 1, and the members of x that are members of x - 1: all but the lowest
+-- rest-is, rest-none, lowest-removed == what is left of a set without its lowest member
 -- empty-is, below-is, added-is, single-is, removed-is, union-is, intersection-is, without-is, size-is, lowest-is
 --                                  == what each function returns, with its members
 -- added-size, removed-size         == the size after adding, after removing
@@ -33,7 +35,7 @@ use lib.Arith.{bin-ind}
 use lib.Pow.{shr-shr, pow-mono, pow-pos, pow-lt, mod-pow-add}
 use lib.Bits.{bitAnd, bitOr, or-lt, and-lt, or-zero-r, and-step, or-step, and-shr, or-shr}
 use lib.Count.{ones, trailingZeros, under, ones-step, ones-cat, ones-le, trailing-le, trailing-of-zero}
-use Rattle.stateset.specs.Set.{width, digit, In, has, one, count, added, removed, without, below, SetIs, Size, Lowest}
+use Rattle.stateset.specs.Set.{width, digit, In, has, one, count, added, removed, without, below, lowestOf, SetIs, Size, Lowest}
 
 -- Digits
 
@@ -450,6 +452,60 @@ lowest-in w x p h = lowest-member w x (lowest-lt w x p h)
 pub lowest-not : (w x q : ℕ) → q < trailingZeros w x → In x q → ⊥
 lowest-not w x q l m = let z = lowest-least w x q l in omega arith
 
+-- one less than a number: the digit of its lowest member becomes 0, those above stay
+less-one : (x q : ℕ) → In x q → ((p : ℕ) → p < q → digit x p ≡ 0) → (digit (x - 1) q ≡ 0) × ((p : ℕ) → q < p → digit (x - 1) p ≡ digit x p)
+less-one =
+    bin-ind
+    (λ (x : ℕ). (q : ℕ) → In x q → ((p : ℕ) → p < q → digit x p ≡ 0) → (digit (x - 1) q ≡ 0) × ((p : ℕ) → q < p → digit (x - 1) p ≡ digit x p))
+    (λ q m least. absurd (empty-in q m))
+    (λ x ih q m least. at x ih (digit-cases x 0) q m least)
+  where
+    odd : (x : ℕ) → In x 0 → (p : ℕ) → 0 < p → digit (x - 1) p ≡ digit x p
+    odd x m zero l = absurd (omega arith)
+    odd x m (suc p) l =
+        let low = in-low x m in
+        let u : (x - 1) / 2 ≡ x / 2 = omega arith in
+        digit-suc (x - 1) p ∙ ap (λ n. digit n p) u ∙ sym (digit-suc x p)
+
+    even : (x : ℕ) → digit x 0 ≡ 0 → (p : ℕ) → digit (x - 1) (suc p) ≡ digit (x / 2 - 1) p
+    even x z p =
+        let low = sym (digit-zero x) ∙ z in
+        let u : (x - 1) / 2 ≡ x / 2 - 1 = omega arith in
+        digit-suc (x - 1) p ∙ ap (λ n. digit n p) u
+
+    above : (x q : ℕ) → digit x 0 ≡ 0 → ((p : ℕ) → q < p → digit (x / 2 - 1) p ≡ digit (x / 2) p) → (p : ℕ) → suc q < p → digit (x - 1) p ≡ digit x p
+    above x q z rest zero l = absurd (omega arith)
+    above x q z rest (suc p) l = even x z p ∙ rest p (omega arith) ∙ sym (digit-suc x p)
+
+    at : (x : ℕ) →
+        ((q : ℕ) → In (x / 2) q → ((p : ℕ) → p < q → digit (x / 2) p ≡ 0) → (digit (x / 2 - 1) q ≡ 0) × ((p : ℕ) → q < p → digit (x / 2 - 1) p ≡ digit (x / 2) p)) →
+        (digit x 0 ≡ 0) ⊎ (digit x 0 ≡ 1) → (q : ℕ) → In x q → ((p : ℕ) → p < q → digit x p ≡ 0) →
+        (digit (x - 1) q ≡ 0) × ((p : ℕ) → q < p → digit (x - 1) p ≡ digit x p)
+    at x ih (inl z) zero m least = absurd (omega arith)
+    at x ih (inl z) (suc q) m least =
+        let half = ih q (in-half x q .1 m) (λ p l. sym (digit-suc x p) ∙ least (suc p) (omega arith)) in
+        (even x z q ∙ half .0, above x q z (half .1))
+    at x ih (inr m₀) zero m least =
+        let low = in-low x m in
+        (digit-zero (x - 1) ∙ (omega arith), odd x m)
+    at x ih (inr m₀) (suc q) m least = let z = least 0 (omega arith) in absurd (omega arith)
+
+-- the members of a number that are members of one less are all but the lowest
+pub in-less-one : (x q : ℕ) → In x q → ((p : ℕ) → p < q → In x p → ⊥) → (p : ℕ) → In (bitAnd x (x - 1)) p ↔ (In x p × (p ≡ q → ⊥))
+in-less-one x q m least p = (to, of (decLt q p))
+  where
+    less : (digit (x - 1) q ≡ 0) × ((p : ℕ) → q < p → digit (x - 1) p ≡ digit x p)
+    less = less-one x q m (λ p l. not-in x p (least p l))
+
+    to : In (bitAnd x (x - 1)) p → In x p × (p ≡ q → ⊥)
+    to k =
+        let b = in-and x (x - 1) p .0 k in
+        (b .0, λ (e : p ≡ q). let z = ap (digit (x - 1)) e ∙ less .0 in let o = b .1 in omega arith)
+
+    of : Dec (q < p) → In x p × (p ≡ q → ⊥) → In (bitAnd x (x - 1)) p
+    of (yes l) k = in-and x (x - 1) p .1 (k .0, less .1 p l ∙ k .0)
+    of (no f) k = let l : p < q = (let d = k .1 in omega arith) in absurd (least p l (k .0))
+
 -- The sets that the functions return, by their members
 
 module _ (x q : ℕ) where
@@ -586,6 +642,28 @@ lowest-is x h =
       member = λ p. lowest-in width x p h;
       least = lowest-not width x;
     }
+
+-- a set without its lowest member, by taking one off
+pub rest-is : (x : ℕ) → x < 2 ^ width → 0 < x → SetIs (bitAnd x (x - 1)) (removed x (lowestOf x)) (λ p. In x p × (p ≡ lowestOf x → ⊥))
+rest-is x h p₀ =
+    let r = removed-is x (lowestOf x) h in
+    let same : bitAnd x (x - 1) ≡ removed x (lowestOf x) =
+    same-members (bitAnd x (x - 1)) (removed x (lowestOf x))
+    (λ p. (λ m. r .members p .1 (members p .0 m), λ m. members p .1 (r .members p .0 m))) in
+    moved same r
+  where
+    members : (p : ℕ) → In (bitAnd x (x - 1)) p ↔ (In x p × (p ≡ lowestOf x → ⊥))
+    members = in-less-one x (lowestOf x) (lowest-in width x p₀ h) (lowest-not width x)
+
+pub rest-none : (x : ℕ) → x ≡ 0 → SetIs 0 (removed x (lowestOf x)) (λ p. In x p × (p ≡ lowestOf x → ⊥))
+rest-none x e =
+    let h : x < 2 ^ width = omega arith in
+    let l = lowest-is x h .none e in
+    moved (sym (removed-other x (lowestOf x) (omega arith) ∙ e)) (removed-is x (lowestOf x) h)
+
+-- the same by the lowest member's name
+pub lowest-removed : {x q r : ℕ} → Lowest x q → SetIs r (removed x (lowestOf x)) (λ p. In x p × (p ≡ lowestOf x → ⊥)) → SetIs r (removed x q) (λ p. In x p × (p ≡ q → ⊥))
+lowest-removed {x} {q} {r} low s = rw (low .value) s
 
 -- The measures of loops: what is left of a set without its lowest member is smaller; a set that a union changes comes closer to the width
 

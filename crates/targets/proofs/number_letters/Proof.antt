@@ -9,10 +9,10 @@ use Rattle.targets.proofs.number_letters.Lts as lts
 use Rattle.targets.proofs.number_letter.Reads as number-letter-reads
 
 abbrev Inv-loop : tie.InvT-loop
-Inv-loop word numbers₀ count₀ i₀ numbers count i = (length word ≤ 255) × (i ≤ length word) × Numbering word numbers count i
+Inv-loop word letters₀ count₀ i₀ letters count i = (length word ≤ 255) × (i ≤ length word) × Numbering word (letters .numbers) count i
 
 abbrev μ-loop : tie.MeasureT-loop
-μ-loop word numbers₀ count₀ i₀ numbers count i = length word - i
+μ-loop word letters₀ count₀ i₀ letters count i = length word - i
 
 -- src/lib.rt:52:5
 loop-holds : tie.Need-loop-holds Inv-loop μ-loop

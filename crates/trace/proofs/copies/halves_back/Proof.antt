@@ -1,7 +1,4 @@
 use mathlib.Core.Path.{_∙_}
-use borrow.Author.Needs.{needs}
-use native.Mathlib.Omega.{arith}
-use borrow.Author.Needs.{needs}
 use Rattle.trace.proofs.copies.halves_back.Statement.{statement}
 use Rattle.trace.proofs.copies.halves_back.Tie as tie
 use Rattle.trace.proofs.copies.halves_back.Reads as reads
@@ -16,79 +13,79 @@ use Rattle.trace.proofs.points.top_of.Reads as top-of-reads
 
 -- src/copies.rt:143:9
 only-requires : tie.Need-only-requires
-only-requires c κs = search needs
+only-requires c κs = tt
 
 -- src/copies.rt:144:9
 settle-requires : tie.Need-settle-requires
-settle-requires c κs = search needs
+settle-requires c κs = (c .before .before .before .before .before .before .pre) .0
 
 -- src/copies.rt:145:8
 is-lost-requires : tie.Need-is-lost-requires
-is-lost-requires c κs = search needs
+is-lost-requires c κs = tt
 
 -- src/copies.rt:146:9
 same-length : tie.Need-same-length
-same-length c = search needs
+same-length c = (c .before .before .before .out .given)
 
 -- src/copies.rt:146:9
 returns : tie.Need-returns
-returns c = search needs
+returns c = tt
 
 -- src/copies.rt:148:9
 unread-requires : tie.Need-unread-requires
-unread-requires c κs = search needs
+unread-requires c κs = (c .before .before .before .before .before .before .before .before .before .before .before .before .pre)
 
 -- src/copies.rt:162:8
 is-lost-requires-2 : tie.Need-is-lost-requires-2
-is-lost-requires-2 c κs = search needs
+is-lost-requires-2 c κs = tt
 
 -- src/copies.rt:163:9
 same-length-2 : tie.Need-same-length-2
-same-length-2 c = search needs
+same-length-2 c = (c .before .before .before .out2 .given) ∙ (c .before .before .before .before .before .before .before .before .before .out .given)
 
 -- src/copies.rt:163:9
 returns-2 : tie.Need-returns-2
-returns-2 c = search needs
+returns-2 c = tt
 
 -- src/copies.rt:165:49
 state-of-requires : tie.Need-state-of-requires
-state-of-requires c κs = search needs
+state-of-requires c κs = tt
 
 -- src/copies.rt:165:80
 top-of-requires : tie.Need-top-of-requires
-top-of-requires c κs = search needs
+top-of-requires c κs = tt
 
 -- src/copies.rt:165:9
 come-to-requires : tie.Need-come-to-requires
-come-to-requires c κs = search needs
+come-to-requires c κs = tt
 
 -- src/copies.rt:166:9
 unread-requires-2 : tie.Need-unread-requires-2
-unread-requires-2 c κs = search needs
+unread-requires-2 c κs = (c .before .before .before .before .before .before .before .before .before .before .before .before .before .before .before .before .before .before .before .before .before .before .before .before .pre)
 
 -- src/copies.rt:180:8
 is-lost-requires-3 : tie.Need-is-lost-requires-3
-is-lost-requires-3 c κs = search needs
+is-lost-requires-3 c κs = tt
 
 -- src/copies.rt:181:9
 same-length-3 : tie.Need-same-length-3
-same-length-3 c = search needs
+same-length-3 c = (c .before .before .before .out4 .given) ∙ ((c .before .before .before .before .before .before .before .out3 .given) ∙ ((c .before .before .before .before .before .before .before .before .before .before .before .before .before .before .before .out2 .given) ∙ (c .before .before .before .before .before .before .before .before .before .before .before .before .before .before .before .before .before .before .before .before .before .out .given)))
 
 -- src/copies.rt:181:9
 returns-3 : tie.Need-returns-3
-returns-3 c = search needs
+returns-3 c = tt
 
 -- src/copies.rt:183:35
 state-of-requires-2 : tie.Need-state-of-requires-2
-state-of-requires-2 c κs = search needs
+state-of-requires-2 c κs = tt
 
 -- src/copies.rt:183:65
 top-of-requires-2 : tie.Need-top-of-requires-2
-top-of-requires-2 c κs = search needs
+top-of-requires-2 c κs = tt
 
 -- src/copies.rt:183:5
 come-to-requires-2 : tie.Need-come-to-requires-2
-come-to-requires-2 c κs = search needs
+come-to-requires-2 c κs = tt
 
 -- src/copies.rt:124:1
 same-length-4 : tie.Need-same-length-4
@@ -96,7 +93,7 @@ same-length-4 c = (c .before .out5 .given) ∙ ((c .before .before .before .befo
 
 -- src/copies.rt:124:1
 returns-4 : tie.Need-returns-4
-returns-4 c = search needs
+returns-4 c = tt
 
 pub halves-back-spec : {M : Type 1} → statement M
 halves-back-spec =

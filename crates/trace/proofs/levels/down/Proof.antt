@@ -1,8 +1,6 @@
-use Prim.Native.Nat.{_<_, _≤_, _-_, _^_, _+_}
-use mathlib.Core.Path.{_≡_}
+use mathlib.Core.Path.{_≡_, refl, _∙_}
 use lib.ListN.{length}
 use Rattle.decide.specs.Graph.{Good}
-use borrow.Author.Needs.{needs}
 use native.Mathlib.Omega.{arith}
 use Rattle.trace.proofs.levels.down.Statement.{statement}
 use Rattle.trace.proofs.levels.down.Tie as tie
@@ -18,49 +16,49 @@ Inv-loop targets firsts numbers g h levels k at out₀ now₀ left₀ out now le
 abbrev μ-loop : tie.MeasureT-loop
 μ-loop targets firsts numbers g h levels k at out₀ now₀ left₀ out now left = left
 
--- src/levels.rt:224:5
+-- src/levels.rt:230:5
 loop-holds : tie.Need-loop-holds Inv-loop μ-loop
-loop-holds c = search needs
+loop-holds c = ((c .before .before .before .pre), refl)
 
--- src/levels.rt:225:12
+-- src/levels.rt:231:12
 is-lost-requires : tie.Need-is-lost-requires Inv-loop μ-loop
-is-lost-requires c κs = search needs
+is-lost-requires c κs = tt
 
--- src/levels.rt:226:13
+-- src/levels.rt:232:13
 same-length : tie.Need-same-length Inv-loop μ-loop
-same-length c = search needs
+same-length c = (c .before .before .before .loop .inv) .1
 
--- src/levels.rt:226:13
+-- src/levels.rt:232:13
 returns : tie.Need-returns Inv-loop μ-loop
-returns c = search needs
+returns c = tt
 
--- src/levels.rt:228:9
+-- src/levels.rt:234:9
 sub-left : tie.Need-sub-left Inv-loop μ-loop
-sub-left c = search needs
+sub-left c = omega (arith, (c .before .before .loop-test .taken))
 
--- src/levels.rt:229:57
+-- src/levels.rt:235:57
 load-requires : tie.Need-load-requires Inv-loop μ-loop
-load-requires c κs = search needs
+load-requires c κs = tt
 
--- src/levels.rt:229:9
+-- src/levels.rt:235:9
 free-back-requires : tie.Need-free-back-requires Inv-loop μ-loop
-free-back-requires c κs = search needs
+free-back-requires c κs = (c .before .before .before .before .before .loop .inv) .0
 
--- src/levels.rt:224:5
+-- src/levels.rt:230:5
 loop-less : tie.Need-loop-less Inv-loop μ-loop
-loop-less c = search needs
+loop-less c = omega (arith, (c .before .before .before .before .before .before .before .loop-test .taken))
 
--- src/levels.rt:224:5
+-- src/levels.rt:230:5
 loop-again : tie.Need-loop-again Inv-loop μ-loop
-loop-again c = search needs
+loop-again c = ((c .before .before .before .before .before .before .before .before .loop .inv) .0, (c .before .out .given) ∙ (c .before .before .before .before .before .before .before .before .loop .inv) .1)
 
--- src/levels.rt:209:1
+-- src/levels.rt:215:1
 same-length-2 : tie.Need-same-length-2 Inv-loop μ-loop
-same-length-2 c = search needs
+same-length-2 c = (c .before .loop .inv) .1
 
--- src/levels.rt:209:1
+-- src/levels.rt:215:1
 returns-2 : tie.Need-returns-2 Inv-loop μ-loop
-returns-2 c = search needs
+returns-2 c = tt
 
 pub down-spec : {M : Type 1} → statement M
 down-spec =

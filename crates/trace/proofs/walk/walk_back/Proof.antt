@@ -1,15 +1,13 @@
-use Prim.Native.Nat.{_<_, _≤_, _-_, _^_, _+_}
-use mathlib.Core.Path.{_≡_}
+use mathlib.Core.Path.{_≡_, refl, _∙_}
+use Prim.Native.Nat.{_-_}
 use lib.ListN.{length}
 use Rattle.decide.specs.Graph.{Good}
-use borrow.Author.Needs.{needs}
 use native.Mathlib.Omega.{arith}
 use Rattle.trace.proofs.walk.walk_back.Statement.{statement}
 use Rattle.trace.proofs.walk.walk_back.Tie as tie
 use Rattle.trace.proofs.walk.walk_back.Reads as reads
 use Rattle.trace.proofs.walk.walk_back.Lts as lts
 use Rattle.trace.proofs.points.is_lost.Reads as is-lost-reads
-use Rattle.trace.proofs.points.lost.Reads as lost-reads
 use Rattle.trace.proofs.walk.place_back.Reads as place-back-reads
 
 abbrev Inv-loop : tie.InvT-loop
@@ -18,61 +16,53 @@ Inv-loop targets firsts numbers g h word sets out₀ here₀ steps₀ out here s
 abbrev μ-loop : tie.MeasureT-loop
 μ-loop targets firsts numbers g h word sets out₀ here₀ steps₀ out here steps = 256 - steps
 
--- src/walk.rt:83:5
+-- src/walk.rt:97:5
 loop-holds : tie.Need-loop-holds Inv-loop μ-loop
-loop-holds c = search needs
+loop-holds c = ((c .before .before .before .before .pre), refl)
 
--- src/walk.rt:84:12
+-- src/walk.rt:98:12
 is-lost-requires : tie.Need-is-lost-requires Inv-loop μ-loop
-is-lost-requires c κs = search needs
+is-lost-requires c κs = tt
 
--- src/walk.rt:85:13
-lost-requires : tie.Need-lost-requires Inv-loop μ-loop
-lost-requires c κs = search needs
-
--- src/walk.rt:85:13
+-- src/walk.rt:99:13
 same-length : tie.Need-same-length Inv-loop μ-loop
-same-length c = search needs
+same-length c = (c .before .before .before .loop .inv) .1
 
--- src/walk.rt:85:13
+-- src/walk.rt:99:13
 returns : tie.Need-returns Inv-loop μ-loop
-returns c = search needs
+returns c = tt
 
--- src/walk.rt:88:13
+-- src/walk.rt:102:13
 same-length-2 : tie.Need-same-length-2 Inv-loop μ-loop
-same-length-2 c = search needs
+same-length-2 c = (c .before .before .before .before .before .loop .inv) .1
 
--- src/walk.rt:88:13
+-- src/walk.rt:102:13
 returns-2 : tie.Need-returns-2 Inv-loop μ-loop
-returns-2 c = search needs
+returns-2 c = tt
 
--- src/walk.rt:90:9
+-- src/walk.rt:104:9
 place-back-requires : tie.Need-place-back-requires Inv-loop μ-loop
-place-back-requires c κs = search needs
+place-back-requires c κs = (c .before .before .before .before .before .before .loop .inv) .0
 
--- src/walk.rt:91:9
+-- src/walk.rt:105:9
 add-steps : tie.Need-add-steps Inv-loop μ-loop
-add-steps c = search needs
+add-steps c = omega (arith, (c .before .before .before .before .before .before .before .before .loop-test .taken))
 
--- src/walk.rt:83:5
+-- src/walk.rt:97:5
 loop-less : tie.Need-loop-less Inv-loop μ-loop
-loop-less c = search needs
+loop-less c = omega (arith, (c .before .before .before .before .before .before .before .before .loop-test .taken))
 
--- src/walk.rt:83:5
+-- src/walk.rt:97:5
 loop-again : tie.Need-loop-again Inv-loop μ-loop
-loop-again c = search needs
+loop-again c = ((c .before .before .before .before .before .before .before .before .before .loop .inv) .0, (c .before .out .given) ∙ (c .before .before .before .before .before .before .before .before .before .loop .inv) .1)
 
--- src/walk.rt:93:5
-lost-requires-2 : tie.Need-lost-requires-2 Inv-loop μ-loop
-lost-requires-2 c κs = search needs
-
--- src/walk.rt:68:1
+-- src/walk.rt:82:1
 same-length-3 : tie.Need-same-length-3 Inv-loop μ-loop
-same-length-3 c = search needs
+same-length-3 c = (c .before .loop .inv) .1
 
--- src/walk.rt:68:1
+-- src/walk.rt:82:1
 returns-3 : tie.Need-returns-3 Inv-loop μ-loop
-returns-3 c = search needs
+returns-3 c = tt
 
 pub walk-back-spec : {M : Type 1} → statement M
 walk-back-spec =
@@ -82,7 +72,6 @@ walk-back-spec =
     μ-loop
     loop-holds
     is-lost-requires
-    lost-requires
     same-length
     returns
     same-length-2
@@ -91,6 +80,5 @@ walk-back-spec =
     add-steps
     loop-less
     loop-again
-    lost-requires-2
     same-length-3
     returns-3)
