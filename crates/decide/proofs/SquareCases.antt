@@ -2,6 +2,7 @@
 --
 -- ends-start, ends-later    == no place known, and the places known at later positions
 -- ends-known, ends-found    == the two ends of known_end
+-- run-on                    == what was found to repeat before, and what is found from there on
 -- square-yes, square-no     == the two ends of is_square
 -- run-more                  == one turn of run_end
 -- last-down                 == one turn of last_square
@@ -9,15 +10,16 @@
 use Prim.Native.Nat.{ℕ, _+_, _-_, _≤_, _<_}
 use mathlib.Core.Path.{_≡_, refl, sym, ap, _∙_, subst, subst₂}
 use mathlib.Core.Bool.{true, false, false≢true}
+use mathlib.Core.Logic.{_⊎_, inl, inr}
 use mathlib.Core.List.{List}
 use native.Mathlib.Omega.{arith}
-use native.Mathlib.Decide.{ℕ-discrete}
+use native.Mathlib.Decide.{ℕ-discrete, decLt}
 use lib.ListN.{length, getD, set, length-set, replicate}
 use Rattle.stateset.specs.Set.{In}
 use Rattle.adjacency.specs.Index.Laws.{zeros-at}
 use Rattle.decide.specs.Graph.{Members}
 use Rattle.decide.specs.Reach.{Matches}
-use Rattle.decide.specs.Squares.{RunEnd, Ends, EndsAt, Keeps, Ended, Squared, Turning}
+use Rattle.decide.specs.Squares.{Repeats, RunEnd, Ends, EndsAt, Keeps, Ended, Squared, Turning}
 use Rattle.decide.proofs.SetCases.{members-as, members-none, none-in, row-cases}
 
 pub ends-start : (w : List ℕ) (at : ℕ → ℕ) → ((d : ℕ) → 0 < d → 0 < at d) → Ends w (replicate 256 0) at
@@ -35,35 +37,66 @@ ends-later w ends at later more e =
       small = e .small;
       each = λ d far le. let y = more d in
           let r = e .each d far (omega arith) in
-          record { from = le; within = r .within; same = λ k ge lt. r .same k (omega arith) lt; differs = r .differs };
+          record { within = r .within; same = λ k ge lt. r .same k (omega arith) lt };
     }
 
-pub ends-known : (w ends : List ℕ) (d q r : ℕ) → EndsAt w ends d q → 0 < d → r ≡ getD ends d 0 → q ≤ r → Ended w ends ends d q r
-ends-known w ends d q r (at, place, e) far is le =
-    record { kept = λ at z y. y; run = subst₂ (λ (m n : ℕ). RunEnd w d m n) place (sym is) (e .each d far (omega arith)) }
+pub ends-known : (w ends : List ℕ) (d q stop r : ℕ) → EndsAt w ends d q → 0 < d → q ≤ stop → r ≡ getD ends d 0 → stop ≤ r → Ended w ends ends d q stop r
+ends-known w ends d q stop r (at, place, e) far before is le =
+    record {
+      kept = λ at z y. y;
+      run = record {
+        from = omega arith;
+        repeats = subst₂ (λ (m n : ℕ). Repeats w d m n) place (sym is) (e .each d far (omega arith));
+        differs = λ (lt : r < stop). absurd (omega arith);
+      };
+    }
 
-pub ends-found : (w ends : List ℕ) (d q r v : ℕ) → d < 256 → length w ≤ 255 → RunEnd w d q r → v ≡ r → Ended w ends (set ends d v) d q r
-ends-found w ends d q r v lt short run is = record { kept = kept; run = run }
+-- what was found to repeat before, and what is found from there on
+run-on : (w ends : List ℕ) (d q stop e m r : ℕ) → EndsAt w ends d q → 0 < d → e ≡ getD ends d 0 → q ≤ m → (m ≡ q) ⊎ (m ≡ e) → RunEnd w d m stop r → RunEnd w d q stop r
+run-on w ends d q stop e m r (at, place, known) far is le which run =
+    record {
+      from = let ge = run .from in omega arith;
+      repeats = record { within = run .repeats .within; same = same };
+      differs = run .differs;
+    }
   where
+    old : (k : ℕ) → q ≤ k → k < m → (m ≡ q) ⊎ (m ≡ e) → getD w k 0 ≡ getD w (k - d) 0
+    old k ge lt (inl z) = absurd (omega arith)
+    old k ge lt (inr z) = known .each d far (omega arith) .same k (omega arith) (omega arith)
+
+    same : (k : ℕ) → q ≤ k → k < r → getD w k 0 ≡ getD w (k - d) 0
+    same k ge lt = at-place (decLt k m)
+      where
+        at-place : Dec (k < m) → getD w k 0 ≡ getD w (k - d) 0
+        at-place (yes l) = old k ge l which
+        at-place (no n) = run .repeats .same k (omega arith) lt
+
+pub ends-found : (w ends : List ℕ) (d q stop e m r v : ℕ) → EndsAt w ends d q → 0 < d → d < 256 → length w ≤ 255 → e ≡ getD ends d 0 → q ≤ m → (m ≡ q) ⊎ (m ≡ e)
+    → RunEnd w d m stop r → v ≡ r → Ended w ends (set ends d v) d q stop r
+ends-found w ends d q stop e m r v known far lt short at-e le which more is = record { kept = kept; run = run }
+  where
+    run : RunEnd w d q stop r
+    run = run-on w ends d q stop e m r known far at-e le which more
+
     kept : Keeps w ends (set ends d v) d q
     kept at place e =
         record {
           size = length-set ends d v ∙ e .size;
-          small = row-cases ends d v inside (λ k y. y ≤ 255) (let z = run .within in omega arith) (λ k n. e .small k);
-          each = row-cases ends d v inside (λ k y. 0 < k → at k ≤ y → RunEnd w k (at k) y) (λ far le. subst₂ (λ (m n : ℕ). RunEnd w d m n) (sym place) (sym is) run) (λ k n. e .each k);
+          small = row-cases ends d v inside (λ k y. y ≤ 255) (let z = run .repeats .within in omega arith) (λ k n. e .small k);
+          each = row-cases ends d v inside (λ k y. 0 < k → at k ≤ y → Repeats w k (at k) y) (λ far le. subst₂ (λ (m n : ℕ). Repeats w d m n) (sym place) (sym is) (run .repeats)) (λ k n. e .each k);
         }
       where
         inside : d < length ends
         inside = let z = e .size in omega arith
 
-module _ (w a b : List ℕ) (i j e : ℕ) (le : i < j) (room : j + (j - i) ≤ length w) (end : Ended w a b (j - i) j e) where
+module _ (w a b : List ℕ) (i j e : ℕ) (le : i < j) (room : j + (j - i) ≤ length w) (end : Ended w a b (j - i) j (j + (j - i)) e) where
   pub square-yes : j + (j - i) ≤ e → Squared w a b i j true
   square-yes long = record { kept = end .kept; says = (λ z t lt. one t lt, λ m. refl) }
     where
       one : (t : ℕ) → t < j - i → getD w (i + t) 0 ≡ getD w (j + t) 0
       one t lt =
           let back : j + t - (j - i) ≡ i + t = omega arith in
-          sym (end .run .same (j + t) (omega arith) (omega arith) ∙ ap (λ (n : ℕ). getD w n 0) back)
+          sym (end .run .repeats .same (j + t) (omega arith) (omega arith) ∙ ap (λ (n : ℕ). getD w n 0) back)
 
   pub square-no : e < j + (j - i) → Squared w a b i j false
   square-no short = record { kept = end .kept; says = (λ z. absurd (false≢true z), λ m. absurd (apart m)) }

@@ -1,17 +1,18 @@
 // Stretches of a word that stand twice in a row: what a copy of at least one letter needs.
 ghost use Prim.Native.Nat.{_+_, _-_, _≤_, _<_};
 ghost use mathlib.Core.Path.{_≡_};
+ghost use mathlib.Core.Logic.{_⊎_};
 ghost use lib.ListN.{length};
 ghost use Rattle.decide.specs.Reach.{LastSquare};
 ghost use Rattle.decide.specs.Squares.{RunEnd, Ends, EndsAt, Ended, Squared, Turning};
 
-// The first place from q on where the letter is not the one d places before it; the length of the word where there is none.
-fn run_end(word: &[u8], d: usize, q: usize) -> usize
-    requires { ⌜ (d ≤ q) × (q ≤ length (now word)) ⌝ }
-    ensures { λ r. ⌜ RunEnd (now (word .entry)) d q r ⌝ }
+// The first place from q up to stop where the letter is not the one d places before it; stop where there is none.
+fn run_end(word: &[u8], d: usize, q: usize, stop: usize) -> usize
+    requires { ⌜ (d ≤ q) × (q ≤ stop) × (stop ≤ length (now word)) ⌝ }
+    ensures { λ r. ⌜ RunEnd (now (word .entry)) d q stop r ⌝ }
 {
     let mut r = q;
-    while r < word.len() {
+    while r < stop {
         if word[r] != word[r - d] {
             return r;
         }
@@ -20,27 +21,37 @@ fn run_end(word: &[u8], d: usize, q: usize) -> usize
     r
 }
 
-// The same, taken from the places that were found before, one for each distance, where the one of d is not before q.
-fn known_end(word: &[u8], ends: &mut [u8; 256], d: usize, q: usize) -> usize
-    requires { ⌜ (0 < d) × (d ≤ q) × (q ≤ length (now word)) × (length (now word) ≤ 255) × EndsAt (now word) (now ends) d q ⌝ }
-    ensures { λ r. ⌜ Ended (now (word .entry)) (now (ends .entry)) (now (ends .exit)) d q r ⌝ }
+// The larger number.
+fn later(a: usize, b: usize) -> usize
+    ensures { λ r. ⌜ (a ≤ r) × (b ≤ r) × ((r ≡ a) ⊎ (r ≡ b)) ⌝ }
+{
+    if a < b {
+        return b;
+    }
+    a
+}
+
+// The same or a place past stop, from the place up to which letters were compared before at this distance.
+fn known_end(word: &[u8], ends: &mut [u8; 256], d: usize, q: usize, stop: usize) -> usize
+    requires { ⌜ (0 < d) × (d ≤ q) × (q ≤ stop) × (stop ≤ length (now word)) × (length (now word) ≤ 255) × EndsAt (now word) (now ends) d q ⌝ }
+    ensures { λ r. ⌜ Ended (now (word .entry)) (now (ends .entry)) (now (ends .exit)) d q stop r ⌝ }
 {
     let e = ends[d] as usize;
-    if q <= e {
+    if stop <= e {
         return e;
     }
-    let r = run_end(word, d, q);
+    let r = run_end(word, d, later(q, e), stop);
     ends[d] = r as u8;
     r
 }
 
-// Whether the letters from i up to j stand once more from j on, without comparing letters again that were compared before.
+// Whether the letters from i up to j stand once more from j on. Letters that were found the same before are not compared again.
 fn is_square(word: &[u8], ends: &mut [u8; 256], i: usize, j: usize) -> bool
     requires { ⌜ (i < j) × (j + (j - i) ≤ length (now word)) × (length (now word) ≤ 255) × EndsAt (now word) (now ends) (j - i) j ⌝ }
     ensures { λ r. ⌜ Squared (now (word .entry)) (now (ends .entry)) (now (ends .exit)) i j r ⌝ }
 {
     let d = j - i;
-    let e = known_end(word, ends, d, j);
+    let e = known_end(word, ends, d, j, j + d);
     if j + d <= e {
         return true;
     }

@@ -329,6 +329,38 @@ fn circle(states: usize) -> Machine {
     Machine::new(1, &marks, &transitions)
 }
 
+/// Two copy zones in turn over one letter, the first of one letter and the second of two. Copies of every length begin
+/// at many places and are no good, so a search that tries them one by one gives up on long words.
+fn zones_in_turn() -> Machine {
+    let marks = [5, 0, 8, 10, 4, 0, 8, 8, 10];
+    let first = [(0, 0, 1), (1, 1, 1), (1, 0, 2), (2, 1, 3), (3, 0, 4)];
+    let second = [
+        (4, 0, 5),
+        (5, 1, 5),
+        (5, 0, 6),
+        (6, 1, 7),
+        (7, 1, 8),
+        (8, 0, 0),
+    ];
+    Machine::new(1, &marks, &[&first[..], &second[..]].concat())
+}
+
+#[test]
+fn many_copies_tried() {
+    let mut counts = Counts::default();
+    let machine = zones_in_turn();
+    let ready = Ready::new(&machine);
+    for length in 0..=255 {
+        // Six letters for both zones, and two more where the first stands alone at the end.
+        let expected = length > 0 && (length % 6 == 0 || length % 6 == 2);
+        assert_eq!(
+            ready.word(&vec![1; length], length % 3, &mut counts),
+            expected
+        );
+    }
+    counts.report("two copy zones in turn, one letter");
+}
+
 #[test]
 fn long_runs() {
     let mut counts = Counts::default();
