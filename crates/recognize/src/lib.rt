@@ -1,7 +1,7 @@
 // Recognition with a run: whether a machine accepts a word, and an accepting run of it.
 ghost use Prim.Native.Nat.{ℕ, _+_, _*_, _≤_, _<_};
 ghost use mathlib.Core.Path.{_≡_};
-ghost use mathlib.Core.Bool.{true};
+ghost use mathlib.Core.Bool.{true, false};
 ghost use mathlib.Core.List.{_++_};
 ghost use lib.ListN.{length, getD, take, drop};
 ghost use Rattle.fsbm.specs.Machine.{wellFormed};
@@ -363,6 +363,16 @@ fn answer_of_any(
     )
 }
 
+// Whether a slice of this length is shorter than the length needed.
+fn is_too_short(length: usize, needed: usize) -> bool
+    ensures { λ r. ⌜ (r ≡ true → length < needed) × (r ≡ false → needed ≤ length) ⌝ }
+{
+    if length < needed {
+        return true;
+    }
+    false
+}
+
 // Whether the machine accepts the word; on yes an accepting run of it stands at the front of run, and the answer holds its number of
 // entries, the start state counted as one. Which accepting run is left open. On no and on a refusal run is as it was, and so is on yes
 // what stands past the run. It refuses 16 (the record and its list break the rules of a table), 9 (a word of more than 255 letters),
@@ -378,7 +388,7 @@ pub fn recognize(m: Machine, list: &[u16], word: &[u8], run: &mut [u16]) -> Reco
         return Recognized::Refused(Refusal { number, needed: 0 });
     }
     let needed = 3 * m.states * (word.len() + 1);
-    if run.len() < needed {
+    if is_too_short(run.len(), needed) {
         return Recognized::Refused(Refusal { number: 17, needed });
     }
     // One choice after another, here and not in a function of its own: so the compiler takes the last ones for rare and keeps their large
