@@ -1,3 +1,4 @@
+pub mod CacheCases
 pub mod CopyCases
 pub mod Covering
 pub mod Decided

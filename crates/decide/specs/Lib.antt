@@ -1,3 +1,4 @@
+pub mod Cache
 pub mod Graph
 pub mod Reach
 pub mod Squares

@@ -66,7 +66,8 @@ pub fn kinds_of(marks: &[u8; 64], states: usize) -> Kinds
     }
 }
 
-fn wide(x: u8) -> usize
+// The same number as an index.
+pub fn wide(x: u8) -> usize
     ensures { λ r. ⌜ (r ≡ x) × (r ≤ 255) ⌝ }
 {
     x as usize

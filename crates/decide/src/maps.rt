@@ -1,13 +1,12 @@
 // Maps: for each state that is known, the set of states that it leads to by one letter. Each state is followed once for a
-// letter; the image of a set is then the union of the sets of its members.
-ghost use Prim.Native.Nat.{ℕ, _+_, _≤_, _<_};
+// letter; the image of a set is then the union of the sets of its members. A map is of one letter; the module cache keeps those of
+// other letters.
+ghost use Prim.Native.Nat.{_+_, _≤_, _<_};
 ghost use mathlib.Core.Path.{_≡_};
-ghost use mathlib.Core.List.{List};
 ghost use lib.ListN.{getD};
 ghost use Rattle.stateset.specs.Set.{width, In};
-ghost use Rattle.fsbm.specs.declared.config.Mode.{Mode};
 ghost use Rattle.decide.specs.declared.maps.Memo.{Memo};
-ghost use Rattle.decide.specs.Graph.{Members, Fitting, From, Graph, graph, Lead, Good};
+ghost use Rattle.decide.specs.Graph.{Members, Fitting, From, graph, Lead, Good};
 ghost use Rattle.decide.specs.Sweep.{Known, Learnt, Recalls, Recalled, Moved};
 use crate::images;
 use fsbm::config::Mode;
@@ -83,16 +82,6 @@ pub fn nothing(x: u8) -> Memo
     }
 }
 
-// The memo where it is of the letter x, else nothing known of it.
-fn of_letter(memo: Memo, x: u8) -> Memo
-    ensures { λ r. ⌜ (r .letter ≡ x) × ((G : Graph) (T : Mode) (map : List ℕ) → Recalls G T map memo → Recalls G T map r) ⌝ }
-{
-    if memo.letter == x as usize {
-        return memo;
-    }
-    nothing(x)
-}
-
 // The memo, of the letter x, with the image of a set.
 fn with_image(
     targets: &[u64],
@@ -145,7 +134,7 @@ fn move_set(
     found
 }
 
-// Moves the sets of the places from lo up to hi on by the letter x.
+// Moves the sets of the places from lo up to hi on by the letter x, which is that of the memo.
 pub fn move_on(
     targets: &[u64],
     numbers: &[u8; 256],
@@ -159,10 +148,10 @@ pub fn move_on(
     lo: usize,
     hi: usize,
 ) -> Memo
-    requires { ⌜ Good (now targets) (now numbers) × Recalls (graph (now targets) (now numbers) g h) mode (now map) memo × Fitting 256 (now sets) × (lo ≤ hi) × (hi ≤ 256) ⌝ }
+    requires { ⌜ Good (now targets) (now numbers) × Recalls (graph (now targets) (now numbers) g h) mode (now map) memo × Fitting 256 (now sets) × (lo ≤ hi) × (hi ≤ 256) × (memo .letter ≡ x) ⌝ }
     ensures { λ r. ⌜ Moved (graph (now (targets .entry)) (now (numbers .entry)) g h) mode x (now (map .exit)) r (now (sets .entry)) (now (sets .exit)) lo hi ⌝ }
 {
-    let mut last = of_letter(memo, x);
+    let mut last = memo;
     let mut k = lo;
     while k < hi {
         last = move_set(targets, numbers, g, h, mode, x, map, last, sets, k);

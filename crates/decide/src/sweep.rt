@@ -6,6 +6,7 @@ ghost use Rattle.decide.specs.Graph.{Members, Fitting, graph, Good};
 ghost use Rattle.decide.specs.Reach.{Reach};
 ghost use Rattle.decide.specs.Squares.{Ends};
 ghost use Rattle.decide.specs.Sweep.{Turned, Started};
+use crate::cache;
 use crate::images;
 use crate::maps;
 use crate::squares;
@@ -59,8 +60,9 @@ fn start_copies(
 
 // The states reached at the end of a word in normal mode from the set initial at its start. At each position sets has the states in
 // normal mode there; behind it, at the place where they began, the states of the copies that store; ahead of it, at the place where
-// they will end, the states of the copies that match. The states reached at each place in normal mode are left in complete; nothing is
-// promised of them.
+// they will end, the states of the copies that match. For each of the two modes there is the map of the letter at the position, and a
+// cache with those of the letters before it. The states reached at each place in normal mode are left in complete; nothing is promised
+// of them.
 pub fn sweep(
     targets: &[u64],
     numbers: &[u8; 256],
@@ -77,6 +79,8 @@ pub fn sweep(
     let mut sets: [u64; 256] = [0; 256];
     let mut storing: [u64; 64] = [0; 64];
     let mut matching: [u64; 64] = [0; 64];
+    let mut storing_cache: [u64; 1056] = [0; 1056];
+    let mut matching_cache: [u64; 1056] = [0; 1056];
     let mut ends: [u8; 256] = [0; 256];
     let mut stored = maps::nothing(0);
     let mut matched = maps::nothing(0);
@@ -87,26 +91,28 @@ pub fn sweep(
         let read = start_copies(targets, numbers, g, h, word, &mut sets, complete, i);
         let j = i + 1;
         let lo = first_start(n, j);
-        stored = maps::move_on(
+        stored = cache::move_on(
             targets,
             numbers,
             g,
             h,
             Mode::Buffering,
             x,
+            &mut storing_cache,
             &mut storing,
             stored,
             &mut sets,
             lo,
             j,
         );
-        matched = maps::move_on(
+        matched = cache::move_on(
             targets,
             numbers,
             g,
             h,
             Mode::Emptying,
             x,
+            &mut matching_cache,
             &mut matching,
             matched,
             &mut sets,

@@ -12,7 +12,6 @@ use Rattle.decide.proofs.maps.move_on.Tie as tie
 use Rattle.decide.proofs.maps.move_on.Reads as reads
 use Rattle.decide.proofs.maps.move_on.Lts as lts
 use Rattle.decide.proofs.maps.move_set.Reads as move-set-reads
-use Rattle.decide.proofs.maps.of_letter.Reads as of-letter-reads
 
 abbrev Inv-loop : tie.InvT-loop
 Inv-loop targets numbers g h mode x map₀ sets₀ lo hi last₀ k₀ map sets last k = Good targets numbers × (lo ≤ k) × (k ≤ hi) × (hi ≤ 256) × (last .letter ≡ x) × Moved (graph targets numbers g h) mode x map last sets₀ sets lo k
@@ -20,13 +19,9 @@ Inv-loop targets numbers g h mode x map₀ sets₀ lo hi last₀ k₀ map sets l
 abbrev μ-loop : tie.MeasureT-loop
 μ-loop targets numbers g h mode x map₀ sets₀ lo hi last₀ k₀ map sets last k = hi - k
 
--- src/maps.rt:154:9
-of-letter-requires : tie.Need-of-letter-requires Inv-loop μ-loop
-of-letter-requires c κs = search needs
-
 -- src/maps.rt:156:5
 loop-holds : tie.Need-loop-holds Inv-loop μ-loop
-loop-holds c = ((c .before .before .pre) .0, omega arith, (c .before .before .pre) .3, (c .before .before .pre) .4, (c .of-letter .ensures) .0, moved-start (graph ((c .before .before .args .targets) .now) ((c .before .before .args .numbers) .now) (c .before .before .args .g) (c .before .before .args .h)) (c .before .before .args .mode) _ _ _ _ _ ((c .of-letter .ensures) .1 _ _ _ ((c .before .before .pre) .1)) ((c .before .before .pre) .2))
+loop-holds c = ((c .before .pre) .0, omega arith, (c .before .pre) .3, (c .before .pre) .4, (c .before .pre) .5, moved-start (graph ((c .before .args .targets) .now) ((c .before .args .numbers) .now) (c .before .args .g) (c .before .args .h)) (c .before .args .mode) _ _ _ _ _ ((c .before .pre) .1) ((c .before .pre) .2))
 
 -- src/maps.rt:157:9
 move-set-requires : tie.Need-move-set-requires Inv-loop μ-loop
@@ -42,11 +37,11 @@ loop-less c = omega arith
 
 -- src/maps.rt:156:5
 loop-again : tie.Need-loop-again Inv-loop μ-loop
-loop-again c = ((c .before .before .before .before .loop .inv) .0, omega arith, omega arith, (c .before .before .before .before .loop .inv) .3, (c .move-set .ensures) .0, moved-more (graph ((c .before .before .before .before .before .before .before .args .targets) .now) ((c .before .before .before .before .before .before .before .args .numbers) .now) (c .before .before .before .before .before .before .before .args .g) (c .before .before .before .before .before .before .before .args .h)) (c .before .before .before .before .before .before .before .args .mode) _ _ _ _ _ _ _ _ _ _ _ ((c .before .before .before .before .loop .inv) .1) refl ((c .before .before .before .before .loop .inv) .5) ((c .move-set .ensures) .1))
+loop-again c = ((c .before .before .before .before .loop .inv) .0, omega arith, omega arith, (c .before .before .before .before .loop .inv) .3, (c .move-set .ensures) .0, moved-more (graph ((c .before .before .before .before .before .before .args .targets) .now) ((c .before .before .before .before .before .before .args .numbers) .now) (c .before .before .before .before .before .before .args .g) (c .before .before .before .before .before .before .args .h)) (c .before .before .before .before .before .before .args .mode) _ _ _ _ _ _ _ _ _ _ _ ((c .before .before .before .before .loop .inv) .1) refl ((c .before .before .before .before .loop .inv) .5) ((c .move-set .ensures) .1))
 
 -- src/maps.rt:138:1
 returns : tie.Need-returns Inv-loop μ-loop
-returns c = moved-to (graph ((c .before .before .before .before .args .targets) .now) ((c .before .before .before .before .args .numbers) .now) (c .before .before .before .before .args .g) (c .before .before .before .before .args .h)) (c .before .before .before .before .args .mode) _ _ _ _ _ _ _ _ (omega arith) ((c .before .loop .inv) .5)
+returns c = moved-to (graph ((c .before .before .before .args .targets) .now) ((c .before .before .before .args .numbers) .now) (c .before .before .before .args .g) (c .before .before .before .args .h)) (c .before .before .before .args .mode) _ _ _ _ _ _ _ _ (omega arith) ((c .before .loop .inv) .5)
 
 pub move-on-spec : {M : Type 1} → statement M
 move-on-spec =
@@ -54,7 +49,6 @@ move-on-spec =
     (tie.spec
     Inv-loop
     μ-loop
-    of-letter-requires
     loop-holds
     move-set-requires
     add-k
