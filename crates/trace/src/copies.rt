@@ -18,9 +18,9 @@ pub struct Place {
 }
 
 // What letters lead to, and how many of them were followed.
-struct Followed {
-    set: u64,
-    letters: usize,
+pub struct Followed {
+    pub set: u64,
+    pub letters: usize,
 }
 
 // The states of `sets` at k, none past its end.
@@ -48,7 +48,7 @@ pub fn letter_at(word: &[u8], k: usize) -> u8 {
 }
 
 // Follows a set through the d letters from i on in a mode; the set after each of them is kept.
-fn follow(
+pub fn follow(
     targets: &[u64],
     numbers: &[u8; 256],
     g: u64,
@@ -276,7 +276,7 @@ fn copy_back(
 }
 
 // The states of `sets` at place i with which a copy of d letters may begin: none where the letters do not stand there twice.
-fn starts_at(sets: &[u64; 256], g: u64, word: &[u8], i: usize, d: usize) -> u64
+pub fn starts_at(sets: &[u64; 256], g: u64, word: &[u8], i: usize, d: usize) -> u64
     requires { ⌜ (i + d + d ≤ length (now word)) × (i < 256) ⌝ }
 {
     let starts = stateset::intersection(sets[i], g);
@@ -290,7 +290,7 @@ fn starts_at(sets: &[u64; 256], g: u64, word: &[u8], i: usize, d: usize) -> u64
 }
 
 // Back from a point at place p by a copy of d letters that ends there.
-fn half_back(
+pub fn half_back(
     targets: &[u64],
     firsts: &[u16],
     numbers: &[u8; 256],
@@ -332,7 +332,7 @@ fn half_back(
     )
 }
 
-// Back from a point at place p by any copy that ends there, the longest first.
+// Back from a point at place p by any copy that ends there, the longest first, as long as letters may be followed.
 fn longest_back(
     targets: &[u64],
     firsts: &[u16],
@@ -381,8 +381,9 @@ fn longest_back(
     tried
 }
 
-// The same, with as many letters as the last copy tried first: runs often have many copies of one length.
-pub fn any_copy_back(
+// The same, with as many letters as the last copy tried first: runs often have many copies of one length. It is lost where the letters
+// that may be followed do not suffice.
+pub fn quick_copy_back(
     targets: &[u64],
     firsts: &[u16],
     numbers: &[u8; 256],

@@ -9,4 +9,5 @@
 pub mod copies;
 pub mod levels;
 pub mod points;
+pub mod shortest;
 pub mod walk;

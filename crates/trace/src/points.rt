@@ -8,12 +8,12 @@ use fsbm::config::Mode;
 // normal, 1 buffering, 2 emptying), and the state. It is handed from call to call at every step, and as one number it stays in a
 // register.
 
-// What is handed back where no way back was found: state 0, and 3 as the mode's number.
-pub const LOST: usize = 192;
+// What is handed back where no way back was found: a point with no room before its entries.
+pub const LOST: usize = 0;
 
-// Whether no way back was found.
+// Whether no way back was found, or none that there is room for: no run can begin before entries that begin at 0.
 pub fn is_lost(at: usize) -> bool {
-    at / 64 % 4 == 3
+    at < 256
 }
 
 // The state of a point.
@@ -62,8 +62,7 @@ pub fn point(mode: Mode, state: usize, top: usize) -> usize {
     top * 256 + number_of(mode) * 64 + state
 }
 
-// Writes an entry before those from top on, and hands back where they begin then. There is no room before 0, and what begins there is
-// not a whole run.
+// Writes an entry before those from top on, and hands back where they begin then; 0 where there is no room.
 pub fn put(out: &mut [u16], top: usize, entry: u16) -> usize {
     if top == 0 {
         return 0;

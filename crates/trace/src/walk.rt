@@ -10,6 +10,7 @@ use crate::copies;
 use crate::copies::Place;
 use crate::levels;
 use crate::points;
+use crate::shortest;
 use decide::images::Kinds;
 use fsbm::config::Mode;
 use fsbm::machine::Machine;
@@ -62,7 +63,7 @@ fn place_back(
             half: here.half,
         };
     }
-    copies::any_copy_back(
+    shortest::any_copy_back(
         targets,
         firsts,
         numbers,
@@ -122,11 +123,8 @@ fn move_front(out: &mut [u16], top: usize) -> usize {
 }
 
 // Writes the start state before the entries that lead on from a point at the beginning of the word, and hands back how many entries the
-// run has; 0 where it has no room.
+// run has.
 fn begin(at: usize, out: &mut [u16]) -> usize {
-    if points::top_of(at) == 0 {
-        return 0;
-    }
     let top = points::put(out, points::top_of(at), points::state_of(at) as u16);
     move_front(out, top)
 }
@@ -153,7 +151,7 @@ fn search(
     let end = Place {
         at: points::point(Mode::Normal, stateset::lowest(ended) as usize, out.len()),
         place: n,
-        left: n * 256 + 256,
+        left: n * 4,
         half: 0,
     };
     let back = walk_back(targets, firsts, numbers, g, h, word, sets, end, out);

@@ -114,6 +114,34 @@ fn zones() -> Table {
     Table::new("60 states", 20, &marks, &moves)
 }
 
+/// Pairs of copy zones in turn over one letter, the first of a pair for one letter and the second for two: copies of every
+/// length begin at many places, and most lead nowhere.
+fn in_turn(name: &'static str, pairs: u16) -> Table {
+    let (mut marks, mut moves) = (Vec::new(), Vec::new());
+    for pair in 0..pairs {
+        let first = 9 * pair;
+        let next = if pair + 1 < pairs { first + 9 } else { 0 };
+        marks.extend([4, 0, 8, 10, 4, 0, 8, 8, 10]);
+        // From, letter, to, counted from the first state of the pair.
+        let zones = [
+            [0, 0, 1],
+            [1, 1, 1],
+            [1, 0, 2],
+            [2, 1, 3],
+            [3, 0, 4],
+            [4, 0, 5],
+            [5, 1, 5],
+            [5, 0, 6],
+            [6, 1, 7],
+            [7, 1, 8],
+        ];
+        moves.extend(zones.map(|[from, letter, to]| [first + from, letter, first + to]));
+        moves.push([first + 8, 0, next]);
+    }
+    marks[0] |= 1;
+    Table::new(name, 1, &marks, &moves)
+}
+
 /// 64 states, 4,000 transitions, one letter.
 fn dense() -> Table {
     let marks: Vec<u8> = (0..64).map(|state| [5, 0, 8, 10][state % 4]).collect();
@@ -123,7 +151,8 @@ fn dense() -> Table {
     Table::new("dense", 1, &marks, &moves)
 }
 
-/// Words of the kind: sixteen, or of one letter and of two in turn as many as there are letters, up to sixteen.
+/// Words of the kind: sixteen, or of one letter, of two in turn and of two as in a Fibonacci word as many as there are
+/// letters, up to sixteen.
 fn words(kind: &str, letters: usize, length: usize) -> Vec<Vec<u8>> {
     if kind == "one letter" {
         let letters = letters.min(16) as u8;
@@ -133,6 +162,19 @@ fn words(kind: &str, letters: usize, length: usize) -> Vec<Vec<u8>> {
         let pair = |first: usize, place: usize| 1 + ((first + place % 2) % letters) as u8;
         return (0..letters.min(16))
             .map(|first| (0..length).map(|place| pair(first, place)).collect())
+            .collect();
+    }
+    if kind == "Fibonacci" {
+        let (mut last, mut places) = (vec![0], vec![0, 1]);
+        while places.len() < length {
+            let next = [places.clone(), last].concat();
+            last = std::mem::replace(&mut places, next);
+        }
+        return (0..letters.min(16))
+            .map(|first| {
+                let letter = |&second: &usize| 1 + ((first + second) % letters) as u8;
+                places[..length].iter().map(letter).collect()
+            })
             .collect();
     }
     let mut numbers = Numbers(88_172_645_463_325_252);
@@ -196,7 +238,14 @@ pub fn section() {
         "{:10} {:>7} {:14} {:>5} {:>11} {:>11} {:>7}",
         "table", "letters", "words", "yes", "proved", "plain", "ratio"
     );
-    let tables = [table_t(), repeated(), zones(), dense()];
+    let tables = [
+        table_t(),
+        repeated(),
+        zones(),
+        dense(),
+        in_turn("in turn", 1),
+        in_turn("in turn, 7", 7),
+    ];
     let mut slowest = Vec::new();
     for table in &tables {
         let mut singles = Vec::new();
@@ -204,7 +253,13 @@ pub fn section() {
             // Over one letter all words of a length are the same.
             let kinds: &[&'static str] = match table.letters {
                 1 => &["one letter"],
-                _ => &["mixed", "one letter", "two in turn", "nearly square"],
+                _ => &[
+                    "mixed",
+                    "one letter",
+                    "two in turn",
+                    "Fibonacci",
+                    "nearly square",
+                ],
             };
             for kind in kinds {
                 let row = row(table, length, kind);
@@ -241,8 +296,12 @@ pub fn section() {
         "T is table T; repeated is T with a way back, doubled words one after another; 60 states has 20 letters,"
     );
     println!(
-        "{} transitions and 10 copy zones; dense has 64 states, {} transitions and one letter.",
+        "{} transitions and 10 copy zones; dense has 64 states, {} transitions and one letter; in turn has two copy",
         tables[2].machine.transitions, tables[3].machine.transitions
+    );
+    println!(
+        "zones in turn over one letter, for one letter and for two, and in turn, 7 has seven such pairs, {} states.",
+        tables[5].machine.states
     );
 }
 

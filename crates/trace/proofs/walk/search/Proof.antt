@@ -38,10 +38,6 @@ point-requires c κs = tt
 mul-t25 : tie.Need-mul-t25
 mul-t25 c = omega (arith, (c .before .before .before .before .before .before .before .before .before .pre) .1)
 
--- src/walk.rt:156:15
-add-t26 : tie.Need-add-t26
-add-t26 c = omega (arith, (c .before .before .before .before .before .before .before .before .before .pre) .1)
-
 -- src/walk.rt:159:9
 walk-back-requires : tie.Need-walk-back-requires
 walk-back-requires c κs = (c .before .before .before .before .before .before .before .before .before .before .pre) .0
@@ -103,7 +99,6 @@ search-spec =
     cast-point
     point-requires
     mul-t25
-    add-t26
     walk-back-requires
     is-lost-requires
     same-length

@@ -1,9 +1,9 @@
 use mathlib.Core.Path.{_∙_}
 use native.Mathlib.Omega.{arith}
-use Rattle.trace.proofs.copies.any_copy_back.Statement.{statement}
-use Rattle.trace.proofs.copies.any_copy_back.Tie as tie
-use Rattle.trace.proofs.copies.any_copy_back.Reads as reads
-use Rattle.trace.proofs.copies.any_copy_back.Lts as lts
+use Rattle.trace.proofs.copies.quick_copy_back.Statement.{statement}
+use Rattle.trace.proofs.copies.quick_copy_back.Tie as tie
+use Rattle.trace.proofs.copies.quick_copy_back.Reads as reads
+use Rattle.trace.proofs.copies.quick_copy_back.Lts as lts
 
 -- src/copies.rt:403:9
 longest-back-requires : tie.Need-longest-back-requires
@@ -57,9 +57,9 @@ same-length-4 c = (c .before .out4 .given) ∙ (c .before .before .before .befor
 returns-4 : tie.Need-returns-4
 returns-4 c = tt
 
--- antt refused `any-copy-back-spec` as it was built: the module's report says why
-pub any-copy-back-spec : {M : Type 1} → statement M
-any-copy-back-spec =
+-- antt refused `quick-copy-back-spec` as it was built: the module's report says why
+pub quick-copy-back-spec : {M : Type 1} → statement M
+quick-copy-back-spec =
     tie.close
     (tie.spec
     longest-back-requires

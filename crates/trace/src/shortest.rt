@@ -1,0 +1,260 @@
+// The shortest copy that leads to a state: by the sets of states from which moves lead there. Where many copies end at a place and most
+// lead elsewhere, following them one by one would take long; this finds one in a time that its own length bounds.
+ghost use Prim.Native.Nat.{ℕ, _+_, _≤_, _<_};
+ghost use lib.ListN.{length};
+ghost use Rattle.stateset.specs.Set.{width};
+ghost use Rattle.decide.specs.Graph.{Good};
+use crate::copies;
+use crate::copies::Place;
+use crate::points;
+use decide::images;
+use fsbm::config::Mode;
+
+// The states of a set for which a row of the table has a state of `to`.
+fn row_sources(targets: &[u64], row: usize, set: u64, to: u64) -> u64
+    requires { ⌜ row + width ≤ length (now targets) ⌝ }
+{
+    let mut found = stateset::empty();
+    let mut rest = set;
+    while rest != 0 {
+        let p = stateset::lowest(rest) as usize;
+        rest = stateset::without_lowest(rest);
+        found = images::add_if(found, p, stateset::intersection(targets[row + p], to) != 0);
+    }
+    found
+}
+
+// The states of a set from which a move that reads x leads to a state of `to` in a mode.
+fn sources(
+    targets: &[u64],
+    numbers: &[u8; 256],
+    g: u64,
+    h: u64,
+    mode: Mode,
+    x: u8,
+    set: u64,
+    to: u64,
+) -> u64
+    requires { ⌜ Good (now targets) (now numbers) ⌝ }
+{
+    let row = images::row_of(numbers, x);
+    let matching = stateset::intersection(set, h);
+    let plain = stateset::difference(set, h);
+    match mode {
+        Mode::Normal => {
+            let free = row_sources(targets, row, stateset::difference(plain, g), to);
+            let turned = row_sources(targets, row, matching, stateset::difference(to, h));
+            stateset::union(free, turned)
+        }
+        Mode::Buffering => {
+            let inside = stateset::difference(to, g);
+            let free = row_sources(targets, row, plain, inside);
+            let turned = row_sources(targets, row, matching, stateset::difference(inside, h));
+            stateset::union(free, turned)
+        }
+        Mode::Emptying => row_sources(targets, row, matching, stateset::intersection(to, h)),
+    }
+}
+
+// The states of a set from which epsilon moves lead to a state of `to` in a mode, and those of `to`.
+fn close_back(
+    targets: &[u64],
+    numbers: &[u8; 256],
+    g: u64,
+    h: u64,
+    mode: Mode,
+    set: u64,
+    to: u64,
+) -> u64
+    requires { ⌜ Good (now targets) (now numbers) ⌝ }
+{
+    let mut all = to;
+    let mut new = to;
+    let mut rounds: usize = 0;
+    while rounds < 64 {
+        if new == 0 {
+            return all;
+        }
+        let rest = stateset::difference(set, all);
+        new = sources(targets, numbers, g, h, mode, 0, rest, new);
+        all = stateset::union(all, new);
+        rounds += 1;
+    }
+    all
+}
+
+// The states in emptying mode from which moves that read nothing lead to state q in normal mode, where the states of reached are
+// reached in normal mode.
+fn ends_before(targets: &[u64], numbers: &[u8; 256], g: u64, h: u64, reached: u64, q: usize) -> u64
+    requires { ⌜ Good (now targets) (now numbers) ⌝ }
+{
+    let begun = stateset::intersection(reached, g);
+    let stored = images::close_set(targets, numbers, g, h, Mode::Buffering, begun);
+    let mut to = stateset::single(q);
+    let mut rounds: usize = 0;
+    while rounds < 64 {
+        let normal = close_back(targets, numbers, g, h, Mode::Normal, reached, to);
+        let ended = stateset::intersection(normal, h);
+        let emptying = close_back(targets, numbers, g, h, Mode::Emptying, h, ended);
+        let turned = stateset::intersection(emptying, stored);
+        let buffering = close_back(targets, numbers, g, h, Mode::Buffering, stored, turned);
+        to = stateset::union(normal, stateset::intersection(buffering, begun));
+        if to == normal {
+            return emptying;
+        }
+        rounds += 1;
+    }
+    0
+}
+
+// Whether storing the d letters from i on leads from a state of starts to a state of `to`.
+fn leads(
+    targets: &[u64],
+    numbers: &[u8; 256],
+    g: u64,
+    h: u64,
+    word: &[u8],
+    i: usize,
+    d: usize,
+    starts: u64,
+    to: u64,
+    stored: &mut [u64; 129],
+) -> bool
+    requires { ⌜ Good (now targets) (now numbers) × (i < 256) × (d < 256) ⌝ }
+{
+    if starts == 0 {
+        return false;
+    }
+    let end = copies::follow(
+        targets,
+        numbers,
+        g,
+        h,
+        Mode::Buffering,
+        word,
+        i,
+        d,
+        starts,
+        stored,
+    );
+    stateset::intersection(end.set, to) != 0
+}
+
+// How many letters the shortest copy stores that leads to state q at place p; 0 where there is none.
+fn shortest_copy(
+    targets: &[u64],
+    numbers: &[u8; 256],
+    g: u64,
+    h: u64,
+    word: &[u8],
+    sets: &[u64; 256],
+    p: usize,
+    q: usize,
+) -> usize
+    requires { ⌜ Good (now targets) (now numbers) × (p ≤ length (now word)) × (p < 256) ⌝ }
+    ensures { λ r. ⌜ r + r ≤ p ⌝ }
+{
+    let mut stored: [u64; 129] = [0; 129];
+    let mut to = ends_before(targets, numbers, g, h, sets[p], q);
+    let mut d: usize = 0;
+    while d < p / 2 {
+        if to == 0 {
+            return 0;
+        }
+        d += 1;
+        let x = copies::letter_at(word, p - d);
+        let read = sources(targets, numbers, g, h, Mode::Emptying, x, h, to);
+        to = close_back(targets, numbers, g, h, Mode::Emptying, h, read);
+        let i = p - d - d;
+        let starts = copies::starts_at(sets, g, word, i, d);
+        if leads(targets, numbers, g, h, word, i, d, starts, to, &mut stored) {
+            return d;
+        }
+    }
+    0
+}
+
+// Back from a point at place p by the shortest copy that leads to it.
+// Time: for each number of letters up to that of the copy the set of the states from which so many letters are matched, and where the
+// letters stand twice and a copy can begin, a set for each of them. The copies of a run lie one behind another, so all of them together
+// take at most n²/8 sets for a word of n letters.
+fn shortest_back(
+    targets: &[u64],
+    firsts: &[u16],
+    numbers: &[u8; 256],
+    g: u64,
+    h: u64,
+    word: &[u8],
+    sets: &[u64; 256],
+    p: usize,
+    left: usize,
+    at: usize,
+    out: &mut [u16],
+) -> Place
+    requires { ⌜ Good (now targets) (now numbers) × (p ≤ length (now word)) × (p < 256) ⌝ }
+{
+    let d = shortest_copy(targets, numbers, g, h, word, sets, p, points::state_of(at));
+    copies::half_back(
+        targets,
+        firsts,
+        numbers,
+        g,
+        h,
+        word,
+        sets,
+        p,
+        d,
+        left,
+        at,
+        out,
+    )
+}
+
+// Back from a point at place p by a copy that ends there: one that is found soon, else the shortest.
+pub fn any_copy_back(
+    targets: &[u64],
+    firsts: &[u16],
+    numbers: &[u8; 256],
+    g: u64,
+    h: u64,
+    word: &[u8],
+    sets: &[u64; 256],
+    p: usize,
+    half: usize,
+    left: usize,
+    at: usize,
+    out: &mut [u16],
+) -> Place
+    requires { ⌜ Good (now targets) (now numbers) × (p ≤ length (now word)) × (p < 256) ⌝ }
+{
+    let quick = copies::quick_copy_back(
+        targets,
+        firsts,
+        numbers,
+        g,
+        h,
+        word,
+        sets,
+        p,
+        half,
+        left,
+        at,
+        out,
+    );
+    if !points::is_lost(quick.at) {
+        return quick;
+    }
+    shortest_back(
+        targets,
+        firsts,
+        numbers,
+        g,
+        h,
+        word,
+        sets,
+        p,
+        quick.left,
+        at,
+        out,
+    )
+}
