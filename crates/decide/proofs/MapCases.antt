@@ -5,12 +5,14 @@
 -- image-known              == the image by a map of a set whose states are known
 -- recalls-nothing, recalls-start == nothing known of a letter is right of any map, and of the map at the start
 -- moved-start, moved-none, moved-one, moved-more, moved-to == no set moved on, an empty one, one, one more, all
+-- next-start, next-more    == no place passed over, and one more
+-- moved-past               == empty sets passed over
 use Prim.Native.Nat.{ℕ, suc, _+_, _-_, _^_, _≤_, _<_}
 use mathlib.Core.Path.{_≡_, refl, sym, ap, _∙_, subst}
 use mathlib.Core.Logic.{_↔_, _⊎_, inl, inr}
 use mathlib.Core.List.{List}
 use native.Mathlib.Omega.{arith}
-use native.Mathlib.Decide.{ℕ-discrete}
+use native.Mathlib.Decide.{ℕ-discrete, decLt}
 use lib.ListN.{length, getD, set, length-set, replicate}
 use lib.Seq.{getD-set-same, getD-set-other}
 use Rattle.stateset.specs.Set.{width, In}
@@ -19,7 +21,7 @@ use Rattle.fsbm.specs.declared.config.Mode.{Mode}
 use Rattle.adjacency.specs.Index.Laws.{zeros-at}
 use Rattle.decide.specs.declared.maps.Memo.{Memo}
 use Rattle.decide.specs.Graph.{Members, Fitting, From, Star, here, more, Graph, Edge, Free, Advance, Lead}
-use Rattle.decide.specs.Sweep.{Known, Learnt, Recalls, Recalled, Moved}
+use Rattle.decide.specs.Sweep.{Known, Learnt, Recalls, Recalled, NextFilled, Moved}
 use Rattle.decide.proofs.SetCases.{members-as, members-none, none-in, row-cases}
 
 module _ (G : Graph) (T : Mode) (x : ℕ) where
@@ -156,3 +158,29 @@ moved-more G T x map map′ memo memo′ a b c lo k y le letter one last =
         subst (λ (n : ℕ). In (getD c i 0) q ↔ From n (Lead G T x) q) (one .others i (λ z. absurd (omega (arith, z .1, e)))) (two .moved i q (omega arith) lt)
     at i q ge lt (no n) =
         subst (λ (y : ℕ). In y q ↔ From (getD a i 0) (Lead G T x) q) (sym (two .others i (λ z. absurd (n (omega (arith, z .0, z .1, lt)))))) (one .moved i q ge (omega arith))
+
+pub next-start : (sets : List ℕ) (k hi : ℕ) → k ≤ hi → NextFilled sets k hi k
+next-start sets k hi le = record { from = omega arith; within = le; empty = λ i ge lt. absurd (omega arith) }
+
+pub next-more : (sets : List ℕ) (k hi at : ℕ) → at < hi → getD sets at 0 ≡ 0 → NextFilled sets k hi at → NextFilled sets k hi (at + 1)
+next-more sets k hi at lt zero n = record { from = omega (arith, n .from); within = omega arith; empty = λ i ge below. here i ge below (ℕ-discrete i at) }
+  where
+    here : (i : ℕ) → k ≤ i → i < at + 1 → Dec (i ≡ at) → getD sets i 0 ≡ 0
+    here i ge below (yes e) = ap (λ (m : ℕ). getD sets m 0) e ∙ zero
+    here i ge below (no o) = n .empty i ge (omega arith)
+
+pub moved-past : (G : Graph) (T : Mode) (x : ℕ) (map : List ℕ) (memo : Memo) (a b : List ℕ) (lo k hi r : ℕ) → NextFilled b k hi r → Moved G T x map memo a b lo k → Moved G T x map memo a b lo r
+moved-past G T x map memo a b lo k hi r next m =
+    record {
+      recalls = m .recalls;
+      fitting = m .fitting;
+      moved = λ i q ge lt. at i q ge lt (decLt i k);
+      others = λ i n. m .others i (λ z. n (z .0, omega (arith, z .1, next .from)));
+    }
+  where
+    at : (i q : ℕ) → lo ≤ i → i < r → Dec (i < k) → In (getD b i 0) q ↔ From (getD a i 0) (Lead G T x) q
+    at i q ge lt (yes y) = m .moved i q ge y
+    at i q ge lt (no n) =
+        let zero : getD b i 0 ≡ 0 = next .empty i (omega arith) lt in
+        let before : getD a i 0 ≡ 0 = sym (m .others i (λ z. n (z .1))) ∙ zero in
+        (λ h. absurd (none-in zero q h), λ h. absurd (none-in before (h .0) (h .1)))

@@ -1,6 +1,6 @@
 -- One pass over a word that follows all copies at once.
 --
--- TurningAll               == the invariant of turn_all; turns-start, turns-more, turns-end: it begins, one turn, its end
+-- TurningAll               == the invariant of turn_all; turns-start, turns-past, turns-more, turns-end: it begins, empty sets passed over, one turn, its end
 -- started                  == the end of start_copies
 -- walk-on                  == a walk and epsilon moves after it; stored-on, emptied-on: a copy and epsilon moves after it
 -- stored-more, stored-less, emptied-more, emptied-less == a copy and one letter more
@@ -25,7 +25,7 @@ use Rattle.decide.specs.declared.maps.Memo.{Memo}
 use Rattle.decide.specs.Graph.{Members, Fitting, From, Star, here, more, Graph, Edge, Free, Advance, Lead, EmptyCopy, Turn}
 use Rattle.decide.specs.Reach.{Walk, still, reads, Matches, Reach, begins, passes, moves, copies}
 use Rattle.decide.specs.Squares.{Ends, Turning}
-use Rattle.decide.specs.Sweep.{Moved, TurnsAt, Turned, Started, Stored, Emptied, ReadBy, Arrived, Sweeping}
+use Rattle.decide.specs.Sweep.{NextFilled, Moved, TurnsAt, Turned, Started, Stored, Emptied, ReadBy, Arrived, Sweeping}
 use Rattle.decide.proofs.SetCases.{members-as, none-in, row-cases}
 use Rattle.decide.proofs.Sweeps.{star-join}
 use Rattle.decide.proofs.CopyCases.{walk-forward, walk-last, walk-free}
@@ -59,6 +59,28 @@ module _ (h : ℕ) (w a : List ℕ) (lo j : ℕ) where
         back : (k q : ℕ) → In (getD a k 0) q ⊎ TurnsAt h w a lo j k q → In (getD a k 0) q ⊎ ((z : TurnsAt h w a lo j k q) × (z .from < i))
         back k q (inl y) = inl y
         back k q (inr z) = inr (z, omega (arith, z .before))
+
+    pub turns-past : (r : ℕ) → NextFilled b i j r → TurningAll h w ends a b lo r j
+    turns-past r next =
+        record {
+          kept = t .kept;
+          fitting = t .fitting;
+          low = omega (arith, t .low, next .from);
+          within = next .within;
+          members = λ k q. (λ y. to k q (t .members k q .0 y), λ y. back k q y);
+        }
+      where
+        to : (k q : ℕ) → In (getD a k 0) q ⊎ ((z : TurnsAt h w a lo j k q) × (z .from < i)) → In (getD a k 0) q ⊎ ((z : TurnsAt h w a lo j k q) × (z .from < r))
+        to k q (inl y) = inl y
+        to k q (inr z) = inr (z .0, omega (arith, z .1, next .from))
+
+        back : (k q : ℕ) → In (getD a k 0) q ⊎ ((z : TurnsAt h w a lo j k q) × (z .from < r)) → In (getD b k 0) q
+        back k q (inl y) = t .members k q .1 (inl y)
+        back k q (inr (z, below)) = at (decLt (z .from) i)
+          where
+            at : Dec (z .from < i) → In (getD b k 0) q
+            at (yes y) = t .members k q .1 (inr (z, y))
+            at (no n) = absurd (none-in (next .empty (z .from) (omega arith) below) q (t .members (z .from) q .1 (inl (z .stored))))
 
     pub turns-more : (s r u : ℕ) (ends′ : List ℕ) → i < j → j + (j - lo) ≤ length w → length w ≤ 255 → s ≡ getD b i 0 → Turning h w ends ends′ i j s r
         → Members u (λ q. In (getD b (j + (j - i)) 0) q ⊎ In r q) → TurningAll h w ends′ a (set b (j + (j - i)) u) lo (i + 1) j

@@ -4,6 +4,7 @@
 -- Learnt G T x map known set   == the same, and the states of a set are among the known ones
 -- Recalls G T map memo         == the map knows what the memo says, and the memo's set has the memo's image
 -- Recalled G T map memo x set  == the same, of the letter x and this set
+-- NextFilled sets k hi r       == r is the first place from k up to hi whose set is not 0, or hi
 -- Moved G T x map memo a b lo hi == the sets b are the sets a with those from lo up to hi moved on by x
 -- TurnsAt h w a lo j k q       == with q, of a place from lo up to j, storing ends at j, and the copy will end at k
 -- Turned h w ends a b lo j     == the sets b are the sets a with those states
@@ -43,6 +44,11 @@ pub record Recalled (G : Graph) (T : Mode) (map : List ℕ) (memo : Memo) (x set
   pub recalls : Recalls G T map memo
   pub letter : memo .letter ≡ x
   pub of : memo .set ≡ set
+
+pub record NextFilled (sets : List ℕ) (k hi r : ℕ) : Type 0 where
+  pub from : k ≤ r
+  pub within : r ≤ hi
+  pub empty : (i : ℕ) → k ≤ i → i < r → getD sets i 0 ≡ 0
 
 pub record Moved (G : Graph) (T : Mode) (x : ℕ) (map : List ℕ) (memo : Memo) (a b : List ℕ) (lo hi : ℕ) : Type 0 where
   pub recalls : Recalls G T map memo

@@ -7,7 +7,7 @@ ghost use lib.ListN.{getD};
 ghost use Rattle.stateset.specs.Set.{width, In};
 ghost use Rattle.decide.specs.declared.maps.Memo.{Memo};
 ghost use Rattle.decide.specs.Graph.{Members, Fitting, From, graph, Lead, Good};
-ghost use Rattle.decide.specs.Sweep.{Known, Learnt, Recalls, Recalled, Moved};
+ghost use Rattle.decide.specs.Sweep.{Known, Learnt, Recalls, Recalled, NextFilled, Moved};
 use crate::images;
 use fsbm::config::Mode;
 
@@ -134,6 +134,21 @@ fn move_set(
     found
 }
 
+// The first place from k up to hi whose set has a member; hi where there is none. Most sets are empty in most sweeps.
+pub fn next_filled(sets: &[u64; 256], k: usize, hi: usize) -> usize
+    requires { ⌜ (k ≤ hi) × (hi ≤ 256) ⌝ }
+    ensures { λ r. ⌜ NextFilled (now (sets .entry)) k hi r ⌝ }
+{
+    let mut at = k;
+    while at < hi {
+        if sets[at] != 0 {
+            return at;
+        }
+        at += 1;
+    }
+    at
+}
+
 // Moves the sets of the places from lo up to hi on by the letter x, which is that of the memo.
 pub fn move_on(
     targets: &[u64],
@@ -152,10 +167,10 @@ pub fn move_on(
     ensures { λ r. ⌜ Moved (graph (now (targets .entry)) (now (numbers .entry)) g h) mode x (now (map .exit)) r (now (sets .entry)) (now (sets .exit)) lo hi ⌝ }
 {
     let mut last = memo;
-    let mut k = lo;
+    let mut k = next_filled(sets, lo, hi);
     while k < hi {
         last = move_set(targets, numbers, g, h, mode, x, map, last, sets, k);
-        k += 1;
+        k = next_filled(sets, k + 1, hi);
     }
     last
 }

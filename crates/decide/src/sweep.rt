@@ -17,12 +17,12 @@ fn turn_all(h: u64, word: &[u8], ends: &mut [u8; 256], sets: &mut [u64; 256], lo
     requires { ⌜ (lo ≤ j) × (j + (j - lo) ≤ length (now word)) × (length (now word) ≤ 255) × Ends (now word) (now ends) (λ d. j) × Fitting 256 (now sets) ⌝ }
     ensures { λ r. ⌜ Turned h (now (word .entry)) (now (ends .exit)) (now (sets .entry)) (now (sets .exit)) lo j ⌝ }
 {
-    let mut i = lo;
+    let mut i = maps::next_filled(sets, lo, j);
     while i < j {
         let e = j + (j - i);
         let more = squares::turning(h, word, ends, i, j, sets[i]);
         sets[e] = stateset::union(sets[e], more);
-        i += 1;
+        i = maps::next_filled(sets, i + 1, j);
     }
 }
 
