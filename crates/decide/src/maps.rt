@@ -39,7 +39,7 @@ fn learn(
     let mut rest = stateset::difference(set, known);
     while rest != 0 {
         let p = stateset::lowest(rest) as usize;
-        rest = stateset::remove(rest, p);
+        rest = stateset::without_lowest(rest);
         map[p] = lead(targets, numbers, g, h, mode, p, x);
         all = stateset::add(all, p);
     }

@@ -32,17 +32,20 @@ pub struct Reached {
 
 // What a copy takes of the allowance at the end of the letters that it has stored, from i up to j: one, and where it turns to
 // matching as many more as letters are read for the matching half. The last matching half was read up to place, from the states of
-// before.
-fn cost(i: usize, j: usize, ready: u64, before: u64, place: usize) -> usize
+// before to those of reached: where there are none, nothing is read on.
+fn cost(i: usize, j: usize, ready: u64, before: u64, place: usize, reached: u64) -> usize
     requires { ⌜ (i ≤ j) × (place ≤ j) × (j ≤ 255) ⌝ }
 {
     if ready == 0 {
         return 1;
     }
-    if ready == before {
-        return j - place + 1;
+    if ready != before {
+        return j - i + 1;
     }
-    j - i + 1
+    if reached == 0 {
+        return 1;
+    }
+    j - place + 1
 }
 
 // Adds to the sets what the copies of at least one letter reach that begin at place i in the states of starts; last ends the first
@@ -86,7 +89,7 @@ fn copies_from(
         s = images::advance(targets, numbers, g, h, Mode::Buffering, s, x);
         j += 1;
         let ready = squares::turning(h, word, ends, i, j, s);
-        let taken = cost(i, j, ready, tail.ready, tail.place);
+        let taken = cost(i, j, ready, tail.ready, tail.place, tail.reached);
         if rest <= taken {
             return 0;
         }
@@ -188,12 +191,17 @@ fn letter_changes(word: &[u8]) -> usize
     changes
 }
 
-// The allowance for the copies of a word: how many steps of a set they may take before the word is swept instead. The sweep looks up
-// all states anew where the letter changes, so each change allows more steps.
-fn allowance(word: &[u8]) -> usize
+// The allowance for the copies of a word: how many steps of a set they may take before the word is swept instead. A sweep looks at
+// every place at each letter, whatever the table, and a step takes less time in a small table, so that more of them are allowed there.
+// Where letters change often most copies soon end, which a sweep does not make use of.
+fn allowance(word: &[u8], states: usize) -> usize
     requires { ⌜ length (now word) ≤ 255 ⌝ }
 {
-    word.len() * 4 + letter_changes(word) * 28 + 1
+    let changes = letter_changes(word) * 28;
+    if states <= 40 {
+        return word.len() * 12 + changes + 1;
+    }
+    word.len() * 4 + changes + 1
 }
 
 // Completes the sets of all places of a word, from those at its start. What is left of the allowance is returned, 0 where it does not
@@ -249,11 +257,11 @@ fn swept(
 // Time: for a word of n letters one step of a set for each place, which looks up each of its states. Copies are followed start by
 // start, one such step for each letter of the longest square from a start, and for each square with which storing ends one for each
 // letter of its matching half, those not counted again that the square before it has read from the same states, within an allowance
-// of 4 n such steps and 28 more for each place whose letter is not that of the place before. Past it the word is swept: each state is
-// looked up once for each letter and mode (the maps of up to 16 letters are kept; of more letters, those that share a row of the cache
-// take it from each other, and their states are looked up again), each such place copies at most four maps of 64 sets, and each copy
-// in work (at most n²/2 in all) takes a union of at most 64 sets, none where the copy before it is in the same states. Finding the
-// squares compares at most n² letters in all.
+// of 12 n such steps, 4 n in a table of more than 40 states, and 28 more for each place whose letter is not that of the place before.
+// Past it the word is swept: each state is looked up once for each letter and mode (the maps of up to 16 letters are kept; of more letters,
+// those that share a row of the cache take it from each other, and their states are looked up again), each such place copies at most
+// four maps of 64 sets, and each copy in work (at most n²/2 in all) takes a union of at most 64 sets, none where the copy before it is
+// in the same states. Finding the squares compares at most n² letters in all.
 // Memory: the 256 sets (2 KB) and 256 bytes; the sweep has its own of both, two lists of 64 sets, and two caches of maps (8 KB each).
 pub fn decide(
     m: Machine,
@@ -269,7 +277,15 @@ pub fn decide(
     let g = kinds.buffering;
     let h = kinds.matching;
     let mut r = start_at(kinds.initial);
-    let left = reach_all(targets, numbers, g, h, word, &mut r.sets, allowance(word));
+    let left = reach_all(
+        targets,
+        numbers,
+        g,
+        h,
+        word,
+        &mut r.sets,
+        allowance(word, m.states),
+    );
     r.end = r.sets[word.len()];
     if left == 0 {
         r = swept(targets, numbers, g, h, word, kinds.initial, r);

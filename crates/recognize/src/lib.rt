@@ -51,7 +51,8 @@ fn is_found(count: usize, needed: usize) -> bool
 }
 
 // Writes an accepting run of a word that the machine accepts to the front of run, and hands back the number of its entries: the run
-// that the search finds where it has room for the longest run that is needed, else one with the fewest entries.
+// that the search finds where it has room for the longest run that is needed, else one with the fewest entries, since of the search
+// nothing is promised.
 fn write_slowly(
     m: Machine,
     list: &[u16],
@@ -378,8 +379,9 @@ fn is_too_short(length: usize, needed: usize) -> bool
 // what stands past the run. It refuses 16 (the record and its list break the rules of a table), 9 (a word of more than 255 letters),
 // 8 (a letter that is not there), 17 (run shorter than 3 × states × (letters + 1), which is the length needed), in this order, before
 // the answer is known.
-// Time: on no the sets of states reached at each position; on yes also the search for a run along them, twice where the run is long, and
-// where it gives up the table of fewest entries from each configuration. Memory: on the stack, no heap; see docs/PERFORMANCE.md.
+// Time: on no the sets of states reached at each position; on yes also the search for a run along them and a check of the run, once more
+// where the run has more than 16 entries a letter; where no search finds a run, which no word is known to come to, the table of fewest
+// entries from each configuration. Memory: on the stack, no heap; see docs/PERFORMANCE.md.
 pub fn recognize(m: Machine, list: &[u16], word: &[u8], run: &mut [u16]) -> Recognized
     ensures { λ r. ⌜ Recognition m (now (list .entry)) (now (word .entry)) (now (run .entry)) (now (run .exit)) r ⌝ }
 {

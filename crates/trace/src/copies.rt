@@ -1,4 +1,4 @@
-// Copies back: from a point behind a copy to one before it.
+// Copies back: from a point behind a copy to one before it, by the copies that end there tried one by one.
 ghost use Prim.Native.Nat.{ℕ, _+_, _≤_, _<_};
 ghost use lib.ListN.{length};
 ghost use Rattle.decide.specs.Graph.{Good};
@@ -8,13 +8,23 @@ use decide::images;
 use fsbm::config::Mode;
 use tables::halves;
 
-// Where the search has come to: a point in normal mode, its place, how many letters may still be followed, and how many letters the
-// last copy stored that it came back by (0: none yet).
+// Where the search has come to: a point in normal mode, its place, how many letters may still be followed in vain, and how many letters
+// the last copy stored that it came back by (0: none yet).
 pub struct Place {
     pub at: usize,
     pub place: usize,
     pub left: usize,
     pub half: usize,
+}
+
+// Nowhere, with as many letters as may still be followed in vain.
+fn nowhere(left: usize) -> Place {
+    Place {
+        at: points::LOST,
+        place: 0,
+        left: left,
+        half: 0,
+    }
 }
 
 // What letters lead to, and how many of them were followed.
@@ -231,12 +241,7 @@ fn copy_back(
     let turned = stateset::intersection(first.set, h);
     let rest = spend(spend(left, 1), first.letters);
     if turned == 0 {
-        return Place {
-            at: points::LOST,
-            place: 0,
-            left: rest,
-            half: 0,
-        };
+        return nowhere(rest);
     }
     let second = follow(
         targets,
@@ -267,10 +272,13 @@ fn copy_back(
         at,
         out,
     );
+    if points::is_lost(begin) {
+        return nowhere(spend(rest, second.letters));
+    }
     Place {
         at: begin,
         place: i,
-        left: spend(rest, second.letters),
+        left: left,
         half: d,
     }
 }
@@ -309,12 +317,7 @@ pub fn half_back(
     let i = p - d - d;
     let starts = starts_at(sets, g, word, i, d);
     if starts == 0 {
-        return Place {
-            at: points::LOST,
-            place: 0,
-            left: left,
-            half: 0,
-        };
+        return nowhere(left);
     }
     copy_back(
         targets,
@@ -332,7 +335,7 @@ pub fn half_back(
     )
 }
 
-// Back from a point at place p by any copy that ends there, the longest first, as long as letters may be followed.
+// Back from a point at place p by any copy that ends there, the longest first, as long as letters may be followed in vain.
 fn longest_back(
     targets: &[u64],
     firsts: &[u16],
@@ -348,12 +351,7 @@ fn longest_back(
 ) -> Place
     requires { ⌜ Good (now targets) (now numbers) × (p ≤ length (now word)) × (p < 256) ⌝ }
 {
-    let mut tried = Place {
-        at: points::LOST,
-        place: 0,
-        left: left,
-        half: 0,
-    };
+    let mut tried = nowhere(left);
     let mut d = p / 2;
     while 0 < d {
         if tried.left == 0 {
@@ -381,8 +379,7 @@ fn longest_back(
     tried
 }
 
-// The same, with as many letters as the last copy tried first: runs often have many copies of one length. It is lost where the letters
-// that may be followed do not suffice.
+// The same, with as many letters as the last copy tried first: runs often have many copies of one length.
 pub fn quick_copy_back(
     targets: &[u64],
     firsts: &[u16],
@@ -399,6 +396,9 @@ pub fn quick_copy_back(
 ) -> Place
     requires { ⌜ Good (now targets) (now numbers) × (p ≤ length (now word)) × (p < 256) ⌝ }
 {
+    if left == 0 {
+        return nowhere(left);
+    }
     if half == 0 {
         return longest_back(targets, firsts, numbers, g, h, word, sets, p, left, at, out);
     }

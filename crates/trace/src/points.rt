@@ -79,33 +79,54 @@ pub fn come_to(mode: Mode, state: usize, out: &mut [u16], top: usize, entry: u16
     point(mode, state, put(out, top, entry))
 }
 
+// Which moves a mode may take between two sets: from the states of plain, none of them matching, to those of plain_to, and from those of
+// matching, all of them matching, to those of matching_to.
+pub struct Moves {
+    pub plain: u64,
+    pub plain_to: u64,
+    pub matching: u64,
+    pub matching_to: u64,
+}
+
+// The moves that a mode may take from the states of a set to those of `to`.
+pub fn allowed(g: u64, h: u64, mode: Mode, set: u64, to: u64) -> Moves {
+    let plain = stateset::difference(set, h);
+    let matching = stateset::intersection(set, h);
+    match mode {
+        Mode::Normal => Moves {
+            plain: stateset::difference(plain, g),
+            plain_to: to,
+            matching: stateset::difference(matching, g),
+            matching_to: stateset::difference(to, h),
+        },
+        Mode::Buffering => Moves {
+            plain: plain,
+            plain_to: stateset::difference(to, g),
+            matching: matching,
+            matching_to: stateset::difference(stateset::difference(to, g), h),
+        },
+        Mode::Emptying => Moves {
+            plain: 0,
+            plain_to: 0,
+            matching: matching,
+            matching_to: stateset::intersection(to, h),
+        },
+    }
+}
+
+// The set where the other is not empty, else none.
+fn if_any(set: u64, other: u64) -> u64 {
+    if other == 0 {
+        return 0;
+    }
+    set
+}
+
 // The states of a set from which a move may lead to q in a mode.
 fn sources(g: u64, h: u64, mode: Mode, set: u64, q: usize) -> u64 {
-    let matching = stateset::member(h, q);
-    match mode {
-        Mode::Normal => {
-            let free = stateset::difference(set, g);
-            if matching {
-                return stateset::difference(free, h);
-            }
-            free
-        }
-        Mode::Buffering => {
-            if stateset::member(g, q) {
-                return 0;
-            }
-            if matching {
-                return stateset::difference(set, h);
-            }
-            set
-        }
-        Mode::Emptying => {
-            if matching {
-                return stateset::intersection(set, h);
-            }
-            0
-        }
-    }
+    let all = allowed(g, h, mode, set, stateset::single(q));
+    let plain = if_any(all.plain, all.plain_to);
+    stateset::union(plain, if_any(all.matching, all.matching_to))
 }
 
 // A state of a set from which a transition with letter x leads to q, q itself where it is one, else the lowest; 64 where there is none.
@@ -119,7 +140,7 @@ fn source(targets: &[u64], numbers: &[u8; 256], set: u64, x: u8, q: usize) -> us
     let mut rest = set;
     while rest != 0 {
         let p = stateset::lowest(rest) as usize;
-        rest = stateset::remove(rest, p);
+        rest = stateset::without_lowest(rest);
         if stateset::member(targets[row + p], q) {
             return p;
         }

@@ -38,22 +38,12 @@ fn sources(
     requires { ⌜ Good (now targets) (now numbers) ⌝ }
 {
     let row = images::row_of(numbers, x);
-    let matching = stateset::intersection(set, h);
-    let plain = stateset::difference(set, h);
-    match mode {
-        Mode::Normal => {
-            let free = row_sources(targets, row, stateset::difference(plain, g), to);
-            let turned = row_sources(targets, row, matching, stateset::difference(to, h));
-            stateset::union(free, turned)
-        }
-        Mode::Buffering => {
-            let inside = stateset::difference(to, g);
-            let free = row_sources(targets, row, plain, inside);
-            let turned = row_sources(targets, row, matching, stateset::difference(inside, h));
-            stateset::union(free, turned)
-        }
-        Mode::Emptying => row_sources(targets, row, matching, stateset::intersection(to, h)),
-    }
+    let all = points::allowed(g, h, mode, set, to);
+    let plain = row_sources(targets, row, all.plain, all.plain_to);
+    stateset::union(
+        plain,
+        row_sources(targets, row, all.matching, all.matching_to),
+    )
 }
 
 // The states of a set from which epsilon moves lead to a state of `to` in a mode, and those of `to`.

@@ -129,7 +129,8 @@ fn begin(at: usize, out: &mut [u16]) -> usize {
     move_front(out, top)
 }
 
-// Searches a run of the word, and hands back how many entries it wrote to the front of out; 0 where it gave up.
+// Searches a run of the word, and hands back how many entries it wrote to the front of out; 0 where it found none that there is room
+// for. Copies are tried one by one until as many letters were followed in vain as the word has.
 fn search(
     targets: &[u64],
     firsts: &[u16],
@@ -151,7 +152,7 @@ fn search(
     let end = Place {
         at: points::point(Mode::Normal, stateset::lowest(ended) as usize, out.len()),
         place: n,
-        left: n * 4,
+        left: n,
         half: 0,
     };
     let back = walk_back(targets, firsts, numbers, g, h, word, sets, end, out);
@@ -166,11 +167,11 @@ fn search(
     begin(at, out)
 }
 
-// An accepting run of a word at the front of out, and the number of its entries; 0 where none was found in the time that the search
-// takes. It goes by the table of targets, the first transition of each of its sets, the states of each kind, and the states reached at
-// each place, but needs none of them to be right: what the search writes is checked entry by entry.
-// Time: for each place a look at the states before it; for each copy that is tried a set for each of its letters, at most 256 letters
-// for each letter of the word and 256 more in all; the run once more. Memory: 7 KB of stack.
+// An accepting run of a word at the front of out, and the number of its entries; 0 where none was found that out has room for. It goes
+// by the table of targets, the first transition of each of its sets, the states of each kind, and the states reached at each place, but
+// needs none of them to be right: what the search writes is checked entry by entry.
+// Time: for a word of n letters a look at the states before each place; a set for each letter of a copy, and for those of copies that
+// are tried in vain, about n in all; for copies found by shortest at most n²/8 sets more; the run once more. Memory: 8 KB of stack.
 pub fn find_run(
     m: Machine,
     list: &[u16],

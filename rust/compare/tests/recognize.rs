@@ -330,7 +330,7 @@ fn circle(states: usize) -> Machine {
 }
 
 /// Two copy zones in turn over one letter, the first of one letter and the second of two. Copies of every length begin
-/// at many places and are no good, so a search that tries them one by one gives up on long words.
+/// at many places and most lead nowhere, so a search that tries them one by one takes long.
 fn zones_in_turn() -> Machine {
     let marks = [5, 0, 8, 10, 4, 0, 8, 8, 10];
     let first = [(0, 0, 1), (1, 1, 1), (1, 0, 2), (2, 1, 3), (3, 0, 4)];
@@ -359,6 +359,119 @@ fn many_copies_tried() {
         );
     }
     counts.report("two copy zones in turn, one letter");
+}
+
+/// A chain, a loop or a circle of states with this mark, all letters leading on: where it begins and where it ends.
+fn part(
+    rng: &mut Rng,
+    letters: usize,
+    mark: u8,
+    marks: &mut Vec<u8>,
+    transitions: &mut Vec<(usize, usize, usize)>,
+) -> (usize, usize) {
+    let begin = marks.len();
+    let length = 1 + rng.below(5);
+    let circle = rng.once_in(2);
+    marks.resize(begin + length, mark);
+    for state in 0..length {
+        let next = match state + 1 == length {
+            true if circle => 0,
+            true => continue,
+            false => state + 1,
+        };
+        transitions.extend((1..=letters).map(|letter| (begin + state, letter, begin + next)));
+    }
+    let end = if circle {
+        rng.below(length)
+    } else {
+        length - 1
+    };
+    (begin, begin + end)
+}
+
+/// Copy zones in a circle, each of which stores and matches numbers of letters of its own; some lead back to the first.
+fn zone_circle(rng: &mut Rng, letters: usize) -> Machine {
+    let (mut marks, mut transitions) = (Vec::new(), Vec::new());
+    let mut last = None;
+    for _ in 0..1 + rng.below(5) {
+        let begin = marks.len();
+        marks.push(4);
+        let (store, stored) = part(rng, letters, 0, &mut marks, &mut transitions);
+        let (matching, matched) = part(rng, letters, 8, &mut marks, &mut transitions);
+        transitions.extend([(begin, 0, store), (stored, 0, matching)]);
+        if rng.once_in(3) {
+            transitions.push((begin, 1 + rng.below(letters), store));
+        }
+        transitions.extend(last.map(|last| (last, 0, begin)));
+        if rng.once_in(3) {
+            transitions.push((matched, 0, 0));
+            marks[matched] |= 2;
+        }
+        last = Some(matched);
+    }
+    let last = last.expect("a zone");
+    transitions.push((last, 0, 0));
+    marks[0] |= 1;
+    marks[last] |= 2;
+    if rng.once_in(2) {
+        // A plain state with a loop, so that copies begin at every place.
+        let plain = marks.len();
+        marks.push(2);
+        transitions.extend([(last, 0, plain), (plain, 0, 0)]);
+        transitions.extend((1..=letters).map(|letter| (plain, letter, plain)));
+    }
+    Machine::new(letters, &marks, &transitions)
+}
+
+/// A word with many squares: periodic, with all letters of a period different where there are so many, or a Fibonacci
+/// word; with a few letters changed.
+fn repetitive_word(rng: &mut Rng, letters: usize, length: usize) -> Vec<u8> {
+    let mut word: Vec<u8> = if rng.once_in(4) {
+        let (mut last, mut word) = (vec![1], vec![1, 1 + (letters > 1) as u8]);
+        while word.len() < length {
+            let next = [word.clone(), last].concat();
+            last = std::mem::replace(&mut word, next);
+        }
+        word
+    } else {
+        let period = rng.pick(&[1, 1, 2, 3, 5, letters]);
+        (0..length)
+            .map(|place| 1 + (place % period % letters) as u8)
+            .collect()
+    };
+    word.truncate(length);
+    for _ in 0..rng.pick(&[0, 0, 0, 1, 3]) {
+        if length > 0 {
+            word[rng.below(length)] = 1 + rng.below(letters) as u8;
+        }
+    }
+    word
+}
+
+#[test]
+fn zone_circles() {
+    let mut rng = Rng::new(20_240_019);
+    let machines = 2_000;
+    let mut inputs = Vec::new();
+    for _ in 0..machines {
+        let letters = rng.pick(&[1, 2, 3, 20, 40]);
+        let machine = zone_circle(&mut rng, letters);
+        for length in [rng.below(40), rng.below(130), 240 + rng.below(16)] {
+            let word = repetitive_word(&mut rng, letters, length);
+            inputs.push((machine.clone(), word, rng.below(3)));
+        }
+    }
+    let each = in_threads(&inputs, |(machine, word, more)| {
+        let mut counts = Counts::default();
+        Ready::new(machine).word(word, *more, &mut counts);
+        counts
+    });
+    let mut counts = Counts::default();
+    each.into_iter().for_each(|other| counts.add(other));
+    counts.report(&format!(
+        "{machines} circles of copy zones, words with many squares to 255 letters"
+    ));
+    assert!(counts.with_copies > 400 && counts.longest_word > 240);
 }
 
 #[test]

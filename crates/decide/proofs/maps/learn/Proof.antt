@@ -1,6 +1,6 @@
 use borrow.Author.Needs.{needs}
 use Rattle.decide.specs.Graph.{graph, Good}
-use Rattle.stateset.specs.Set.Laws.{in-lt, drop-lowest}
+use Rattle.stateset.specs.Set.Laws.{in-lt, drop-lowest, lowest-removed}
 use Rattle.stateset.specs.Set.{width, In}
 use lib.ListN.{length, getD}
 use lib.Count.{ones}
@@ -16,7 +16,7 @@ use Rattle.decide.proofs.maps.lead.Reads as lead-reads
 use Rattle.stateset.proofs.add.Reads as add-reads
 use Rattle.stateset.proofs.difference.Reads as difference-reads
 use Rattle.stateset.proofs.lowest.Reads as lowest-reads
-use Rattle.stateset.proofs.remove.Reads as remove-reads
+use Rattle.stateset.proofs.without_lowest.Reads as without-lowest-reads
 
 abbrev Inv-loop : tie.InvT-loop
 Inv-loop targets numbers g h mode x map₀ known set all₀ rest₀ map all rest = Good targets numbers × Learning (graph targets numbers g h) mode x map set all rest
@@ -41,8 +41,8 @@ cast-p : tie.Need-cast-p Inv-loop μ-loop
 cast-p c = search needs
 
 -- src/maps.rt:51:9
-remove-requires : tie.Need-remove-requires Inv-loop μ-loop
-remove-requires c κs = search needs
+without-lowest-requires : tie.Need-without-lowest-requires Inv-loop μ-loop
+without-lowest-requires c κs = search needs
 
 -- src/maps.rt:52:18
 lead-requires : tie.Need-lead-requires Inv-loop μ-loop
@@ -62,11 +62,11 @@ add-requires c κs = search needs
 
 -- src/maps.rt:49:5
 loop-less : tie.Need-loop-less Inv-loop μ-loop
-loop-less c = drop-lowest (c .before .before .before .before .before .loop .rest) (c .before .before .before .lowest .result) (c .before .before .remove .result) ((c .before .before .before .before .before .loop .inv) .1 .fits) (omega arith) (c .before .before .before .lowest .ensures) ((c .before .before .remove .ensures) .value)
+loop-less c = drop-lowest (c .before .before .before .before .before .loop .rest) (c .before .before .before .lowest .result) (c .before .before .without-lowest .result) ((c .before .before .before .before .before .loop .inv) .1 .fits) (omega arith) (c .before .before .before .lowest .ensures) (lowest-removed (c .before .before .before .lowest .ensures) (c .before .before .without-lowest .ensures) .value)
 
 -- src/maps.rt:49:5
 loop-again : tie.Need-loop-again Inv-loop μ-loop
-loop-again c = ((c .before .before .before .before .before .loop .inv) .0, learning-turn _ _ _ _ _ _ _ (c .before .before .before .lowest .result) _ _ _ ((c .before .before .before .before .before .loop .inv) .1) (in-lt {w = width} {x = (c .before .before .before .before .before .loop .rest)} {q = (c .before .before .before .lowest .result)} ((c .before .before .before .before .before .loop .inv) .1 .fits) ((c .before .before .before .lowest .ensures) .member (omega arith))) ((c .before .before .before .lowest .ensures) .member (omega arith)) (members-is (c .before .before .remove .ensures)) (c .before .lead .ensures) (members-is (c .add .ensures)))
+loop-again c = ((c .before .before .before .before .before .loop .inv) .0, learning-turn _ _ _ _ _ _ _ (c .before .before .before .lowest .result) _ _ _ ((c .before .before .before .before .before .loop .inv) .1) (in-lt {w = width} {x = (c .before .before .before .before .before .loop .rest)} {q = (c .before .before .before .lowest .result)} ((c .before .before .before .before .before .loop .inv) .1 .fits) ((c .before .before .before .lowest .ensures) .member (omega arith))) ((c .before .before .before .lowest .ensures) .member (omega arith)) (members-is (lowest-removed (c .before .before .before .lowest .ensures) (c .before .before .without-lowest .ensures))) (c .before .lead .ensures) (members-is (c .add .ensures)))
 
 -- src/maps.rt:33:1
 returns : tie.Need-returns Inv-loop μ-loop
@@ -82,7 +82,7 @@ learn-spec =
     loop-holds
     lowest-requires
     cast-p
-    remove-requires
+    without-lowest-requires
     lead-requires
     mul-map
     element-write-map

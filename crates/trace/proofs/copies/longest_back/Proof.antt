@@ -16,9 +16,11 @@ Inv-loop targets firsts numbers g h word sets p left at out₀ tried₀ d₀ out
 abbrev μ-loop : tie.MeasureT-loop
 μ-loop targets firsts numbers g h word sets p left at out₀ tried₀ d₀ out tried d = d
 
--- src/copies.rt:359:5
+nowhere-requires : tie.Need-nowhere-requires Inv-loop μ-loop
+nowhere-requires c κs = tt
+
 loop-holds : tie.Need-loop-holds Inv-loop μ-loop
-loop-holds c = ((c .before .before .before .before .pre) .0, (c .before .before .before .before .pre) .1, (c .before .before .before .before .pre) .2, omega arith, refl)
+loop-holds c = ((c .before .before .before .before .before .pre) .0, (c .before .before .before .before .before .pre) .1, (c .before .before .before .before .before .pre) .2, omega arith, refl)
 
 -- src/copies.rt:361:13
 same-length : tie.Need-same-length Inv-loop μ-loop
@@ -70,6 +72,7 @@ longest-back-spec =
     (tie.spec
     Inv-loop
     μ-loop
+    nowhere-requires
     loop-holds
     same-length
     returns

@@ -1,4 +1,4 @@
-use Rattle.stateset.specs.Set.Laws.{in-lt, drop-lowest}
+use Rattle.stateset.specs.Set.Laws.{in-lt, drop-lowest, lowest-removed}
 use Rattle.stateset.specs.Set.{width}
 use lib.Count.{ones}
 use lib.ListN.{length}
@@ -13,7 +13,7 @@ use Rattle.decide.proofs.images.row_of.Reads as row-of-reads
 use Rattle.stateset.proofs.intersection.Reads as intersection-reads
 use Rattle.stateset.proofs.lowest.Reads as lowest-reads
 use Rattle.stateset.proofs.member.Reads as member-reads
-use Rattle.stateset.proofs.remove.Reads as remove-reads
+use Rattle.stateset.proofs.without_lowest.Reads as without-lowest-reads
 
 abbrev Inv-loop : tie.InvT-loop
 Inv-loop targets numbers set x q row rest₀ rest = (row + width ≤ length targets) × (rest < 2 ^ 64)
@@ -62,8 +62,8 @@ cast-p : tie.Need-cast-p Inv-loop μ-loop
 cast-p c = search needs
 
 -- src/points.rt:123:9
-remove-requires : tie.Need-remove-requires Inv-loop μ-loop
-remove-requires c κs = tt
+without-lowest-requires : tie.Need-without-lowest-requires Inv-loop μ-loop
+without-lowest-requires c κs = tt
 
 -- src/points.rt:124:37
 add-member : tie.Need-add-member Inv-loop μ-loop
@@ -87,11 +87,11 @@ returns-2 c = tt
 
 -- src/points.rt:121:5
 loop-less : tie.Need-loop-less Inv-loop μ-loop
-loop-less c = drop-lowest (c .before .before .before .before .before .before .loop .rest) (c .before .before .before .before .lowest .result) (c .before .before .before .remove .result) ((c .before .before .before .before .before .before .loop .inv) .1) (omega arith) (c .before .before .before .before .lowest .ensures) ((c .before .before .before .remove .ensures) .value)
+loop-less c = drop-lowest (c .before .before .before .before .before .before .loop .rest) (c .before .before .before .before .lowest .result) (c .before .before .before .without-lowest .result) ((c .before .before .before .before .before .before .loop .inv) .1) (omega arith) (c .before .before .before .before .lowest .ensures) (lowest-removed (c .before .before .before .before .lowest .ensures) (c .before .before .before .without-lowest .ensures) .value)
 
 -- src/points.rt:121:5
 loop-again : tie.Need-loop-again Inv-loop μ-loop
-loop-again c = ((c .before .before .before .before .before .before .loop .inv) .0, (c .before .before .before .remove .ensures) .fits)
+loop-again c = ((c .before .before .before .before .before .before .loop .inv) .0, (c .before .before .before .without-lowest .ensures) .fits)
 
 -- src/points.rt:113:1
 returns-3 : tie.Need-returns-3 Inv-loop μ-loop
@@ -113,7 +113,7 @@ source-spec =
     loop-holds
     lowest-requires
     cast-p
-    remove-requires
+    without-lowest-requires
     add-member
     mul-member
     shared-slice-read-member
