@@ -18,10 +18,10 @@ use Rattle.stateset.specs.Set.{width, In}
 use Rattle.stateset.specs.Set.Laws.{in-lt, empty-in}
 use Rattle.fsbm.specs.declared.config.Mode.{Mode}
 use Rattle.adjacency.specs.Index.Laws.{zeros-at}
-use Rattle.decide.specs.Graph.{Fitting, Graph, Lead}
+use Rattle.images.specs.Graph.{Fitting, Graph, Lead}
 use Rattle.decide.specs.Sweep.{Known, Recalls}
 use Rattle.decide.specs.Cache.{cell, Cached}
-use Rattle.decide.proofs.SetCases.{members-none, none-in, row-cases}
+use Rattle.images.proofs.SetCases.{members-none, none-in, row-cases}
 
 module _ (cache : List ℕ) (row p v : ℕ) where
   cell-other : (r k : ℕ) → (r * 66 + k ≡ row * 66 + p → ⊥) → cell (set cache (row * 66 + p) v) r k ≡ cell cache r k

@@ -22,9 +22,9 @@ use Rattle.stateset.specs.Set.{width, In}
 use Rattle.fsbm.specs.declared.config.Mode.{Mode}
 use Rattle.fsbm.specs.declared.config.Mode.the-variants.{Normal, Buffering, Emptying}
 use Rattle.decide.specs.declared.walks.Tail.{Tail}
-use Rattle.decide.specs.Graph.{Members, Fitting, From, Star, here, more, Graph, Edge, Free, Advance}
+use Rattle.images.specs.Graph.{Members, Fitting, From, Star, here, more, Graph, Edge, Free, Advance}
 use Rattle.decide.specs.Reach.{Walk, still, reads, Tailed, Matches, LastSquare, CopyTo, Copied}
-use Rattle.decide.proofs.SetCases.{members-as, members-none, none-in, row-cases}
+use Rattle.images.proofs.SetCases.{members-as, members-none, none-in, row-cases}
 
 module _ {G : Graph} {w : List ℕ} {T : Mode} {i p : ℕ} where
   pub walk-forward : {j q : ℕ} → Walk G w T i p j q → i ≤ j

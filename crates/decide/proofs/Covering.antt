@@ -25,7 +25,7 @@ use Rattle.fsbm.specs.declared.config.Mode.the-variants.{Normal, Buffering, Emp
 use Rattle.fsbm.specs.Moves.Laws.{advanced-fits}
 use Rattle.language.specs.Strings.{drop-reads, slice-reads, slice-grows, slice-none}
 use Rattle.targets.specs.Targets.{Read}
-use Rattle.decide.specs.Graph.{Star, here, more, Graph, graph, Edge, Free, Advance}
+use Rattle.images.specs.Graph.{Star, here, more, Graph, graph, Edge, Free, Advance}
 use Rattle.decide.specs.Reach.{Walk, still, reads, Matches, Reach, begins, passes, moves, copies}
 use Rattle.decide.proofs.CopyCases.{walk-forward}
 use Rattle.decide.proofs.StageCases.{reach-inside}

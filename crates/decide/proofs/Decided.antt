@@ -19,10 +19,10 @@ use Rattle.graphs.specs.Bools.{same-truth}
 use Rattle.language.specs.Bound.{accepted-iff-published}
 use Rattle.adjacency.specs.Index.Laws.{sorted}
 use Rattle.targets.specs.Targets.{Targets}
-use Rattle.decide.specs.declared.images.Kinds.{Kinds}
-use Rattle.decide.specs.Graph.{Members, graph, KindsOf}
+use Rattle.images.specs.declared.Kinds.{Kinds}
+use Rattle.images.specs.Graph.{Members, graph, KindsOf}
 use Rattle.decide.specs.Reach.{Reach}
-use Rattle.decide.proofs.SetCases.{none-in, some-member}
+use Rattle.images.proofs.SetCases.{none-in, some-member}
 use Rattle.decide.proofs.Tables.{Table, initial-says, final-says, buffering-says, matching-says}
 use Rattle.decide.proofs.Runs.{reach-run}
 use Rattle.decide.proofs.Covering.{run-reach}

@@ -4,9 +4,7 @@ pub mod Covering
 pub mod Decided
 pub mod MapCases
 pub mod Runs
-pub mod SetCases
 pub mod SquareCases
 pub mod StageCases
-pub mod Sweeps
 pub mod SweepCases
 pub mod Tables

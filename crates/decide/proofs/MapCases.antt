@@ -20,9 +20,9 @@ use Rattle.stateset.specs.Set.Laws.{in?, empty-in}
 use Rattle.fsbm.specs.declared.config.Mode.{Mode}
 use Rattle.adjacency.specs.Index.Laws.{zeros-at}
 use Rattle.decide.specs.declared.maps.Memo.{Memo}
-use Rattle.decide.specs.Graph.{Members, Fitting, From, Star, here, more, Graph, Edge, Free, Advance, Lead}
+use Rattle.images.specs.Graph.{Members, Fitting, From, Star, here, more, Graph, Edge, Free, Advance, Lead}
 use Rattle.decide.specs.Sweep.{Known, Learnt, Recalls, Recalled, NextFilled, Moved}
-use Rattle.decide.proofs.SetCases.{members-as, members-none, none-in, row-cases}
+use Rattle.images.proofs.SetCases.{members-as, members-none, none-in, row-cases}
 
 module _ (G : Graph) (T : Mode) (x : ℕ) where
   pub lead-set : (p one near r : ℕ) → Members one (λ q. q ≡ p) → Members near (From one (Free G T)) → Members r (From near (Advance G T x)) → Members r (Lead G T x p)

@@ -17,10 +17,10 @@ use native.Mathlib.Decide.{ℕ-discrete, decLt}
 use lib.ListN.{length, getD, set, length-set, replicate}
 use Rattle.stateset.specs.Set.{In}
 use Rattle.adjacency.specs.Index.Laws.{zeros-at}
-use Rattle.decide.specs.Graph.{Members}
+use Rattle.images.specs.Graph.{Members}
 use Rattle.decide.specs.Reach.{Matches}
 use Rattle.decide.specs.Squares.{Repeats, RunEnd, Ends, EndsAt, Keeps, Ended, Squared, Turning}
-use Rattle.decide.proofs.SetCases.{members-as, members-none, none-in, row-cases}
+use Rattle.images.proofs.SetCases.{members-as, members-none, none-in, row-cases}
 
 pub ends-start : (w : List ℕ) (at : ℕ → ℕ) → ((d : ℕ) → 0 < d → 0 < at d) → Ends w (replicate 256 0) at
 ends-start w at some =

@@ -22,12 +22,12 @@ use Rattle.fsbm.specs.declared.config.Mode.{Mode}
 use Rattle.fsbm.specs.declared.config.Mode.the-variants.{Normal, Buffering, Emptying}
 use Rattle.adjacency.specs.Index.Laws.{zeros-at}
 use Rattle.decide.specs.declared.maps.Memo.{Memo}
-use Rattle.decide.specs.Graph.{Members, Fitting, From, Star, here, more, Graph, Edge, Free, Advance, Lead, EmptyCopy, Turn}
+use Rattle.images.specs.Graph.{Members, Fitting, From, Star, here, more, Graph, Edge, Free, Advance, Lead, EmptyCopy, Turn}
 use Rattle.decide.specs.Reach.{Walk, still, reads, Matches, Reach, begins, passes, moves, copies}
 use Rattle.decide.specs.Squares.{Ends, Turning}
 use Rattle.decide.specs.Sweep.{NextFilled, Moved, TurnsAt, Turned, Started, Stored, Emptied, ReadBy, Arrived, Sweeping}
-use Rattle.decide.proofs.SetCases.{members-as, none-in, row-cases}
-use Rattle.decide.proofs.Sweeps.{star-join}
+use Rattle.images.proofs.SetCases.{members-as, none-in, row-cases}
+use Rattle.images.proofs.Sweeps.{star-join}
 use Rattle.decide.proofs.CopyCases.{walk-forward, walk-last, walk-free}
 use Rattle.decide.proofs.StageCases.{fitting-set, turns}
 

@@ -20,7 +20,7 @@ use Rattle.fsbm.specs.declared.machine.Machine.{Machine}
 use Rattle.fsbm.specs.declared.config.Mode.{Mode}
 use Rattle.adjacency.specs.Index.Laws.{Sorted}
 use Rattle.targets.specs.Targets.{Read, Targets}
-use Rattle.decide.specs.Graph.{Members, graph, May, Edge, Good}
+use Rattle.images.specs.Graph.{Members, graph, May, Edge, Good}
 
 pub good-table : {m : Machine} {list w numbers targets : List ℕ} → Targets m list w numbers targets → Good targets numbers
 good-table t = record { size = t .size; rows = t .rows }

@@ -9,7 +9,7 @@ use mathlib.Core.List.{List}
 use lib.ListN.{length, getD}
 use Rattle.stateset.specs.Set.{width, In}
 use Rattle.fsbm.specs.declared.config.Mode.{Mode}
-use Rattle.decide.specs.Graph.{Graph, Lead}
+use Rattle.images.specs.Graph.{Graph, Lead}
 
 abbrev pub cell : List ℕ → ℕ → ℕ → ℕ
 cell cache row k = getD cache (row * 66 + k) 0

@@ -1,5 +1,4 @@
 pub mod Cache
-pub mod Graph
 pub mod Reach
 pub mod Squares
 pub mod Sweep

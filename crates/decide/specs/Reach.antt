@@ -20,7 +20,7 @@ use Rattle.stateset.specs.Set.{width, In}
 use Rattle.fsbm.specs.declared.config.Mode.{Mode}
 use Rattle.fsbm.specs.declared.config.Mode.the-variants.{Normal, Buffering, Emptying}
 use Rattle.decide.specs.declared.walks.Tail.{Tail}
-use Rattle.decide.specs.Graph.{Members, From, Star, Graph, Fitting, Edge, Free, Turn, Advance}
+use Rattle.images.specs.Graph.{Members, From, Star, Graph, Fitting, Edge, Free, Turn, Advance}
 
 pub data Walk (G : Graph) (w : List ℕ) (T : Mode) (i p : ℕ) : ℕ → ℕ → Type 0 where
   still : {j q : ℕ} → j ≡ i → Free G T p q → Walk G w T i p j q

@@ -14,7 +14,7 @@ use mathlib.Core.Bool.{Bool, true}
 use mathlib.Core.List.{List}
 use lib.ListN.{length, getD}
 use Rattle.stateset.specs.Set.{In}
-use Rattle.decide.specs.Graph.{Members}
+use Rattle.images.specs.Graph.{Members}
 use Rattle.decide.specs.Reach.{Matches}
 
 pub record Repeats (w : List ℕ) (d q r : ℕ) : Type 0 where

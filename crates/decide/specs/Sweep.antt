@@ -23,7 +23,7 @@ use Rattle.stateset.specs.Set.{width, In}
 use Rattle.fsbm.specs.declared.config.Mode.{Mode}
 use Rattle.fsbm.specs.declared.config.Mode.the-variants.{Normal, Buffering, Emptying}
 use Rattle.decide.specs.declared.maps.Memo.{Memo}
-use Rattle.decide.specs.Graph.{Members, Fitting, From, Star, Graph, Edge, Free, Lead, Turn}
+use Rattle.images.specs.Graph.{Members, Fitting, From, Star, Graph, Edge, Free, Lead, Turn}
 use Rattle.decide.specs.Reach.{Walk, Matches, Reach}
 use Rattle.decide.specs.Squares.{Ends}
 

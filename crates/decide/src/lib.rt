@@ -1,6 +1,5 @@
 // Whether a machine accepts a word, by sets of states. Transitions are looked up in a table of sets, made for the letters of the word.
 //
-// images   the image of a set under the transitions that a mode may take, and closures under epsilon moves
 // maps     for each state the set of states that it leads to by one letter; sets moved on by it
 // cache    the maps of letters kept for when they come again
 // walks    the states that a stretch of letters leads to
@@ -9,7 +8,6 @@
 // places   the states reached at each place of a word; decide
 // words    is_accepted: the same with a table made for the word
 pub mod cache;
-pub mod images;
 pub mod maps;
 pub mod places;
 pub mod squares;

@@ -6,9 +6,8 @@ ghost use mathlib.Core.Path.{_≡_};
 ghost use lib.ListN.{getD};
 ghost use Rattle.stateset.specs.Set.{width, In};
 ghost use Rattle.decide.specs.declared.maps.Memo.{Memo};
-ghost use Rattle.decide.specs.Graph.{Members, Fitting, From, graph, Lead, Good};
+ghost use Rattle.images.specs.Graph.{Members, Fitting, From, graph, Lead, Good};
 ghost use Rattle.decide.specs.Sweep.{Known, Learnt, Recalls, Recalled, NextFilled, Moved};
-use crate::images;
 use fsbm::config::Mode;
 
 // The states that p leads to by epsilon moves, a move that reads the letter x and epsilon moves after it.

@@ -9,18 +9,17 @@ ghost use Rattle.stateset.specs.Set.{width, In};
 ghost use Rattle.fsbm.specs.Machine.{wellFormed};
 ghost use Rattle.fsbm.specs.Accepted.{accepted};
 ghost use Rattle.fsbm.specs.declared.config.Mode.the-variants.{Normal, Buffering, Emptying};
-ghost use Rattle.decide.specs.Graph.{Members, Fitting, Graph, graph, Good, KindsOf};
+ghost use Rattle.images.specs.Graph.{Members, Fitting, Graph, graph, Good, KindsOf};
 ghost use Rattle.targets.specs.Targets.{Targets};
 ghost use Rattle.decide.specs.Reach.{LastSquare, Copied, Passed, Stage, Reach};
 ghost use Rattle.decide.specs.Squares.{Ends};
-use crate::images;
-use crate::images::Kinds;
 use crate::squares;
 use crate::sweep;
 use crate::walks;
 use crate::walks::Tail;
 use fsbm::config::Mode;
 use fsbm::machine::Machine;
+use images::Kinds;
 
 // The reached set of each place of a word, one for each place 0 to 255; the set at its end, and whether one of those states is final:
 // 0 and no before that is known.

@@ -31,7 +31,8 @@ fn later(a: usize, b: usize) -> usize
     a
 }
 
-// The same or a place past stop, from the place up to which letters were compared before at this distance.
+// A place up to which the letters from q on repeat those d places before them; where it is before stop, the letter there does not. It
+// goes on from the place up to which letters were compared before at this distance.
 fn known_end(word: &[u8], ends: &mut [u8; 256], d: usize, q: usize, stop: usize) -> usize
     requires { ⌜ (0 < d) × (d ≤ q) × (q ≤ stop) × (stop ≤ length (now word)) × (length (now word) ≤ 255) × EndsAt (now word) (now ends) d q ⌝ }
     ensures { λ r. ⌜ Ended (now (word .entry)) (now (ends .entry)) (now (ends .exit)) d q stop r ⌝ }

@@ -2,12 +2,11 @@
 ghost use Prim.Native.Nat.{_+_, _-_, _≤_, _<_};
 ghost use mathlib.Core.Path.{_≡_};
 ghost use lib.ListN.{length};
-ghost use Rattle.decide.specs.Graph.{Members, Fitting, graph, Good};
+ghost use Rattle.images.specs.Graph.{Members, Fitting, graph, Good};
 ghost use Rattle.decide.specs.Reach.{Reach};
 ghost use Rattle.decide.specs.Squares.{Ends};
 ghost use Rattle.decide.specs.Sweep.{Turned, Started};
 use crate::cache;
-use crate::images;
 use crate::maps;
 use crate::squares;
 use fsbm::config::Mode;

@@ -2,9 +2,8 @@
 ghost use Prim.Native.Nat.{ℕ, _≤_};
 ghost use mathlib.Core.Path.{_≡_};
 ghost use lib.ListN.{length};
-ghost use Rattle.decide.specs.Graph.{Members, From, graph, Good};
+ghost use Rattle.images.specs.Graph.{Members, From, graph, Good};
 ghost use Rattle.decide.specs.Reach.{Walk, Tailed};
-use crate::images;
 use fsbm::config::Mode;
 
 // The states that the letters of a word from k up to j lead to in a mode from the states of a set that is closed under epsilon moves,

@@ -6,7 +6,6 @@ ghost use lib.ListN.{length, getD};
 ghost use Rattle.fsbm.specs.Machine.{wellFormed};
 ghost use Rattle.fsbm.specs.Accepted.{accepted};
 ghost use Rattle.targets.specs.Targets.{Numbered};
-use crate::images;
 use crate::places;
 use fsbm::machine::Machine;
 

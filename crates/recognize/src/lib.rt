@@ -8,14 +8,13 @@ ghost use Rattle.fsbm.specs.Machine.{wellFormed};
 ghost use Rattle.fsbm.specs.Accepted.{accepted, runBound};
 ghost use Rattle.fsbm.specs.Answers.{tableAndWord};
 ghost use Rattle.targets.specs.Targets.{Numbered};
-ghost use Rattle.decide.specs.Graph.{Good};
+ghost use Rattle.images.specs.Graph.{Good};
 ghost use Rattle.recognize.specs.Recognition.{longestRecognized, AtFront, Recognition};
-use decide::images;
-use decide::images::Kinds;
 use decide::places;
 use fsbm::answer;
 use fsbm::answer::Refusal;
 use fsbm::machine::Machine;
+use images::Kinds;
 use runs::walk;
 
 // The answer of recognize: turned down, no, or yes with the number of entries of the run.
@@ -69,7 +68,7 @@ fn write_slowly(
     ensures { λ r. ⌜ AtFront m (now (list .entry)) (now (word .entry)) r (now (run .entry)) (now (run .exit)) ⌝ }
 {
     let mut out: [u16; 49152] = [0; 49152];
-    let count = trace::walk::find_run(m, list, table, firsts, numbers, kinds, word, sets, &mut out);
+    let count = witness::find_run(m, list, table, firsts, numbers, kinds, word, sets, &mut out);
     if is_found(count, needed) {
         copy_front(&out, count, run);
         return count;
@@ -94,7 +93,7 @@ fn write_with(
     requires { ⌜ (wellFormed m (now list) ≡ true) × (length (now word) ≤ 255) × (accepted m (now list) (now word) ≡ true) × (needed ≡ runBound m (length (now word))) × (needed ≤ length (now run)) × Good (now table) (now numbers) ⌝ }
     ensures { λ r. ⌜ AtFront m (now (list .entry)) (now (word .entry)) r (now (run .entry)) (now (run .exit)) ⌝ }
 {
-    let count = trace::walk::find_run(m, list, table, firsts, numbers, kinds, word, sets, out);
+    let count = witness::find_run(m, list, table, firsts, numbers, kinds, word, sets, out);
     if count == 0 {
         return write_slowly(
             m,

@@ -1,10 +1,9 @@
 // Copies back: from a point behind a copy to one before it, by the copies that end there tried one by one.
 ghost use Prim.Native.Nat.{ℕ, _+_, _≤_, _<_};
 ghost use lib.ListN.{length};
-ghost use Rattle.decide.specs.Graph.{Good};
+ghost use Rattle.images.specs.Graph.{Good};
 use crate::levels;
 use crate::points;
-use decide::images;
 use fsbm::config::Mode;
 use tables::halves;
 

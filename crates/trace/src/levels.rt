@@ -1,8 +1,7 @@
 // Moves back that read nothing: along the levels of sets that such moves reach one by one.
 ghost use Prim.Native.Nat.{ℕ, _<_};
-ghost use Rattle.decide.specs.Graph.{Good};
+ghost use Rattle.images.specs.Graph.{Good};
 use crate::points;
-use decide::images;
 use fsbm::config::Mode;
 
 // A set of states for each mode.

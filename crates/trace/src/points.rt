@@ -1,7 +1,6 @@
 // The configuration that a search has come back to, and the single moves back from it.
 ghost use Prim.Native.Nat.{ℕ, _<_};
-ghost use Rattle.decide.specs.Graph.{Good};
-use decide::images;
+ghost use Rattle.images.specs.Graph.{Good};
 use fsbm::config::Mode;
 
 // A point is a number: 256 times where the entries begin that lead on from there, at the back of a slice, 64 times the mode's number (0

@@ -3,11 +3,10 @@
 ghost use Prim.Native.Nat.{ℕ, _+_, _≤_, _<_};
 ghost use lib.ListN.{length};
 ghost use Rattle.stateset.specs.Set.{width};
-ghost use Rattle.decide.specs.Graph.{Good};
+ghost use Rattle.images.specs.Graph.{Good};
 use crate::copies;
 use crate::copies::Place;
 use crate::points;
-use decide::images;
 use fsbm::config::Mode;
 
 // The states of a set for which a row of the table has a state of `to`.

@@ -1,20 +1,14 @@
 // The search for a run from the end of a word back to its beginning.
 ghost use Prim.Native.Nat.{_≤_};
-ghost use mathlib.Core.Path.{_≡_};
-ghost use mathlib.Core.Bool.{true};
 ghost use lib.ListN.{length};
-ghost use Rattle.fsbm.specs.Machine.{wellFormed};
-ghost use Rattle.decide.specs.Graph.{Good};
-ghost use Rattle.trace.specs.Found.{Found};
+ghost use Rattle.images.specs.Graph.{Good};
 use crate::copies;
 use crate::copies::Place;
 use crate::levels;
 use crate::points;
 use crate::shortest;
-use decide::images::Kinds;
 use fsbm::config::Mode;
-use fsbm::machine::Machine;
-use fsbm::run;
+use images::Kinds;
 
 // Back from a point in normal mode to one at an earlier place: by a letter, or by a copy.
 fn place_back(
@@ -129,9 +123,13 @@ fn begin(at: usize, out: &mut [u16]) -> usize {
     move_front(out, top)
 }
 
-// Searches a run of the word, and hands back how many entries it wrote to the front of out; 0 where it found none that there is room
-// for. Copies are tried one by one until as many letters were followed in vain as the word has.
-fn search(
+// Searches an accepting run of a word, and hands back how many entries it wrote to the front of out; 0 where it found none that there is
+// room for. It goes by the table of targets, the first transition of each of its sets, the states of each kind, and the states reached at
+// each place, but needs none of them to be right, and promises nothing: whoever takes the run has to check it. Copies are tried one by
+// one until as many letters were followed in vain as the word has.
+// Time: for a word of n letters a look at the states before each place; a set for each letter of a copy, and for those of copies that
+// are tried in vain, about n in all; for copies found by shortest at most n²/8 sets more. Memory: 8 KB of stack.
+pub fn search(
     targets: &[u64],
     firsts: &[u16],
     numbers: &[u8; 256],
@@ -165,33 +163,4 @@ fn search(
         return 0;
     }
     begin(at, out)
-}
-
-// An accepting run of a word at the front of out, and the number of its entries; 0 where none was found that out has room for. It goes
-// by the table of targets, the first transition of each of its sets, the states of each kind, and the states reached at each place, but
-// needs none of them to be right: what the search writes is checked entry by entry.
-// Time: for a word of n letters a look at the states before each place; a set for each letter of a copy, and for those of copies that
-// are tried in vain, about n in all; for copies found by shortest at most n²/8 sets more; the run once more. Memory: 8 KB of stack.
-pub fn find_run(
-    m: Machine,
-    list: &[u16],
-    targets: &[u64],
-    firsts: &[u16],
-    numbers: &[u8; 256],
-    kinds: Kinds,
-    word: &[u8],
-    sets: &[u64; 256],
-    out: &mut [u16],
-) -> usize
-    requires { ⌜ (wellFormed m (now list) ≡ true) × Good (now targets) (now numbers) × (length (now word) ≤ 255) ⌝ }
-    ensures { λ r. ⌜ Found m (now (list .entry)) (now (word .entry)) (now (out .exit)) r ⌝ }
-{
-    let count = search(targets, firsts, numbers, kinds, word, sets, out);
-    if out.len() < count {
-        return 0;
-    }
-    if run::accepts_front(m, list, word, &*out, count) {
-        return count;
-    }
-    0
 }

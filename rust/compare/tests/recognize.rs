@@ -147,6 +147,18 @@ impl<'a> Ready<'a> {
     }
 }
 
+/// Compares the answer for each machine and word, with a run slice of so many elements more than it needs.
+fn compare_all(inputs: &[(Machine, Vec<u8>, usize)]) -> Counts {
+    let each = in_threads(inputs, |(machine, word, more)| {
+        let mut counts = Counts::default();
+        Ready::new(machine).word(word, *more, &mut counts);
+        counts
+    });
+    let mut counts = Counts::default();
+    each.into_iter().for_each(|other| counts.add(other));
+    counts
+}
+
 /// Compares a call that is refused. Returns the refusal and the length needed.
 fn refused(record: &Record, list: &[u16], word: &[u8], length: usize) -> (u8, usize) {
     let mut untouched = filled(length);
@@ -461,13 +473,7 @@ fn zone_circles() {
             inputs.push((machine.clone(), word, rng.below(3)));
         }
     }
-    let each = in_threads(&inputs, |(machine, word, more)| {
-        let mut counts = Counts::default();
-        Ready::new(machine).word(word, *more, &mut counts);
-        counts
-    });
-    let mut counts = Counts::default();
-    each.into_iter().for_each(|other| counts.add(other));
+    let counts = compare_all(&inputs);
     counts.report(&format!(
         "{machines} circles of copy zones, words with many squares to 255 letters"
     ));
@@ -502,13 +508,7 @@ fn long_words() {
             inputs.push((machine.clone(), word, rng.below(3)));
         }
     }
-    let each = in_threads(&inputs, |(machine, word, more)| {
-        let mut counts = Counts::default();
-        Ready::new(machine).word(word, *more, &mut counts);
-        counts
-    });
-    let mut counts = Counts::default();
-    each.into_iter().for_each(|other| counts.add(other));
+    let counts = compare_all(&inputs);
     counts.report(&format!(
         "{machines} machines of zones to 64 states, words to 255 letters"
     ));

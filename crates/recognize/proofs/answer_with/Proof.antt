@@ -10,7 +10,7 @@ use Rattle.recognize.proofs.answer_with.Statement.{statement}
 use Rattle.recognize.proofs.answer_with.Tie as tie
 use Rattle.recognize.proofs.answer_with.Reads as reads
 use Rattle.recognize.proofs.answer_with.Lts as lts
-use Rattle.decide.proofs.images.kinds_of.Reads as kinds-of-reads
+use Rattle.images.proofs.kinds_of.Reads as kinds-of-reads
 use Rattle.decide.proofs.places.decide.Reads as decide-reads
 use Rattle.recognize.proofs.write.Reads as write-reads
 use Rattle.targets.proofs.fill.Reads as fill-reads

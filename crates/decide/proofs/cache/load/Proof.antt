@@ -4,7 +4,7 @@ use Prim.Native.Nat.{_≤_, _<_, _-_}
 use mathlib.Core.Path.{refl, sym, ap, subst}
 use Rattle.stateset.specs.Set.{width}
 use Rattle.fsbm.specs.declared.config.Mode.{Mode}
-use Rattle.decide.specs.Graph.{Fitting, Graph}
+use Rattle.images.specs.Graph.{Fitting, Graph}
 use Rattle.decide.specs.Sweep.{Recalls}
 use Rattle.decide.specs.Cache.{Cached}
 use Rattle.decide.proofs.CacheCases.{Loading, loading-start, loading-turn, loading-end}

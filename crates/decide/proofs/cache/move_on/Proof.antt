@@ -1,4 +1,4 @@
-use Rattle.decide.specs.Graph.{graph}
+use Rattle.images.specs.Graph.{graph}
 use borrow.Author.Needs.{needs}
 use Rattle.decide.proofs.cache.move_on.Statement.{statement}
 use Rattle.decide.proofs.cache.move_on.Tie as tie

@@ -2,7 +2,7 @@ use borrow.Author.Needs.{needs}
 use native.Mathlib.Omega.{arith}
 use Prim.Native.Nat.{_≤_, _<_, _-_}
 use Rattle.fsbm.specs.declared.config.Mode.{Mode}
-use Rattle.decide.specs.Graph.{Graph}
+use Rattle.images.specs.Graph.{Graph}
 use Rattle.decide.specs.Sweep.{Known}
 use Rattle.decide.proofs.CacheCases.{Storing, storing-start, storing-turn, storing-end}
 use Rattle.decide.proofs.cache.store.Statement.{statement}

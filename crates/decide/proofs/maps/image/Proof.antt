@@ -1,14 +1,14 @@
 -- `decide::maps::image` meets its contract. Assumes nothing.
 use borrow.Author.Needs.{needs}
 use native.Mathlib.Omega.{arith}
-use Rattle.decide.specs.Graph.{Members, Fitting}
+use Rattle.images.specs.Graph.{Members, Fitting}
 use Rattle.stateset.specs.Set.Laws.{in-lt, drop-lowest, lowest-removed}
 use Rattle.stateset.specs.Set.{width, In}
 use lib.ListN.{length, getD}
 use lib.Count.{ones}
 use Prim.Native.Nat.{ℕ, _<_}
-use Rattle.decide.proofs.SetCases.{members-is}
-use Rattle.decide.proofs.Sweeps.{Swept, swept-start, swept-turn, swept-end}
+use Rattle.images.proofs.SetCases.{members-is}
+use Rattle.images.proofs.Sweeps.{Swept, swept-start, swept-turn, swept-end}
 use Rattle.decide.proofs.maps.image.Statement.{statement}
 use Rattle.decide.proofs.maps.image.Tie as tie
 

@@ -1,14 +1,14 @@
-use Rattle.decide.proofs.SetCases.{single-is}
+use Rattle.images.proofs.SetCases.{single-is}
 use Rattle.decide.proofs.MapCases.{lead-set}
-use Rattle.decide.specs.Graph.{graph}
+use Rattle.images.specs.Graph.{graph}
 use borrow.Author.Needs.{needs}
 use native.Mathlib.Omega.{arith}
 use Rattle.decide.proofs.maps.lead.Statement.{statement}
 use Rattle.decide.proofs.maps.lead.Tie as tie
 use Rattle.decide.proofs.maps.lead.Reads as reads
 use Rattle.decide.proofs.maps.lead.Lts as lts
-use Rattle.decide.proofs.images.advance.Reads as advance-reads
-use Rattle.decide.proofs.images.close_set.Reads as close-set-reads
+use Rattle.images.proofs.advance.Reads as advance-reads
+use Rattle.images.proofs.close_set.Reads as close-set-reads
 use Rattle.stateset.proofs.single.Reads as single-reads
 
 -- src/maps.rt:20:59

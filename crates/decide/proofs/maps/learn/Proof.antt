@@ -1,12 +1,12 @@
 use borrow.Author.Needs.{needs}
-use Rattle.decide.specs.Graph.{graph, Good}
+use Rattle.images.specs.Graph.{graph, Good}
 use Rattle.stateset.specs.Set.Laws.{in-lt, drop-lowest, lowest-removed}
 use Rattle.stateset.specs.Set.{width, In}
 use lib.ListN.{length, getD}
 use lib.Count.{ones}
 use Prim.Native.Nat.{ℕ, _<_}
 use native.Mathlib.Omega.{arith}
-use Rattle.decide.proofs.SetCases.{members-is}
+use Rattle.images.proofs.SetCases.{members-is}
 use Rattle.decide.proofs.MapCases.{Learning, learning-start, learning-turn, learning-end}
 use Rattle.decide.proofs.maps.learn.Statement.{statement}
 use Rattle.decide.proofs.maps.learn.Tie as tie

@@ -1,7 +1,7 @@
 -- `decide::maps::move_on` meets its contract. Assumes nothing.
 use Rattle.decide.proofs.MapCases.{moved-start, moved-past, moved-more, moved-to}
 use Rattle.decide.specs.Sweep.{Moved}
-use Rattle.decide.specs.Graph.{graph, Good}
+use Rattle.images.specs.Graph.{graph, Good}
 use Prim.Native.Nat.{_≤_, _-_}
 use mathlib.Core.Path.{_≡_, refl}
 use native.Mathlib.Omega.{arith}

@@ -1,5 +1,5 @@
 use mathlib.Core.Path.{_≡_, refl}
-use Rattle.decide.specs.Graph.{graph}
+use Rattle.images.specs.Graph.{graph}
 use Rattle.decide.proofs.MapCases.{moved-none, moved-one}
 use borrow.Author.Needs.{needs}
 use native.Mathlib.Omega.{arith}

@@ -1,7 +1,7 @@
 use Rattle.decide.specs.Sweep.{Known}
 use Prim.Native.Nat.{ℕ}
 use mathlib.Core.Path.{_≡_, refl, subst}
-use Rattle.decide.specs.Graph.{graph}
+use Rattle.images.specs.Graph.{graph}
 use Rattle.decide.proofs.MapCases.{image-known}
 use borrow.Author.Needs.{needs}
 use native.Mathlib.Omega.{arith}

@@ -1,18 +1,18 @@
 use Rattle.decide.proofs.CopyCases.{Copying, copying-start, copying-turn, copying-pass, copying-dead, copying-end, tailed-start, tailed-at}
-use Rattle.decide.proofs.SetCases.{members-is}
+use Rattle.images.proofs.SetCases.{members-is}
 use Prim.Native.Nat.{ℕ, _≤_, _<_, _+_, _-_}
 use lib.ListN.{length}
 use Rattle.decide.specs.Squares.{Ends}
 use Rattle.decide.specs.Reach.{Tailed}
-use Rattle.decide.specs.Graph.{graph, Good}
+use Rattle.images.specs.Graph.{graph, Good}
 use borrow.Author.Needs.{needs}
 use native.Mathlib.Omega.{arith}
 use Rattle.decide.proofs.places.copies_from.Statement.{statement}
 use Rattle.decide.proofs.places.copies_from.Tie as tie
 use Rattle.decide.proofs.places.copies_from.Reads as reads
 use Rattle.decide.proofs.places.copies_from.Lts as lts
-use Rattle.decide.proofs.images.advance.Reads as advance-reads
-use Rattle.decide.proofs.images.close_set.Reads as close-set-reads
+use Rattle.images.proofs.advance.Reads as advance-reads
+use Rattle.images.proofs.close_set.Reads as close-set-reads
 use Rattle.decide.proofs.places.cost.Reads as cost-reads
 use Rattle.decide.proofs.squares.turning.Reads as turning-reads
 use Rattle.decide.proofs.walks.tail_to.Reads as tail-to-reads

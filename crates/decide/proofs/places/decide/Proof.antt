@@ -2,10 +2,10 @@
 use borrow.Author.Needs.{needs}
 use native.Mathlib.Omega.{arith}
 use Rattle.decide.proofs.Decided.{decided}
-use Rattle.decide.proofs.SetCases.{members-is}
+use Rattle.images.proofs.SetCases.{members-is}
 use Rattle.decide.proofs.StageCases.{stage-end}
 use Rattle.decide.proofs.Tables.{good-table}
-use Rattle.decide.specs.Graph.{Members, graph}
+use Rattle.images.specs.Graph.{Members, graph}
 use Rattle.decide.specs.Reach.{Reach}
 use Rattle.decide.specs.declared.places.Reached.{Reached}
 use lib.ListN.{length}

@@ -1,6 +1,6 @@
-use Rattle.decide.specs.Graph.{graph}
+use Rattle.images.specs.Graph.{graph}
 use Prim.Native.Nat.{ℕ, _≤_, _<_, _+_, _-_}
-use Rattle.decide.proofs.SetCases.{members-is}
+use Rattle.images.proofs.SetCases.{members-is}
 use Rattle.decide.proofs.CopyCases.{copied-none}
 use Rattle.decide.proofs.StageCases.{passed-none, passed-over, passed-read, passed-copies, read-fitting}
 use borrow.Author.Needs.{needs}
@@ -10,8 +10,8 @@ use Rattle.decide.proofs.places.pass_place.Statement.{statement}
 use Rattle.decide.proofs.places.pass_place.Tie as tie
 use Rattle.decide.proofs.places.pass_place.Reads as reads
 use Rattle.decide.proofs.places.pass_place.Lts as lts
-use Rattle.decide.proofs.images.close_place.Reads as close-place-reads
-use Rattle.decide.proofs.images.read_set.Reads as read-set-reads
+use Rattle.images.proofs.close_place.Reads as close-place-reads
+use Rattle.images.proofs.read_set.Reads as read-set-reads
 use Rattle.decide.proofs.places.copies_from.Reads as copies-from-reads
 use Rattle.decide.proofs.squares.last_square.Reads as last-square-reads
 use Rattle.stateset.proofs.intersection.Reads as intersection-reads

@@ -2,7 +2,7 @@
 use native.Mathlib.Omega.{arith}
 use Rattle.decide.specs.Reach.{Stage}
 use Rattle.decide.specs.Squares.{Ends}
-use Rattle.decide.specs.Graph.{graph, Good, Fitting}
+use Rattle.images.specs.Graph.{graph, Good, Fitting}
 use lib.ListN.{length}
 use Prim.Native.Nat.{ℕ, _≤_, _<_, _+_, _-_}
 use Rattle.decide.proofs.StageCases.{stage-turn, stage-to}

@@ -1,5 +1,5 @@
 use Rattle.graphs.specs.Search.Laws.{not-both}
-use Rattle.decide.proofs.SetCases.{members-is}
+use Rattle.images.proofs.SetCases.{members-is}
 use Rattle.decide.proofs.SquareCases.{turning-none, turning-some, turning-apart}
 use borrow.Author.Needs.{needs}
 use native.Mathlib.Omega.{arith}

@@ -1,5 +1,5 @@
-use Rattle.decide.specs.Graph.{graph}
-use Rattle.decide.proofs.SetCases.{members-is}
+use Rattle.images.specs.Graph.{graph}
+use Rattle.images.proofs.SetCases.{members-is}
 use Rattle.decide.proofs.SweepCases.{started}
 use borrow.Author.Needs.{needs}
 use native.Mathlib.Omega.{arith}
@@ -7,8 +7,8 @@ use Rattle.decide.proofs.sweep.start_copies.Statement.{statement}
 use Rattle.decide.proofs.sweep.start_copies.Tie as tie
 use Rattle.decide.proofs.sweep.start_copies.Reads as reads
 use Rattle.decide.proofs.sweep.start_copies.Lts as lts
-use Rattle.decide.proofs.images.close_place.Reads as close-place-reads
-use Rattle.decide.proofs.images.read_set.Reads as read-set-reads
+use Rattle.images.proofs.close_place.Reads as close-place-reads
+use Rattle.images.proofs.read_set.Reads as read-set-reads
 use Rattle.stateset.proofs.intersection.Reads as intersection-reads
 
 -- src/sweep.rt:68:60

@@ -2,13 +2,13 @@ use Rattle.decide.proofs.SweepCases.{sweeping-start, sweeping-turn, swe
 use Rattle.decide.proofs.SquareCases.{ends-start, ends-later}
 use Rattle.decide.proofs.MapCases.{recalls-start}
 use Rattle.decide.proofs.StageCases.{fitting-set}
-use Rattle.decide.proofs.SetCases.{members-is}
+use Rattle.images.proofs.SetCases.{members-is}
 use Rattle.decide.proofs.CacheCases.{cached-none}
 use Rattle.decide.specs.Cache.{Cached}
 use Rattle.decide.specs.Squares.{Ends}
 use Rattle.decide.specs.Sweep.{Recalls, Sweeping}
 use Rattle.decide.specs.Reach.{Reach}
-use Rattle.decide.specs.Graph.{Members, graph, Good}
+use Rattle.images.specs.Graph.{Members, graph, Good}
 use Rattle.fsbm.specs.declared.config.Mode.the-variants.{Normal, Buffering, Emptying}
 use lib.ListN.{length}
 use Prim.Native.Nat.{ℕ, _≤_, _<_, _+_, _-_}
@@ -19,7 +19,7 @@ use Rattle.decide.proofs.sweep.sweep.Statement.{statement}
 use Rattle.decide.proofs.sweep.sweep.Tie as tie
 use Rattle.decide.proofs.sweep.sweep.Reads as reads
 use Rattle.decide.proofs.sweep.sweep.Lts as lts
-use Rattle.decide.proofs.images.close_place.Reads as close-place-reads
+use Rattle.images.proofs.close_place.Reads as close-place-reads
 use Rattle.decide.proofs.cache.move_on.Reads as move-on-reads
 use Rattle.decide.proofs.maps.nothing.Reads as nothing-reads
 use Rattle.decide.proofs.sweep.first_start.Reads as first-start-reads

@@ -1,6 +1,6 @@
 -- `decide::sweep::turn_all` meets its contract. Assumes nothing.
 use Rattle.decide.proofs.SweepCases.{TurningAll, turns-start, turns-past, turns-more, turns-end}
-use Rattle.decide.proofs.SetCases.{members-is}
+use Rattle.images.proofs.SetCases.{members-is}
 use lib.ListN.{length}
 use Prim.Native.Nat.{_≤_, _+_, _-_}
 use mathlib.Core.Path.{_≡_, refl}

@@ -1,12 +1,12 @@
 use Rattle.decide.proofs.CopyCases.{tailed-on, tailed-anew}
-use Rattle.decide.specs.Graph.{graph}
+use Rattle.images.specs.Graph.{graph}
 use mathlib.Core.Path.{refl}
 use native.Mathlib.Omega.{arith}
 use Rattle.decide.proofs.walks.tail_to.Statement.{statement}
 use Rattle.decide.proofs.walks.tail_to.Tie as tie
 use Rattle.decide.proofs.walks.tail_to.Reads as reads
 use Rattle.decide.proofs.walks.tail_to.Lts as lts
-use Rattle.decide.proofs.images.close_set.Reads as close-set-reads
+use Rattle.images.proofs.close_set.Reads as close-set-reads
 use Rattle.decide.proofs.walks.walk_on.Reads as walk-on-reads
 
 -- src/walks.rt:65:13

@@ -1,6 +1,6 @@
 use Rattle.decide.proofs.CopyCases.{walks-turn, walks-dead, walks-to}
 use Rattle.decide.specs.Reach.{Walk}
-use Rattle.decide.specs.Graph.{Members, From, graph, Good}
+use Rattle.images.specs.Graph.{Members, From, graph, Good}
 use lib.ListN.{length}
 use Prim.Native.Nat.{ℕ, _<_, _≤_, _-_, _+_}
 use borrow.Author.Needs.{needs}
@@ -9,7 +9,7 @@ use Rattle.decide.proofs.walks.walk_on.Statement.{statement}
 use Rattle.decide.proofs.walks.walk_on.Tie as tie
 use Rattle.decide.proofs.walks.walk_on.Reads as reads
 use Rattle.decide.proofs.walks.walk_on.Lts as lts
-use Rattle.decide.proofs.images.advance.Reads as advance-reads
+use Rattle.images.proofs.advance.Reads as advance-reads
 
 abbrev Inv-loop : tie.InvT-loop
 Inv-loop targets numbers g h mode word k j s near₀ at₀ near at = Good targets numbers × (k ≤ at) × (at ≤ j) × (j ≤ length word) × ((i set : ℕ) → i ≤ k → Members s (From set (λ p q. Walk (graph targets numbers g h) word mode i p k q)) → Members near (From set (λ p q. Walk (graph targets numbers g h) word mode i p at q)))

@@ -6,7 +6,7 @@ use Rattle.decide.proofs.words.accepts_with.Statement.{statement}
 use Rattle.decide.proofs.words.accepts_with.Tie as tie
 use Rattle.decide.proofs.words.accepts_with.Reads as reads
 use Rattle.decide.proofs.words.accepts_with.Lts as lts
-use Rattle.decide.proofs.images.kinds_of.Reads as kinds-of-reads
+use Rattle.images.proofs.kinds_of.Reads as kinds-of-reads
 use Rattle.decide.proofs.places.decide.Reads as decide-reads
 use Rattle.targets.proofs.fill.Reads as fill-reads
 

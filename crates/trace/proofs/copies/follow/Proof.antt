@@ -1,6 +1,6 @@
 -- `trace::copies::follow` meets its contract. Assumes nothing.
 use native.Mathlib.Omega.{arith}
-use Rattle.decide.specs.Graph.{Good}
+use Rattle.images.specs.Graph.{Good}
 use Prim.Native.Nat.{_<_, _≤_, _-_}
 use Rattle.trace.proofs.copies.follow.Statement.{statement}
 use Rattle.trace.proofs.copies.follow.Tie as tie

@@ -1,7 +1,7 @@
 use mathlib.Core.Path.{_≡_, refl, _∙_}
 use Prim.Native.Nat.{_<_}
 use lib.ListN.{length}
-use Rattle.decide.specs.Graph.{Good}
+use Rattle.images.specs.Graph.{Good}
 use native.Mathlib.Omega.{arith}
 use Rattle.trace.proofs.copies.unread.Statement.{statement}
 use Rattle.trace.proofs.copies.unread.Tie as tie

@@ -1,6 +1,6 @@
 use mathlib.Core.Path.{_≡_, refl, _∙_}
 use lib.ListN.{length}
-use Rattle.decide.specs.Graph.{Good}
+use Rattle.images.specs.Graph.{Good}
 use native.Mathlib.Omega.{arith}
 use Rattle.trace.proofs.levels.down.Statement.{statement}
 use Rattle.trace.proofs.levels.down.Tie as tie

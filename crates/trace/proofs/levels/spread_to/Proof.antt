@@ -1,4 +1,4 @@
-use Rattle.decide.specs.Graph.{Good}
+use Rattle.images.specs.Graph.{Good}
 use Prim.Native.Nat.{_-_}
 use native.Mathlib.Omega.{arith}
 use Rattle.trace.proofs.levels.spread_to.Statement.{statement}

@@ -4,7 +4,7 @@ use Rattle.trace.proofs.points.number.Statement.{statement}
 use Rattle.trace.proofs.points.number.Tie as tie
 use Rattle.trace.proofs.points.number.Reads as reads
 use Rattle.trace.proofs.points.number.Lts as lts
-use Rattle.decide.proofs.images.row_of.Reads as row-of-reads
+use Rattle.images.proofs.row_of.Reads as row-of-reads
 use Rattle.stateset.proofs.full.Reads as full-reads
 use Rattle.stateset.proofs.intersection.Reads as intersection-reads
 use Rattle.stateset.proofs.size.Reads as size-reads

@@ -9,7 +9,7 @@ use Rattle.trace.proofs.points.source.Statement.{statement}
 use Rattle.trace.proofs.points.source.Tie as tie
 use Rattle.trace.proofs.points.source.Reads as reads
 use Rattle.trace.proofs.points.source.Lts as lts
-use Rattle.decide.proofs.images.row_of.Reads as row-of-reads
+use Rattle.images.proofs.row_of.Reads as row-of-reads
 use Rattle.stateset.proofs.intersection.Reads as intersection-reads
 use Rattle.stateset.proofs.lowest.Reads as lowest-reads
 use Rattle.stateset.proofs.member.Reads as member-reads

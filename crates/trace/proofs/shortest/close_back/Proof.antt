@@ -1,7 +1,7 @@
 -- `trace::shortest::close_back` stays inside the table. Assumes nothing.
 use native.Mathlib.Omega.{arith}
 use Prim.Native.Nat.{_≤_, _-_}
-use Rattle.decide.specs.Graph.{Good}
+use Rattle.images.specs.Graph.{Good}
 use Rattle.trace.proofs.shortest.close_back.Statement.{statement}
 use Rattle.trace.proofs.shortest.close_back.Tie as tie
 use Rattle.trace.proofs.shortest.close_back.Reads as reads

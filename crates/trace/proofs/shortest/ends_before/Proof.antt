@@ -1,12 +1,12 @@
 -- `trace::shortest::ends_before` stays inside the table. Assumes nothing.
 use native.Mathlib.Omega.{arith}
 use Prim.Native.Nat.{_≤_, _-_}
-use Rattle.decide.specs.Graph.{Good}
+use Rattle.images.specs.Graph.{Good}
 use Rattle.trace.proofs.shortest.ends_before.Statement.{statement}
 use Rattle.trace.proofs.shortest.ends_before.Tie as tie
 use Rattle.trace.proofs.shortest.ends_before.Reads as reads
 use Rattle.trace.proofs.shortest.ends_before.Lts as lts
-use Rattle.decide.proofs.images.close_set.Reads as close-set-reads
+use Rattle.images.proofs.close_set.Reads as close-set-reads
 use Rattle.stateset.proofs.intersection.Reads as intersection-reads
 use Rattle.stateset.proofs.single.Reads as single-reads
 use Rattle.stateset.proofs.union.Reads as union-reads

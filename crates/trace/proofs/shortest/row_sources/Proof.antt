@@ -10,7 +10,7 @@ use Rattle.trace.proofs.shortest.row_sources.Statement.{statement}
 use Rattle.trace.proofs.shortest.row_sources.Tie as tie
 use Rattle.trace.proofs.shortest.row_sources.Reads as reads
 use Rattle.trace.proofs.shortest.row_sources.Lts as lts
-use Rattle.decide.proofs.images.add_if.Reads as add-if-reads
+use Rattle.images.proofs.add_if.Reads as add-if-reads
 use Rattle.stateset.proofs.empty.Reads as empty-reads
 use Rattle.stateset.proofs.intersection.Reads as intersection-reads
 use Rattle.stateset.proofs.lowest.Reads as lowest-reads

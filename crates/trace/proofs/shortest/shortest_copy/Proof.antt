@@ -2,7 +2,7 @@
 use native.Mathlib.Omega.{arith}
 use Prim.Native.Nat.{_+_, _≤_, _<_, _-_}
 use lib.ListN.{length}
-use Rattle.decide.specs.Graph.{Good}
+use Rattle.images.specs.Graph.{Good}
 use Rattle.trace.proofs.shortest.shortest_copy.Statement.{statement}
 use Rattle.trace.proofs.shortest.shortest_copy.Tie as tie
 use Rattle.trace.proofs.shortest.shortest_copy.Reads as reads

@@ -5,7 +5,7 @@ use Rattle.trace.proofs.shortest.sources.Statement.{statement}
 use Rattle.trace.proofs.shortest.sources.Tie as tie
 use Rattle.trace.proofs.shortest.sources.Reads as reads
 use Rattle.trace.proofs.shortest.sources.Lts as lts
-use Rattle.decide.proofs.images.row_of.Reads as row-of-reads
+use Rattle.images.proofs.row_of.Reads as row-of-reads
 use Rattle.stateset.proofs.union.Reads as union-reads
 use Rattle.trace.proofs.points.allowed.Reads as allowed-reads
 use Rattle.trace.proofs.shortest.row_sources.Reads as row-sources-reads

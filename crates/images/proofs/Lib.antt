@@ -1,0 +1,2 @@
+pub mod SetCases
+pub mod Sweeps

@@ -1,0 +1,105 @@
+-- What the functions on sets of states compute: images and closures of a set under the transitions that a mode may take.
+--
+-- Members r P            == r is a set of states whose members are the states of which P holds
+-- Fitting n sets         == a list of n sets of states
+-- From set R q           == q is R-related to some member of the set
+-- Star R p q             == q is reached from p by any number of R-steps
+-- Graph                  == the table of where transitions lead, the numbers of its rows, the set of buffering states, the set of matching states
+-- May g h T p q          == mode T may take a transition from p to q (document 01, "How a run moves")
+-- RowEdge targets row g h T p q == the row of the table that begins there has q for the state p, and mode T may take a transition from p to q
+-- Edge G T x p q         == the table has q for letter x and the state p, and mode T may take a transition from p to q
+-- Free G T p q           == q is reached from p in mode T by epsilon moves
+-- Advance G T x p q      == q is reached from p in mode T by a move that reads x and then epsilon moves
+-- Lead G T x p q         == q is reached from p in mode T by epsilon moves, a move that reads x, and epsilon moves
+-- EmptyCopy G p q        == from p in normal mode to q in normal mode by a copy of nothing, in epsilon moves
+-- Turn G p q             == an epsilon move in normal mode, or an empty copy
+-- Good targets numbers   == each letter has a row in the table
+-- Kind marks states b set == the set of the states below a number whose mark has the bit of value b
+-- KindsOf marks states k == the four sets of states by their marks
+use Prim.Native.Nat.{ℕ, _+_, _*_, _/_, _%_, _^_, _≤_, _<_}
+use mathlib.Core.Path.{_≡_}
+use mathlib.Core.Logic.{_↔_, _⊎_}
+use mathlib.Core.List.{List}
+use lib.ListN.{length, getD}
+use Rattle.stateset.specs.Set.{width, In}
+use Rattle.fsbm.specs.Machine.{markOf}
+use Rattle.fsbm.specs.declared.config.Mode.{Mode}
+use Rattle.fsbm.specs.declared.config.Mode.the-variants.{Normal, Buffering, Emptying}
+use Rattle.images.specs.declared.Kinds.{Kinds}
+
+pub record Members (r : ℕ) (P : ℕ → Type 0) : Type 0 where
+  pub fits : r < 2 ^ width
+  pub members : (q : ℕ) → In r q ↔ P q
+
+-- n sets of states
+pub record Fitting (n : ℕ) (sets : List ℕ) : Type 0 where
+  pub size : length sets ≡ n
+  pub each : (k : ℕ) → getD sets k 0 < 2 ^ width
+
+abbrev pub From : ℕ → (ℕ → ℕ → Type 0) → ℕ → Type 0
+From set R q = (p : ℕ) × In set p × R p q
+
+pub data Star (R : ℕ → ℕ → Type 0) : ℕ → ℕ → Type 0 where
+  here : {p : ℕ} → Star R p p
+  more : {p q r : ℕ} → Star R p q → R q r → Star R p r
+
+pub record Graph : Type 0 where
+  pub targets : List ℕ
+  pub numbers : List ℕ
+  pub buffering : ℕ
+  pub matching : ℕ
+
+abbrev pub graph : List ℕ → List ℕ → ℕ → ℕ → Graph
+graph targets numbers g h = record { targets = targets; numbers = numbers; buffering = g; matching = h }
+
+-- normal: not both ends matching, and not from a buffering state; buffering: not both matching, and not into a buffering state;
+-- emptying: both matching
+abbrev pub May : ℕ → ℕ → Mode → ℕ → ℕ → Type 0
+May g h Normal p q = (In h p × In h q → ⊥) × (In g p → ⊥)
+May g h Buffering p q = (In h p × In h q → ⊥) × (In g q → ⊥)
+May g h Emptying p q = In h p × In h q
+
+abbrev pub RowEdge : List ℕ → ℕ → ℕ → ℕ → Mode → ℕ → ℕ → Type 0
+RowEdge targets row g h T p q = In (getD targets (row + p) 0) q × May g h T p q
+
+pub record Edge (G : Graph) (T : Mode) (x p q : ℕ) : Type 0 where
+  pub state : p < width
+  pub target : In (getD (G .targets) (getD (G .numbers) x 0 * 64 + p) 0) q
+  pub may : May (G .buffering) (G .matching) T p q
+
+abbrev pub Free : Graph → Mode → ℕ → ℕ → Type 0
+Free G T = Star (Edge G T 0)
+
+pub record Advance (G : Graph) (T : Mode) (x p q : ℕ) : Type 0 where
+  pub letter : 0 < x
+  pub middle : ℕ
+  pub edge : Edge G T x p middle
+  pub free : Free G T middle q
+
+pub record Lead (G : Graph) (T : Mode) (x p q : ℕ) : Type 0 where
+  pub middle : ℕ
+  pub free : Free G T p middle
+  pub advance : Advance G T x middle q
+
+pub record EmptyCopy (G : Graph) (p q : ℕ) : Type 0 where
+  pub begins : In (G .buffering) p
+  pub middle : ℕ
+  pub storing : Free G Buffering p middle
+  pub turns : In (G .matching) middle
+  pub emptying : Free G Emptying middle q
+
+abbrev pub Turn : Graph → ℕ → ℕ → Type 0
+Turn G p q = Edge G Normal 0 p q ⊎ EmptyCopy G p q
+
+pub record Good (targets numbers : List ℕ) : Type 0 where
+  pub size : length numbers ≡ 256
+  pub rows : (x : ℕ) → getD numbers x 0 * 64 + 64 ≤ length targets
+
+abbrev pub Kind : List ℕ → ℕ → ℕ → ℕ → Type 0
+Kind marks states b set = Members set (λ q. (q < states) × (markOf marks q / b % 2 ≡ 1))
+
+pub record KindsOf (marks : List ℕ) (states : ℕ) (k : Kinds) : Type 0 where
+  pub initial : Kind marks states 1 (k .initial)
+  pub finals : Kind marks states 2 (k .finals)
+  pub buffering : Kind marks states 4 (k .buffering)
+  pub matching : Kind marks states 8 (k .matching)

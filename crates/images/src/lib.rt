@@ -1,0 +1,244 @@
+// Images and closures of sets of states under the transitions that a mode may take. The table targets says where the transitions of
+// each letter lead from each state, and numbers which row of it a letter has; letter 0, epsilon, has row 0. g is the set of buffering
+// states, h the set of matching states.
+ghost use Prim.Native.Nat.{ℕ, _+_, _*_, _/_, _%_, _^_, _≤_, _<_};
+ghost use mathlib.Core.Path.{_≡_};
+ghost use mathlib.Core.Bool.{true};
+ghost use mathlib.Core.Logic.{_⊎_};
+ghost use lib.ListN.{length, getD};
+ghost use lib.Dec.{eqb};
+ghost use Rattle.stateset.specs.Set.{width, In};
+ghost use Rattle.fsbm.specs.Machine.{markOf};
+ghost use Rattle.fsbm.specs.declared.config.Mode.the-variants.{Normal, Buffering, Emptying};
+ghost use Rattle.images.specs.Graph.{Members, From, Star, graph, May, RowEdge, Edge, Free, Advance, EmptyCopy, Turn, Good, KindsOf};
+use fsbm::config::Mode;
+use fsbm::machine;
+
+// The set with q if yes, else the set.
+pub fn add_if(set: u64, q: usize, yes: bool) -> u64
+    ensures { λ r. ⌜ Members r (λ p. In set p ⊎ ((p ≡ q) × (p < width) × (yes ≡ true))) ⌝ }
+{
+    if yes {
+        return stateset::add(set, q);
+    }
+    set
+}
+
+// The set with q where its mark has this bit: 0 initial, 1 final, 2 buffering, 3 matching.
+fn add_marked(set: u64, q: usize, mark: usize, bit: usize) -> u64
+    requires { ⌜ bit < 4 ⌝ }
+    ensures { λ r. ⌜ Members r (λ p. In set p ⊎ ((p ≡ q) × (p < width) × (eqb (mark / 2 ^ bit % 2) 1 ≡ true))) ⌝ }
+{
+    add_if(set, q, (mark >> bit) % 2 == 1)
+}
+
+// The states of each kind.
+pub struct Kinds {
+    pub initial: u64,
+    pub finals: u64,
+    pub buffering: u64,
+    pub matching: u64,
+}
+
+// The states of each kind by their marks. Time: the states, each once.
+pub fn kinds_of(marks: &[u8; 64], states: usize) -> Kinds
+    requires { ⌜ states ≤ width ⌝ }
+    ensures { λ r. ⌜ KindsOf (now (marks .entry)) states r ⌝ }
+{
+    let mut initial = stateset::empty();
+    let mut finals = stateset::empty();
+    let mut buffering = stateset::empty();
+    let mut matching = stateset::empty();
+    let mut q: usize = 0;
+    while q < states {
+        let mark = machine::mark(marks, q) as usize;
+        initial = add_marked(initial, q, mark, 0);
+        finals = add_marked(finals, q, mark, 1);
+        buffering = add_marked(buffering, q, mark, 2);
+        matching = add_marked(matching, q, mark, 3);
+        q += 1;
+    }
+    Kinds {
+        initial: initial,
+        finals: finals,
+        buffering: buffering,
+        matching: matching,
+    }
+}
+
+// The same number as an index.
+pub fn wide(x: u8) -> usize
+    ensures { λ r. ⌜ (r ≡ x) × (r ≤ 255) ⌝ }
+{
+    x as usize
+}
+
+// Where the row of the letter x begins in the table.
+pub fn row_of(numbers: &[u8; 256], x: u8) -> usize
+    ensures { λ r. ⌜ r ≡ getD (now (numbers .entry)) x 0 * 64 ⌝ }
+{
+    wide(numbers[x as usize]) * 64
+}
+
+// The union of what a row of the table has for the states of a set.
+fn row_union(targets: &[u64], row: usize, set: u64) -> u64
+    requires { ⌜ row + width ≤ length (now targets) ⌝ }
+    ensures { λ r. ⌜ Members r (From set (λ p q. In (getD (now (targets .entry)) (row + p) 0) q)) ⌝ }
+{
+    let mut all = stateset::empty();
+    let mut rest = set;
+    while rest != 0 {
+        let p = stateset::lowest(rest) as usize;
+        rest = stateset::without_lowest(rest);
+        all = stateset::union(all, targets[row + p]);
+    }
+    all
+}
+
+// The image of a set under the normal moves by the letter whose row begins there: those of a buffering state may not be taken, and
+// those of a matching state do not lead to a matching state.
+fn step_normal(targets: &[u64], g: u64, h: u64, row: usize, set: u64) -> u64
+    requires { ⌜ row + width ≤ length (now targets) ⌝ }
+    ensures { λ r. ⌜ Members r (From set (RowEdge (now (targets .entry)) row g h Normal)) ⌝ }
+{
+    let free = stateset::difference(set, g);
+    let plain = row_union(targets, row, stateset::difference(free, h));
+    let matching = row_union(targets, row, stateset::intersection(free, h));
+    stateset::union(plain, stateset::difference(matching, h))
+}
+
+// The same for buffering moves: none leads to a buffering state, and those of a matching state do not lead to a matching state.
+fn step_buffering(targets: &[u64], g: u64, h: u64, row: usize, set: u64) -> u64
+    requires { ⌜ row + width ≤ length (now targets) ⌝ }
+    ensures { λ r. ⌜ Members r (From set (RowEdge (now (targets .entry)) row g h Buffering)) ⌝ }
+{
+    let plain = row_union(targets, row, stateset::difference(set, h));
+    let matching = row_union(targets, row, stateset::intersection(set, h));
+    let all = stateset::union(plain, stateset::difference(matching, h));
+    stateset::difference(all, g)
+}
+
+// The same for emptying moves: all are from a matching state to a matching state.
+fn step_emptying(targets: &[u64], g: u64, h: u64, row: usize, set: u64) -> u64
+    requires { ⌜ row + width ≤ length (now targets) ⌝ }
+    ensures { λ r. ⌜ Members r (From set (RowEdge (now (targets .entry)) row g h Emptying)) ⌝ }
+{
+    let found = row_union(targets, row, stateset::intersection(set, h));
+    stateset::intersection(found, h)
+}
+
+// The image of a set under the moves that read x in a mode. Time: the members of the set, each once.
+pub fn step_set(
+    targets: &[u64],
+    numbers: &[u8; 256],
+    g: u64,
+    h: u64,
+    mode: Mode,
+    set: u64,
+    x: u8,
+) -> u64
+    requires { ⌜ Good (now targets) (now numbers) ⌝ }
+    ensures { λ r. ⌜ Members r (From set (Edge (graph (now (targets .entry)) (now (numbers .entry)) g h) mode x)) ⌝ }
+{
+    let row = row_of(numbers, x);
+    match mode {
+        Mode::Normal => step_normal(targets, g, h, row, set),
+        Mode::Buffering => step_buffering(targets, g, h, row, set),
+        Mode::Emptying => step_emptying(targets, g, h, row, set),
+    }
+}
+
+// The states that a set reaches by epsilon moves in a mode.
+pub fn close_set(targets: &[u64], numbers: &[u8; 256], g: u64, h: u64, mode: Mode, set: u64) -> u64
+    requires { ⌜ Good (now targets) (now numbers) ⌝ }
+    ensures { λ r. ⌜ Members r (From set (Free (graph (now (targets .entry)) (now (numbers .entry)) g h) mode)) ⌝ }
+{
+    let mut all = set;
+    let mut new = set;
+    loop {
+        new = stateset::difference(step_set(targets, numbers, g, h, mode, new, 0), all);
+        if new == 0 {
+            return all;
+        }
+        all = stateset::union(all, new);
+    }
+}
+
+// The image of a set under the moves that read the letter x of a word in a mode; no move reads letter 0.
+pub fn read_set(
+    targets: &[u64],
+    numbers: &[u8; 256],
+    g: u64,
+    h: u64,
+    mode: Mode,
+    set: u64,
+    x: u8,
+) -> u64
+    requires { ⌜ Good (now targets) (now numbers) ⌝ }
+    ensures { λ r. ⌜ Members r (λ q. (0 < x) × From set (Edge (graph (now (targets .entry)) (now (numbers .entry)) g h) mode x) q) ⌝ }
+{
+    if x == 0 {
+        return 0;
+    }
+    step_set(targets, numbers, g, h, mode, set, x)
+}
+
+// The states that a set reaches by a move that reads the letter x of a word and epsilon moves after it.
+pub fn advance(
+    targets: &[u64],
+    numbers: &[u8; 256],
+    g: u64,
+    h: u64,
+    mode: Mode,
+    set: u64,
+    x: u8,
+) -> u64
+    requires { ⌜ Good (now targets) (now numbers) ⌝ }
+    ensures { λ r. ⌜ Members r (From set (Advance (graph (now (targets .entry)) (now (numbers .entry)) g h) mode x)) ⌝ }
+{
+    let read = read_set(targets, numbers, g, h, mode, set, x);
+    if read == 0 {
+        return 0;
+    }
+    close_set(targets, numbers, g, h, mode, read)
+}
+
+// The states that a set reaches by one copy of nothing.
+fn empty_copies(targets: &[u64], numbers: &[u8; 256], g: u64, h: u64, set: u64) -> u64
+    requires { ⌜ Good (now targets) (now numbers) ⌝ }
+    ensures { λ r. ⌜ Members r (From set (EmptyCopy (graph (now (targets .entry)) (now (numbers .entry)) g h))) ⌝ }
+{
+    let begun = stateset::intersection(set, g);
+    if begun == 0 {
+        return 0;
+    }
+    let stored = close_set(targets, numbers, g, h, Mode::Buffering, begun);
+    close_set(
+        targets,
+        numbers,
+        g,
+        h,
+        Mode::Emptying,
+        stateset::intersection(stored, h),
+    )
+}
+
+// The states that a set reaches at one place in normal mode: by epsilon moves and copies of nothing, as often as wanted. No set
+// shrinks, so the end is reached when the size stays.
+pub fn close_place(targets: &[u64], numbers: &[u8; 256], g: u64, h: u64, set: u64) -> u64
+    requires { ⌜ Good (now targets) (now numbers) ⌝ }
+    ensures { λ r. ⌜ Members r (From set (Star (Turn (graph (now (targets .entry)) (now (numbers .entry)) g h)))) ⌝ }
+{
+    if set == 0 {
+        return 0;
+    }
+    let mut all = set;
+    loop {
+        let near = close_set(targets, numbers, g, h, Mode::Normal, all);
+        let copied = stateset::union(near, empty_copies(targets, numbers, g, h, near));
+        if stateset::size(copied) == stateset::size(near) {
+            return near;
+        }
+        all = copied;
+    }
+}
