@@ -4,7 +4,7 @@
 -- Learnt G T x map known set   == the same, and the states of a set are among the known ones
 -- Recalls G T map memo         == the map knows what the memo says, and the memo's set has the memo's image
 -- Recalled G T map memo x set  == the same, of the letter x and this set
--- NextFilled sets k hi r       == r is the first place from k up to hi whose set is not 0, or hi
+-- NextFilled sets k hi r       == r is a place from k up to hi, and the sets from k up to r are empty
 -- Moved G T x map memo a b lo hi == the sets b are the sets a with those from lo up to hi moved on by x
 -- TurnsAt h w a lo j k q       == with q, of a place from lo up to j, storing ends at j, and the copy will end at k
 -- Turned h w ends a b lo j     == the sets b are the sets a with those states

@@ -257,10 +257,10 @@ fn swept(
 // start, one such step for each letter of the longest square from a start, and for each square with which storing ends one for each
 // letter of its matching half, those not counted again that the square before it has read from the same states, within an allowance
 // of 12 n such steps, 4 n in a table of more than 40 states, and 28 more for each place whose letter is not that of the place before.
-// Past it the word is swept: each state is looked up once for each letter and mode (the maps of up to 16 letters are kept; of more letters,
-// those that share a row of the cache take it from each other, and their states are looked up again), each such place copies at most
-// four maps of 64 sets, and each copy in work (at most n²/2 in all) takes a union of at most 64 sets, none where the copy before it is
-// in the same states. Finding the squares compares at most n² letters in all.
+// Past it the word is swept: each state is looked up once for each letter and mode (the maps of up to 16 letters are kept; of more
+// letters, those that share a row of the cache take it from each other, and their states are looked up again), each such place copies at
+// most four maps of 64 sets, and each copy in work (at most n²/2 in all) takes a union of at most 64 sets, none where the copy before it
+// is in the same states. Finding the squares compares at most n² letters in all.
 // Memory: the 256 sets (2 KB) and 256 bytes; the sweep has its own of both, two lists of 64 sets, and two caches of maps (8 KB each).
 pub fn decide(
     m: Machine,
