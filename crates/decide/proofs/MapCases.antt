@@ -6,6 +6,10 @@
 -- recalls-nothing, recalls-start == nothing known of a letter is right of any map, and of the map at the start
 -- moved-start, moved-none, moved-one, moved-more, moved-to == no set moved on, an empty one, one, one more, all
 -- next-start, next-more    == no place passed over, and one more
+-- next-many                == those of one search passed over, and then those of another
+-- or-empty                 == where a union is empty both sets are
+-- four-empty               == where the union of four sets is empty they are
+-- next-eight               == eight places passed over
 -- moved-past               == empty sets passed over
 use Prim.Native.Nat.{ℕ, suc, _+_, _-_, _^_, _≤_, _<_}
 use mathlib.Core.Path.{_≡_, refl, sym, ap, _∙_, subst}
@@ -21,7 +25,8 @@ use Rattle.fsbm.specs.declared.config.Mode.{Mode}
 use Rattle.adjacency.specs.Index.Laws.{zeros-at}
 use Rattle.decide.specs.declared.maps.Memo.{Memo}
 use Rattle.images.specs.Graph.{Members, Fitting, From, Star, here, more, Graph, Edge, Free, Advance, Lead}
-use Rattle.decide.specs.Sweep.{Known, Learnt, Recalls, Recalled, NextFilled, Moved}
+use lib.Bits.{bitOr, or-add-and, and-le-l, and-le-r}
+use Rattle.decide.specs.Sweep.{Known, Learnt, Recalls, Recalled, Empty, NextFilled, Moved}
 use Rattle.images.proofs.SetCases.{members-as, members-none, none-in, row-cases}
 
 module _ (G : Graph) (T : Mode) (x : ℕ) where
@@ -168,6 +173,45 @@ next-more sets k hi at lt zero n = record { from = omega (arith, n .from); withi
     here : (i : ℕ) → k ≤ i → i < at + 1 → Dec (i ≡ at) → getD sets i 0 ≡ 0
     here i ge below (yes e) = ap (λ (m : ℕ). getD sets m 0) e ∙ zero
     here i ge below (no o) = n .empty i ge (omega arith)
+
+pub next-many : (sets : List ℕ) (k hi at r : ℕ) → NextFilled sets k hi at → at ≤ r → r ≤ hi → Empty sets at r → NextFilled sets k hi r
+next-many sets k hi at r n le most others = record { from = omega (arith, n .from); within = most; empty = λ i ge below. here i ge below (decLt i at) }
+  where
+    here : (i : ℕ) → k ≤ i → i < r → Dec (i < at) → getD sets i 0 ≡ 0
+    here i ge below (yes e) = n .empty i ge e
+    here i ge below (no o) = others i (omega arith) below
+
+pub or-empty : (a b : ℕ) → bitOr a b ≡ 0 → (a ≡ 0) × (b ≡ 0)
+or-empty a b e = (omega (arith, or-add-and a b, and-le-r a b), omega (arith, or-add-and a b, and-le-l a b))
+
+pub four-empty : (sets : List ℕ) (k : ℕ) → bitOr (bitOr (getD sets k 0) (getD sets (k + 1) 0)) (bitOr (getD sets (k + 2) 0) (getD sets (k + 3) 0)) ≡ 0 → Empty sets k (k + 4)
+four-empty sets k e i ge lt = first (ℕ-discrete i k)
+  where
+    at : (j : ℕ) → getD sets j 0 ≡ 0 → i ≡ j → getD sets i 0 ≡ 0
+    at j zero same = ap (λ (m : ℕ). getD sets m 0) same ∙ zero
+
+    halves : (bitOr (getD sets k 0) (getD sets (k + 1) 0) ≡ 0) × (bitOr (getD sets (k + 2) 0) (getD sets (k + 3) 0) ≡ 0)
+    halves = or-empty (bitOr (getD sets k 0) (getD sets (k + 1) 0)) (bitOr (getD sets (k + 2) 0) (getD sets (k + 3) 0)) e
+
+    third : Dec (i ≡ k + 2) → (i ≡ k → ⊥) → (i ≡ k + 1 → ⊥) → getD sets i 0 ≡ 0
+    third (yes s) a b = at (k + 2) (or-empty (getD sets (k + 2) 0) (getD sets (k + 3) 0) (halves .1) .0) s
+    third (no c) a b = at (k + 3) (or-empty (getD sets (k + 2) 0) (getD sets (k + 3) 0) (halves .1) .1) (omega arith)
+
+    second : Dec (i ≡ k + 1) → (i ≡ k → ⊥) → getD sets i 0 ≡ 0
+    second (yes s) a = at (k + 1) (or-empty (getD sets k 0) (getD sets (k + 1) 0) (halves .0) .1) s
+    second (no b) a = third (ℕ-discrete i (k + 2)) a b
+
+    first : Dec (i ≡ k) → getD sets i 0 ≡ 0
+    first (yes s) = at k (or-empty (getD sets k 0) (getD sets (k + 1) 0) (halves .0) .0) s
+    first (no a) = second (ℕ-discrete i (k + 1)) a
+
+pub next-eight : (sets : List ℕ) (k hi at a b : ℕ) → at + 8 ≤ hi → (a ≡ 0 → Empty sets at (at + 4)) → (b ≡ 0 → Empty sets (at + 4) (at + 4 + 4)) → bitOr a b ≡ 0
+    → NextFilled sets k hi at → NextFilled sets k hi (at + 8)
+next-eight sets k hi at a b le first last e n = next-many sets k hi at (at + 8) n (omega arith) le (λ i ge lt. here i ge lt (decLt i (at + 4)))
+  where
+    here : (i : ℕ) → at ≤ i → i < at + 8 → Dec (i < at + 4) → getD sets i 0 ≡ 0
+    here i ge lt (yes l) = first (or-empty a b e .0) i ge l
+    here i ge lt (no o) = last (or-empty a b e .1) i (omega arith) (omega arith)
 
 pub moved-past : (G : Graph) (T : Mode) (x : ℕ) (map : List ℕ) (memo : Memo) (a b : List ℕ) (lo k hi r : ℕ) → NextFilled b k hi r → Moved G T x map memo a b lo k → Moved G T x map memo a b lo r
 moved-past G T x map memo a b lo k hi r next m =

@@ -4,6 +4,7 @@
 -- Learnt G T x map known set   == the same, and the states of a set are among the known ones
 -- Recalls G T map memo         == the map knows what the memo says, and the memo's set has the memo's image
 -- Recalled G T map memo x set  == the same, of the letter x and this set
+-- Empty sets k r               == the sets from k up to r are empty
 -- NextFilled sets k hi r       == r is a place from k up to hi, and the sets from k up to r are empty
 -- Moved G T x map memo a b lo hi == the sets b are the sets a with those from lo up to hi moved on by x
 -- TurnsAt h w a lo j k q       == with q, of a place from lo up to j, storing ends at j, and the copy will end at k
@@ -45,10 +46,13 @@ pub record Recalled (G : Graph) (T : Mode) (map : List ℕ) (memo : Memo) (x set
   pub letter : memo .letter ≡ x
   pub of : memo .set ≡ set
 
+abbrev pub Empty : List ℕ → ℕ → ℕ → Type 0
+Empty sets k r = (i : ℕ) → k ≤ i → i < r → getD sets i 0 ≡ 0
+
 pub record NextFilled (sets : List ℕ) (k hi r : ℕ) : Type 0 where
   pub from : k ≤ r
   pub within : r ≤ hi
-  pub empty : (i : ℕ) → k ≤ i → i < r → getD sets i 0 ≡ 0
+  pub empty : Empty sets k r
 
 pub record Moved (G : Graph) (T : Mode) (x : ℕ) (map : List ℕ) (memo : Memo) (a b : List ℕ) (lo hi : ℕ) : Type 0 where
   pub recalls : Recalls G T map memo

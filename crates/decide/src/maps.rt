@@ -7,7 +7,7 @@ ghost use lib.ListN.{getD};
 ghost use Rattle.stateset.specs.Set.{width, In};
 ghost use Rattle.decide.specs.declared.maps.Memo.{Memo};
 ghost use Rattle.images.specs.Graph.{Members, Fitting, From, graph, Lead, Good};
-ghost use Rattle.decide.specs.Sweep.{Known, Learnt, Recalls, Recalled, NextFilled, Moved};
+ghost use Rattle.decide.specs.Sweep.{Known, Learnt, Recalls, Recalled, Empty, NextFilled, Moved};
 use fsbm::config::Mode;
 
 // The states that p leads to by epsilon moves, a move that reads the letter x and epsilon moves after it.
@@ -133,12 +133,41 @@ fn move_set(
     found
 }
 
+// The union of the four sets from k on.
+fn four(sets: &[u64; 256], k: usize) -> u64
+    requires { ⌜ k + 4 ≤ 256 ⌝ }
+    ensures { λ r. ⌜ (r ≡ 0 → Empty (now (sets .entry)) k (k + 4)) ⌝ }
+{
+    (sets[k] | sets[k + 1]) | (sets[k + 2] | sets[k + 3])
+}
+
+// A place from k up to hi before which the sets from k on are empty, looked for eight at a time: near the first whose set has a member.
+fn pass_eights(sets: &[u64; 256], k: usize, hi: usize) -> usize
+    requires { ⌜ (k ≤ hi) × (hi ≤ 256) ⌝ }
+    ensures { λ r. ⌜ NextFilled (now (sets .entry)) k hi r ⌝ }
+{
+    let mut at = k;
+    while at + 8 <= hi {
+        if four(sets, at) | four(sets, at + 4) != 0 {
+            return at;
+        }
+        at += 8;
+    }
+    at
+}
+
 // The first place from k up to hi whose set has a member; hi where there is none. Most sets are empty in most sweeps.
 pub fn next_filled(sets: &[u64; 256], k: usize, hi: usize) -> usize
     requires { ⌜ (k ≤ hi) × (hi ≤ 256) ⌝ }
     ensures { λ r. ⌜ NextFilled (now (sets .entry)) k hi r ⌝ }
 {
-    let mut at = k;
+    if hi <= k {
+        return k;
+    }
+    if sets[k] != 0 {
+        return k;
+    }
+    let mut at = pass_eights(sets, k + 1, hi);
     while at < hi {
         if sets[at] != 0 {
             return at;

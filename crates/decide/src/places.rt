@@ -29,22 +29,12 @@ pub struct Reached {
     pub accepted: bool,
 }
 
-// What a copy takes of the allowance at the end of the letters that it has stored, from i up to j: one, and where it turns to
-// matching as many more as letters are read for the matching half. The last matching half was read up to place, from the states of
-// before to those of reached: where there are none, nothing is read on.
-fn cost(i: usize, j: usize, ready: u64, before: u64, place: usize, reached: u64) -> usize
-    requires { ⌜ (i ≤ j) × (place ≤ j) × (j ≤ 255) ⌝ }
-{
-    if ready == 0 {
-        return 1;
+// What is left of an allowance after a cost.
+fn spend(left: usize, cost: usize) -> usize {
+    if left <= cost {
+        return 0;
     }
-    if ready != before {
-        return j - i + 1;
-    }
-    if reached == 0 {
-        return 1;
-    }
-    j - place + 1
+    left - cost
 }
 
 // Adds to the sets what the copies of at least one letter reach that begin at place i in the states of starts; last ends the first
@@ -78,25 +68,26 @@ fn copies_from(
         ready: 0,
         place: i,
         reached: 0,
+        letters: 0,
     };
     let mut j = i;
     while j < last {
         if s == 0 {
             return rest;
         }
+        if rest == 0 {
+            return 0;
+        }
         let x = word[j];
         s = images::advance(targets, numbers, g, h, Mode::Buffering, s, x);
         j += 1;
+        rest -= 1;
         let ready = squares::turning(h, word, ends, i, j, s);
-        let taken = cost(i, j, ready, tail.ready, tail.place, tail.reached);
-        if rest <= taken {
-            return 0;
-        }
-        rest -= taken;
         if ready != 0 {
             tail = walks::tail_to(targets, numbers, g, h, word, i, j, ready, tail);
             let e = j + (j - i);
             sets[e] = stateset::union(sets[e], tail.reached);
+            rest = spend(rest, tail.letters);
         }
     }
     rest
@@ -190,17 +181,17 @@ fn letter_changes(word: &[u8]) -> usize
     changes
 }
 
-// The allowance for the copies of a word: how many steps of a set they may take before the word is swept instead. A sweep looks at
-// every place at each letter, whatever the table, and a step takes less time in a small table, so that more of them are allowed there.
-// Where letters change often most copies soon end, which a sweep does not make use of.
+// The allowance for the copies of a word: how many steps of a set they may take before the word is swept instead. A sweep takes some
+// time however short the word and however small the table, and a step takes less time in a small table, so that more of them are allowed
+// there. Where letters change often most copies soon end, which a sweep does not make use of.
 fn allowance(word: &[u8], states: usize) -> usize
     requires { ⌜ length (now word) ≤ 255 ⌝ }
 {
     let changes = letter_changes(word) * 28;
     if states <= 40 {
-        return word.len() * 12 + changes + 1;
+        return word.len() * 6 + changes + 256;
     }
-    word.len() * 4 + changes + 1
+    word.len() * 4 + changes + 32
 }
 
 // Completes the sets of all places of a word, from those at its start. What is left of the allowance is returned, 0 where it does not
@@ -256,7 +247,7 @@ fn swept(
 // Time: for a word of n letters one step of a set for each place, which looks up each of its states. Copies are followed start by
 // start, one such step for each letter of the longest square from a start, and for each square with which storing ends one for each
 // letter of its matching half, those not counted again that the square before it has read from the same states, within an allowance
-// of 12 n such steps, 4 n in a table of more than 40 states, and 28 more for each place whose letter is not that of the place before.
+// of 6 n + 256 such steps, 4 n + 32 in a table of more than 40 states, and 28 more for each place whose letter is not that before it.
 // Past it the word is swept: each state is looked up once for each letter and mode (the maps of up to 16 letters are kept; of more
 // letters, those that share a row of the cache take it from each other, and their states are looked up again), each such place copies at
 // most four maps of 64 sets, and each copy in work (at most n²/2 in all) takes a union of at most 64 sets, none where the copy before it

@@ -6,6 +6,13 @@ ghost use Rattle.images.specs.Graph.{Members, From, graph, Good};
 ghost use Rattle.decide.specs.Reach.{Walk, Tailed};
 use fsbm::config::Mode;
 
+// What a stretch of letters leads to, and how many of them were read: where nothing is left to follow the rest are not. Of that
+// number nothing is promised.
+struct Walked {
+    reached: u64,
+    letters: usize,
+}
+
 // The states that the letters of a word from k up to j lead to in a mode from the states of a set that is closed under epsilon moves,
 // with epsilon moves between and after them: what walks up to k reach goes on to what they reach up to j.
 fn walk_on(
@@ -18,29 +25,37 @@ fn walk_on(
     k: usize,
     j: usize,
     s: u64,
-) -> u64
+) -> Walked
     requires { ⌜ Good (now targets) (now numbers) × (k ≤ j) × (j ≤ length (now word)) ⌝ }
     ensures { λ r. ⌜ ((i set : ℕ) → i ≤ k → Members s (From set (λ p q. Walk (graph (now (targets .entry)) (now (numbers .entry)) g h) (now (word .entry)) mode i p k q))
-        → Members r (From set (λ p q. Walk (graph (now (targets .entry)) (now (numbers .entry)) g h) (now (word .entry)) mode i p j q))) ⌝ }
+        → Members (r .reached) (From set (λ p q. Walk (graph (now (targets .entry)) (now (numbers .entry)) g h) (now (word .entry)) mode i p j q))) ⌝ }
 {
     let mut near = s;
     let mut at = k;
     while at < j {
         if near == 0 {
-            return 0;
+            return Walked {
+                reached: 0,
+                letters: at - k,
+            };
         }
         let x = word[at];
         near = images::advance(targets, numbers, g, h, mode, near, x);
         at += 1;
     }
-    near
+    Walked {
+        reached: near,
+        letters: j - k,
+    }
 }
 
 // The matching half of copies that were followed last: from the states of ready the letters up to place lead to the states of reached.
+// So many letters were read for it since the one before; of that number nothing is promised.
 pub struct Tail {
     pub ready: u64,
     pub place: usize,
     pub reached: u64,
+    pub letters: usize,
 }
 
 // The states that the letters of a word from i up to j lead to in emptying mode from the states of a set. Where the last walk began in
@@ -74,14 +89,16 @@ pub fn tail_to(
         return Tail {
             ready: ready,
             place: j,
-            reached: on,
+            reached: on.reached,
+            letters: on.letters,
         };
     }
     let near = images::close_set(targets, numbers, g, h, Mode::Emptying, ready);
-    let reached = walk_on(targets, numbers, g, h, Mode::Emptying, word, i, j, near);
+    let anew = walk_on(targets, numbers, g, h, Mode::Emptying, word, i, j, near);
     Tail {
         ready: ready,
         place: j,
-        reached: reached,
+        reached: anew.reached,
+        letters: anew.letters,
     }
 }

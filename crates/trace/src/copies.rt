@@ -4,8 +4,8 @@ ghost use lib.ListN.{length};
 ghost use Rattle.images.specs.Graph.{Good};
 use crate::levels;
 use crate::points;
+use crate::squares;
 use fsbm::config::Mode;
-use tables::halves;
 
 // Where the search has come to: a point in normal mode, its place, how many letters may still be followed in vain, and how many letters
 // the last copy stored that it came back by (0: none yet).
@@ -17,7 +17,7 @@ pub struct Place {
 }
 
 // Nowhere, with as many letters as may still be followed in vain.
-fn nowhere(left: usize) -> Place {
+pub fn nowhere(left: usize) -> Place {
     Place {
         at: points::LOST,
         place: 0,
@@ -32,20 +32,20 @@ pub struct Followed {
     pub letters: usize,
 }
 
-// The states of `sets` at k, none past its end.
-fn set_at(sets: &[u64; 129], k: usize) -> u64 {
-    if 129 <= k {
+// The states of `kept` at k, none past its end.
+fn set_at(kept: &[u64], k: usize) -> u64 {
+    if kept.len() <= k {
         return 0;
     }
-    sets[k]
+    kept[k]
 }
 
 // Keeps a set at k, where there is room.
-fn keep_set(sets: &mut [u64; 129], k: usize, set: u64) {
-    if 129 <= k {
+fn keep_set(kept: &mut [u64], k: usize, set: u64) {
+    if kept.len() <= k {
         return;
     }
-    sets[k] = set;
+    kept[k] = set;
 }
 
 // The letter of a word at k, none (0) past its end.
@@ -56,7 +56,7 @@ pub fn letter_at(word: &[u8], k: usize) -> u8 {
     word[k]
 }
 
-// Follows a set through the d letters from i on in a mode; the set after each of them is kept.
+// Follows a set through the d letters from i on in a mode; the set after each of them is kept, from place `at` of kept on.
 pub fn follow(
     targets: &[u64],
     numbers: &[u8; 256],
@@ -67,12 +67,13 @@ pub fn follow(
     i: usize,
     d: usize,
     from: u64,
-    sets: &mut [u64; 129],
+    kept: &mut [u64],
+    at: usize,
 ) -> Followed
-    requires { ⌜ Good (now targets) (now numbers) × (i < 256) × (d < 256) ⌝ }
+    requires { ⌜ Good (now targets) (now numbers) × (i < 256) × (d < 256) × (at < 256) ⌝ }
 {
     let mut set = images::close_set(targets, numbers, g, h, mode, from);
-    keep_set(sets, 0, set);
+    keep_set(kept, at, set);
     let mut k: usize = 0;
     while k < d {
         if set == 0 {
@@ -81,12 +82,13 @@ pub fn follow(
         let x = letter_at(word, i + k);
         set = images::advance(targets, numbers, g, h, mode, set, x);
         k += 1;
-        keep_set(sets, k, set);
+        keep_set(kept, at + k, set);
     }
     Followed { set, letters: k }
 }
 
-// Back from a point through the d letters from i on, along the sets that `follow` kept, to a state of the set that it began with.
+// Back from a point through the d letters from i on, along the sets that `follow` kept from place begun of kept on, to a state of the set
+// that it began with.
 fn unread(
     targets: &[u64],
     firsts: &[u16],
@@ -96,12 +98,13 @@ fn unread(
     word: &[u8],
     i: usize,
     d: usize,
-    sets: &[u64; 129],
+    kept: &[u64],
+    begun: usize,
     from: u64,
     at: usize,
     out: &mut [u16],
 ) -> usize
-    requires { ⌜ Good (now targets) (now numbers) × (i < 256) × (d < 256) ⌝ }
+    requires { ⌜ Good (now targets) (now numbers) × (i < 256) × (d < 256) × (begun < 256) ⌝ }
 {
     let mut now = at;
     let mut k = d;
@@ -111,15 +114,15 @@ fn unread(
         }
         k -= 1;
         let x = letter_at(word, i + k);
-        let set = set_at(sets, k);
+        let set = set_at(kept, begun + k);
         now = levels::letter_back(targets, firsts, numbers, g, h, false, set, x, now, out);
     }
     if points::is_lost(now) {
         return now;
     }
     let mode = points::mode_of(now);
-    let begun = levels::only(mode, from);
-    levels::settle(targets, firsts, numbers, g, h, false, begun, now, out)
+    let first = levels::only(mode, from);
+    levels::settle(targets, firsts, numbers, g, h, false, first, now, out)
 }
 
 // What is left of an allowance after a cost.
@@ -128,6 +131,13 @@ fn spend(left: usize, cost: usize) -> usize {
         return 0;
     }
     left - cost
+}
+
+// Where the sets of matching begin among those that are kept; the sets of storing begin at 0.
+fn matching_at(kept: &[u64]) -> usize
+    ensures { λ r. ⌜ r < 256 ⌝ }
+{
+    kept.len() / 2 % 256
 }
 
 // Back from a point behind a copy of the d letters from i on, along the sets of its two halves: `ended` are the states it ends in, `turned`
@@ -141,8 +151,7 @@ fn halves_back(
     word: &[u8],
     i: usize,
     d: usize,
-    stored: &[u64; 129],
-    matched: &[u64; 129],
+    kept: &[u64],
     starts: u64,
     turned: u64,
     ended: u64,
@@ -165,7 +174,8 @@ fn halves_back(
         word,
         i,
         d,
-        matched,
+        kept,
+        matching_at(kept),
         turned,
         end,
         out,
@@ -189,7 +199,8 @@ fn halves_back(
         word,
         i,
         d,
-        stored,
+        kept,
+        0,
         starts,
         turn,
         out,
@@ -206,8 +217,9 @@ fn halves_back(
     )
 }
 
-// Back from a point behind a copy of the d letters from i on that begins in a state of a set, where there is one.
-fn copy_back(
+// Back from a point behind a copy of the d letters from i on whose first half led from the states of starts along the sets that are kept:
+// matching begins in the states of turned, and its sets are kept behind them.
+pub fn matched_back(
     targets: &[u64],
     firsts: &[u16],
     numbers: &[u8; 256],
@@ -216,32 +228,15 @@ fn copy_back(
     word: &[u8],
     i: usize,
     d: usize,
+    kept: &mut [u64],
     starts: u64,
+    turned: u64,
     left: usize,
     at: usize,
     out: &mut [u16],
 ) -> Place
     requires { ⌜ Good (now targets) (now numbers) × (i < 256) × (d < 256) ⌝ }
 {
-    let mut stored: [u64; 129] = [0; 129];
-    let mut matched: [u64; 129] = [0; 129];
-    let first = follow(
-        targets,
-        numbers,
-        g,
-        h,
-        Mode::Buffering,
-        word,
-        i,
-        d,
-        starts,
-        &mut stored,
-    );
-    let turned = stateset::intersection(first.set, h);
-    let rest = spend(spend(left, 1), first.letters);
-    if turned == 0 {
-        return nowhere(rest);
-    }
     let second = follow(
         targets,
         numbers,
@@ -252,7 +247,8 @@ fn copy_back(
         i,
         d,
         turned,
-        &mut matched,
+        kept,
+        matching_at(kept),
     );
     let begin = halves_back(
         targets,
@@ -263,8 +259,7 @@ fn copy_back(
         word,
         i,
         d,
-        &stored,
-        &matched,
+        &*kept,
         starts,
         turned,
         second.set,
@@ -272,7 +267,7 @@ fn copy_back(
         out,
     );
     if points::is_lost(begin) {
-        return nowhere(spend(rest, second.letters));
+        return nowhere(spend(left, second.letters));
     }
     Place {
         at: begin,
@@ -282,18 +277,88 @@ fn copy_back(
     }
 }
 
-// The states of `sets` at place i with which a copy of d letters may begin: none where the letters do not stand there twice.
-pub fn starts_at(sets: &[u64; 256], g: u64, word: &[u8], i: usize, d: usize) -> u64
-    requires { ⌜ (i + d + d ≤ length (now word)) × (i < 256) ⌝ }
+// Back from a point behind a copy of the d letters from i on that begins in a state of a set, where there is one.
+fn copy_back(
+    targets: &[u64],
+    firsts: &[u16],
+    numbers: &[u8; 256],
+    g: u64,
+    h: u64,
+    word: &[u8],
+    i: usize,
+    d: usize,
+    kept: &mut [u64],
+    starts: u64,
+    left: usize,
+    at: usize,
+    out: &mut [u16],
+) -> Place
+    requires { ⌜ Good (now targets) (now numbers) × (i < 256) × (d < 256) ⌝ }
 {
-    let starts = stateset::intersection(sets[i], g);
+    let first = follow(
+        targets,
+        numbers,
+        g,
+        h,
+        Mode::Buffering,
+        word,
+        i,
+        d,
+        starts,
+        kept,
+        0,
+    );
+    let turned = stateset::intersection(first.set, h);
+    let rest = spend(spend(left, 1), first.letters);
+    if turned == 0 {
+        return nowhere(rest);
+    }
+    let back = matched_back(
+        targets,
+        firsts,
+        numbers,
+        g,
+        h,
+        word,
+        i,
+        d,
+        kept,
+        starts,
+        turned,
+        rest,
+        at,
+        out,
+    );
+    if points::is_lost(back.at) {
+        return back;
+    }
+    Place {
+        at: back.at,
+        place: i,
+        left: left,
+        half: d,
+    }
+}
+
+// The states of `sets` with which a copy of d letters may begin that ends at place p: none where the letters do not stand there twice.
+pub fn starts_of(
+    sets: &[u64; 256],
+    g: u64,
+    word: &[u8],
+    begins: &mut [u8; 128],
+    p: usize,
+    d: usize,
+) -> u64
+    requires { ⌜ (p ≤ length (now word)) × (p < 256) × (d + d ≤ p) ⌝ }
+{
+    let starts = stateset::intersection(sets[p - d - d], g);
     if starts == 0 {
         return 0;
     }
-    if !halves::halves_match(word, i, d) {
-        return 0;
+    if squares::is_square(word, begins, p, d) {
+        return starts;
     }
-    starts
+    0
 }
 
 // Back from a point at place p by a copy of d letters that ends there.
@@ -305,6 +370,8 @@ pub fn half_back(
     h: u64,
     word: &[u8],
     sets: &[u64; 256],
+    begins: &mut [u8; 128],
+    kept: &mut [u64],
     p: usize,
     d: usize,
     left: usize,
@@ -314,7 +381,7 @@ pub fn half_back(
     requires { ⌜ Good (now targets) (now numbers) × (p ≤ length (now word)) × (p < 256) × (d + d ≤ p) ⌝ }
 {
     let i = p - d - d;
-    let starts = starts_at(sets, g, word, i, d);
+    let starts = starts_of(sets, g, word, begins, p, d);
     if starts == 0 {
         return nowhere(left);
     }
@@ -327,6 +394,7 @@ pub fn half_back(
         word,
         i,
         d,
+        kept,
         starts,
         left,
         at,
@@ -343,6 +411,8 @@ fn longest_back(
     h: u64,
     word: &[u8],
     sets: &[u64; 256],
+    begins: &mut [u8; 128],
+    kept: &mut [u64],
     p: usize,
     left: usize,
     at: usize,
@@ -364,6 +434,8 @@ fn longest_back(
             h,
             word,
             sets,
+            begins,
+            kept,
             p,
             d,
             tried.left,
@@ -387,6 +459,8 @@ pub fn quick_copy_back(
     h: u64,
     word: &[u8],
     sets: &[u64; 256],
+    begins: &mut [u8; 128],
+    kept: &mut [u64],
     p: usize,
     half: usize,
     left: usize,
@@ -399,10 +473,38 @@ pub fn quick_copy_back(
         return nowhere(left);
     }
     if half == 0 {
-        return longest_back(targets, firsts, numbers, g, h, word, sets, p, left, at, out);
+        return longest_back(
+            targets,
+            firsts,
+            numbers,
+            g,
+            h,
+            word,
+            sets,
+            begins,
+            kept,
+            p,
+            left,
+            at,
+            out,
+        );
     }
     if p / 2 < half {
-        return longest_back(targets, firsts, numbers, g, h, word, sets, p, left, at, out);
+        return longest_back(
+            targets,
+            firsts,
+            numbers,
+            g,
+            h,
+            word,
+            sets,
+            begins,
+            kept,
+            p,
+            left,
+            at,
+            out,
+        );
     }
     let again = half_back(
         targets,
@@ -412,6 +514,8 @@ pub fn quick_copy_back(
         h,
         word,
         sets,
+        begins,
+        kept,
         p,
         half,
         left,
@@ -429,6 +533,8 @@ pub fn quick_copy_back(
         h,
         word,
         sets,
+        begins,
+        kept,
         p,
         again.left,
         at,

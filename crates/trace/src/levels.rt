@@ -127,9 +127,15 @@ fn next(targets: &[u64], numbers: &[u8; 256], g: u64, h: u64, turns: bool, sets:
     free
 }
 
-// Keeps the sets of level k.
-fn save(levels: &mut [u64; 579], k: usize, sets: Spread) {
-    if 193 <= k {
+// More than the number of any level: each level has a state of a mode that no level before it has, so there are at most 192.
+const NO_LEVEL: usize = 193;
+
+// Keeps the sets of level k, where there is room.
+fn save(levels: &mut [u64], k: usize, sets: Spread) {
+    if NO_LEVEL <= k {
+        return;
+    }
+    if levels.len() < k * 3 + 3 {
         return;
     }
     levels[k * 3] = sets.normal;
@@ -137,9 +143,12 @@ fn save(levels: &mut [u64; 579], k: usize, sets: Spread) {
     levels[k * 3 + 2] = sets.emptying;
 }
 
-// The sets of level k.
-fn load(levels: &[u64; 579], k: usize) -> Spread {
-    if 193 <= k {
+// The sets of level k, empty ones where it was not kept.
+fn load(levels: &[u64], k: usize) -> Spread {
+    if NO_LEVEL <= k {
+        return only(Mode::Normal, 0);
+    }
+    if levels.len() < k * 3 + 3 {
         return only(Mode::Normal, 0);
     }
     Spread {
@@ -149,8 +158,8 @@ fn load(levels: &[u64; 579], k: usize) -> Spread {
     }
 }
 
-// The first level at which state q is reached in a mode, level 0 the given sets, all levels up to it kept; 193 where there is none:
-// each level has a state of a mode that no level before it has, so there are at most 192.
+// The first level at which state q is reached in a mode, level 0 the given sets, all levels before it kept; `most` where the levels below
+// that number do not have it and there are more, NO_LEVEL where no level has it.
 fn spread_to(
     targets: &[u64],
     numbers: &[u8; 256],
@@ -160,26 +169,27 @@ fn spread_to(
     from: Spread,
     mode: Mode,
     q: usize,
-    levels: &mut [u64; 579],
+    most: usize,
+    levels: &mut [u64],
 ) -> usize
     requires { ⌜ Good (now targets) (now numbers) ⌝ }
 {
     let mut level = from;
     let mut seen = from;
     let mut k: usize = 0;
-    while k < 193 {
+    while k < most {
         save(levels, k, level);
         if stateset::member(of(level, mode), q) {
             return k;
         }
         level = apart(next(targets, numbers, g, h, turns, level), seen);
         if is_empty(level) {
-            return 193;
+            return NO_LEVEL;
         }
         seen = both(seen, level);
         k += 1;
     }
-    193
+    most
 }
 
 // Back from a point by one move that reads nothing, from the given sets.
@@ -217,7 +227,7 @@ fn down(
     numbers: &[u8; 256],
     g: u64,
     h: u64,
-    levels: &[u64; 579],
+    levels: &[u64],
     k: usize,
     at: usize,
     out: &mut [u16],
@@ -237,7 +247,7 @@ fn down(
 }
 
 // Back from a point to one of the given sets by any number of moves that read nothing.
-fn far_back(
+fn deep_back(
     targets: &[u64],
     firsts: &[u16],
     numbers: &[u8; 256],
@@ -261,12 +271,50 @@ fn far_back(
         from,
         mode,
         points::state_of(at),
+        NO_LEVEL,
         &mut levels,
     );
-    if 193 <= k {
+    if NO_LEVEL <= k {
         return points::LOST;
     }
     down(targets, firsts, numbers, g, h, &levels, k, at, out)
+}
+
+// The same, with room for few levels tried first: a small array is cleared sooner.
+fn far_back(
+    targets: &[u64],
+    firsts: &[u16],
+    numbers: &[u8; 256],
+    g: u64,
+    h: u64,
+    turns: bool,
+    from: Spread,
+    at: usize,
+    out: &mut [u16],
+) -> usize
+    requires { ⌜ Good (now targets) (now numbers) ⌝ }
+{
+    let mut levels: [u64; 48] = [0; 48];
+    let mode = points::mode_of(at);
+    let k = spread_to(
+        targets,
+        numbers,
+        g,
+        h,
+        turns,
+        from,
+        mode,
+        points::state_of(at),
+        16,
+        &mut levels,
+    );
+    if k < 16 {
+        return down(targets, firsts, numbers, g, h, &levels, k, at, out);
+    }
+    if k == 16 {
+        return deep_back(targets, firsts, numbers, g, h, turns, from, at, out);
+    }
+    points::LOST
 }
 
 // The same, none or one such move tried first. Where turns is false, all given sets are of the point's mode.

@@ -5,6 +5,7 @@
 //
 // points    the configuration that the search has come back to, and single moves back from it
 // levels    moves back that read nothing
+// squares   stretches that stand twice in a row
 // copies    copies back, tried one by one
 // shortest  the shortest copy back
 // walk      search: the way back from the end of the word to its beginning, a seam between crates
@@ -12,4 +13,5 @@ pub mod copies;
 pub mod levels;
 pub mod points;
 pub mod shortest;
+pub mod squares;
 pub mod walk;

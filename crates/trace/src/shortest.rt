@@ -1,6 +1,7 @@
 // The shortest copy that leads to a state: by the sets of states from which moves lead there. Where many copies end at a place and most
 // lead elsewhere, following them one by one would take long; this finds one in a time that its own length bounds.
 ghost use Prim.Native.Nat.{ℕ, _+_, _≤_, _<_};
+ghost use mathlib.Core.Path.{_≡_};
 ghost use lib.ListN.{length};
 ghost use Rattle.stateset.specs.Set.{width};
 ghost use Rattle.images.specs.Graph.{Good};
@@ -96,8 +97,8 @@ fn ends_before(targets: &[u64], numbers: &[u8; 256], g: u64, h: u64, reached: u6
     0
 }
 
-// Whether storing the d letters from i on leads from a state of starts to a state of `to`.
-fn leads(
+// The states of `to` to which storing the d letters from i on leads from the states of starts; the set after each letter is kept.
+fn led_to(
     targets: &[u64],
     numbers: &[u8; 256],
     g: u64,
@@ -107,12 +108,12 @@ fn leads(
     d: usize,
     starts: u64,
     to: u64,
-    stored: &mut [u64; 129],
-) -> bool
+    kept: &mut [u64],
+) -> u64
     requires { ⌜ Good (now targets) (now numbers) × (i < 256) × (d < 256) ⌝ }
 {
     if starts == 0 {
-        return false;
+        return 0;
     }
     let end = copies::follow(
         targets,
@@ -124,12 +125,32 @@ fn leads(
         i,
         d,
         starts,
-        stored,
+        kept,
+        0,
     );
-    stateset::intersection(end.set, to) != 0
+    stateset::intersection(end.set, to)
 }
 
-// How many letters the shortest copy stores that leads to state q at place p; 0 where there is none.
+// A copy that was found: how many letters it stores (0: there is none), the states in which it may begin, and those in which it may turn
+// to matching.
+struct Copy {
+    half: usize,
+    starts: u64,
+    turned: u64,
+}
+
+// No copy.
+fn no_copy() -> Copy
+    ensures { λ r. ⌜ r .half ≡ 0 ⌝ }
+{
+    Copy {
+        half: 0,
+        starts: 0,
+        turned: 0,
+    }
+}
+
+// The shortest copy that leads to state q at place p; the set after each of its letters while it stores is kept.
 fn shortest_copy(
     targets: &[u64],
     numbers: &[u8; 256],
@@ -137,30 +158,36 @@ fn shortest_copy(
     h: u64,
     word: &[u8],
     sets: &[u64; 256],
+    begins: &mut [u8; 128],
     p: usize,
     q: usize,
-) -> usize
+    kept: &mut [u64],
+) -> Copy
     requires { ⌜ Good (now targets) (now numbers) × (p ≤ length (now word)) × (p < 256) ⌝ }
-    ensures { λ r. ⌜ r + r ≤ p ⌝ }
+    ensures { λ r. ⌜ r .half + r .half ≤ p ⌝ }
 {
-    let mut stored: [u64; 129] = [0; 129];
     let mut to = ends_before(targets, numbers, g, h, sets[p], q);
     let mut d: usize = 0;
     while d < p / 2 {
         if to == 0 {
-            return 0;
+            return no_copy();
         }
         d += 1;
         let x = copies::letter_at(word, p - d);
         let read = sources(targets, numbers, g, h, Mode::Emptying, x, h, to);
         to = close_back(targets, numbers, g, h, Mode::Emptying, h, read);
         let i = p - d - d;
-        let starts = copies::starts_at(sets, g, word, i, d);
-        if leads(targets, numbers, g, h, word, i, d, starts, to, &mut stored) {
-            return d;
+        let starts = copies::starts_of(sets, g, word, begins, p, d);
+        let turned = led_to(targets, numbers, g, h, word, i, d, starts, to, kept);
+        if turned != 0 {
+            return Copy {
+                half: d,
+                starts: starts,
+                turned: turned,
+            };
         }
     }
-    0
+    no_copy()
 }
 
 // Back from a point at place p by the shortest copy that leads to it.
@@ -175,6 +202,8 @@ fn shortest_back(
     h: u64,
     word: &[u8],
     sets: &[u64; 256],
+    begins: &mut [u8; 128],
+    kept: &mut [u64],
     p: usize,
     left: usize,
     at: usize,
@@ -182,17 +211,34 @@ fn shortest_back(
 ) -> Place
     requires { ⌜ Good (now targets) (now numbers) × (p ≤ length (now word)) × (p < 256) ⌝ }
 {
-    let d = shortest_copy(targets, numbers, g, h, word, sets, p, points::state_of(at));
-    copies::half_back(
+    let found = shortest_copy(
+        targets,
+        numbers,
+        g,
+        h,
+        word,
+        sets,
+        begins,
+        p,
+        points::state_of(at),
+        kept,
+    );
+    let d = found.half;
+    if d == 0 {
+        return copies::nowhere(left);
+    }
+    copies::matched_back(
         targets,
         firsts,
         numbers,
         g,
         h,
         word,
-        sets,
-        p,
+        p - d - d,
         d,
+        kept,
+        found.starts,
+        found.turned,
         left,
         at,
         out,
@@ -208,6 +254,8 @@ pub fn any_copy_back(
     h: u64,
     word: &[u8],
     sets: &[u64; 256],
+    begins: &mut [u8; 128],
+    kept: &mut [u64],
     p: usize,
     half: usize,
     left: usize,
@@ -224,6 +272,8 @@ pub fn any_copy_back(
         h,
         word,
         sets,
+        begins,
+        kept,
         p,
         half,
         left,
@@ -241,6 +291,8 @@ pub fn any_copy_back(
         h,
         word,
         sets,
+        begins,
+        kept,
         p,
         quick.left,
         at,

@@ -19,6 +19,8 @@ fn place_back(
     h: u64,
     word: &[u8],
     sets: &[u64; 256],
+    begins: &mut [u8; 128],
+    kept: &mut [u64],
     here: Place,
     out: &mut [u16],
 ) -> Place
@@ -65,6 +67,8 @@ fn place_back(
         h,
         word,
         sets,
+        begins,
+        kept,
         p,
         here.half,
         left,
@@ -82,6 +86,8 @@ fn walk_back(
     h: u64,
     word: &[u8],
     sets: &[u64; 256],
+    begins: &mut [u8; 128],
+    kept: &mut [u64],
     end: Place,
     out: &mut [u16],
 ) -> usize
@@ -96,10 +102,69 @@ fn walk_back(
         if here.place == 0 {
             return here.at;
         }
-        here = place_back(targets, firsts, numbers, g, h, word, sets, here, out);
+        here = place_back(
+            targets,
+            firsts,
+            numbers,
+            g,
+            h,
+            word,
+            sets,
+            begins,
+            kept,
+            here,
+            out,
+        );
         steps += 1;
     }
     points::LOST
+}
+
+// The same, with room for what the search keeps of squares and of the halves of a copy: little of it for a word of few letters.
+fn begin_back(
+    targets: &[u64],
+    firsts: &[u16],
+    numbers: &[u8; 256],
+    g: u64,
+    h: u64,
+    word: &[u8],
+    sets: &[u64; 256],
+    end: Place,
+    out: &mut [u16],
+) -> usize
+    requires { ⌜ Good (now targets) (now numbers) ⌝ }
+{
+    let mut begins: [u8; 128] = [255; 128];
+    if word.len() < 32 {
+        let mut kept: [u64; 32] = [0; 32];
+        return walk_back(
+            targets,
+            firsts,
+            numbers,
+            g,
+            h,
+            word,
+            sets,
+            &mut begins,
+            &mut kept,
+            end,
+            out,
+        );
+    }
+    let mut kept: [u64; 256] = [0; 256];
+    walk_back(
+        targets,
+        firsts,
+        numbers,
+        g,
+        h,
+        word,
+        sets,
+        &mut begins,
+        &mut kept,
+        end,
+        out,
+    )
 }
 
 // Moves the entries from top on to the front, and hands back how many there are.
@@ -153,7 +218,7 @@ pub fn search(
         left: n,
         half: 0,
     };
-    let back = walk_back(targets, firsts, numbers, g, h, word, sets, end, out);
+    let back = begin_back(targets, firsts, numbers, g, h, word, sets, end, out);
     if points::is_lost(back) {
         return 0;
     }

@@ -2,14 +2,11 @@ use Rattle.decide.proofs.CopyCases.{walks-turn, walks-dead, walks-to}
 use Rattle.decide.specs.Reach.{Walk}
 use Rattle.images.specs.Graph.{Members, From, graph, Good}
 use lib.ListN.{length}
-use Prim.Native.Nat.{ℕ, _<_, _≤_, _-_, _+_}
+use Prim.Native.Nat.{ℕ, _≤_, _-_}
 use borrow.Author.Needs.{needs}
 use native.Mathlib.Omega.{arith}
 use Rattle.decide.proofs.walks.walk_on.Statement.{statement}
 use Rattle.decide.proofs.walks.walk_on.Tie as tie
-use Rattle.decide.proofs.walks.walk_on.Reads as reads
-use Rattle.decide.proofs.walks.walk_on.Lts as lts
-use Rattle.images.proofs.advance.Reads as advance-reads
 
 abbrev Inv-loop : tie.InvT-loop
 Inv-loop targets numbers g h mode word k j s near₀ at₀ near at = Good targets numbers × (k ≤ at) × (at ≤ j) × (j ≤ length word) × ((i set : ℕ) → i ≤ k → Members s (From set (λ p q. Walk (graph targets numbers g h) word mode i p k q)) → Members near (From set (λ p q. Walk (graph targets numbers g h) word mode i p at q)))
@@ -20,6 +17,9 @@ abbrev μ-loop : tie.MeasureT-loop
 -- src/walks.rt:30:5
 loop-holds : tie.Need-loop-holds Inv-loop μ-loop
 loop-holds c = ((c .before .before .pre) .0, omega arith, (c .before .before .pre) .1, (c .before .before .pre) .2, λ i set le m. m)
+
+sub-t14 : tie.Need-sub-t14 Inv-loop μ-loop
+sub-t14 c = omega arith
 
 -- src/walks.rt:32:13
 returns : tie.Need-returns Inv-loop μ-loop
@@ -45,6 +45,9 @@ loop-less c = omega arith
 loop-again : tie.Need-loop-again Inv-loop μ-loop
 loop-again c = ((c .before .before .before .before .loop .inv) .0, omega arith, omega arith, (c .before .before .before .before .loop .inv) .3, λ i set le m. walks-turn (graph ((c .before .before .before .before .before .before .before .args .targets) .now) ((c .before .before .before .before .before .before .before .args .numbers) .now) (c .before .before .before .before .before .before .before .args .g) (c .before .before .before .before .before .before .before .args .h)) ((c .before .before .before .before .before .before .before .args .word) .now) (c .before .before .before .before .before .before .before .args .mode) i set _ _ _ (omega (arith, (c .before .before .before .before .loop .inv) .1, le)) (omega arith) ((c .before .before .before .before .loop .inv) .4 i set le m) (c .advance .ensures))
 
+sub-t17 : tie.Need-sub-t17 Inv-loop μ-loop
+sub-t17 c = omega arith
+
 -- src/walks.rt:13:1
 returns-2 : tie.Need-returns-2 Inv-loop μ-loop
 returns-2 c = λ i set le m. walks-to (graph ((c .before .before .before .before .args .targets) .now) ((c .before .before .before .before .args .numbers) .now) (c .before .before .before .before .args .g) (c .before .before .before .before .args .h)) ((c .before .before .before .before .args .word) .now) (c .before .before .before .before .args .mode) i set _ _ _ (omega arith) ((c .before .loop .inv) .4 i set le m)
@@ -56,10 +59,12 @@ walk-on-spec =
     Inv-loop
     μ-loop
     loop-holds
+    sub-t14
     returns
     shared-slice-read-x
     advance-requires
     add-at
     loop-less
     loop-again
+    sub-t17
     returns-2)

@@ -1,70 +1,81 @@
-use mathlib.Core.Path.{_≡_, refl, _∙_}
+use mathlib.Core.Path.{_≡_, _∙_}
 use Prim.Native.Nat.{_<_, _≤_, _+_}
 use lib.ListN.{length}
 use Rattle.images.specs.Graph.{Good}
+use borrow.Author.Needs.{needs}
 use native.Mathlib.Omega.{arith}
 use Rattle.trace.proofs.copies.longest_back.Statement.{statement}
 use Rattle.trace.proofs.copies.longest_back.Tie as tie
-use Rattle.trace.proofs.copies.longest_back.Reads as reads
-use Rattle.trace.proofs.copies.longest_back.Lts as lts
-use Rattle.trace.proofs.copies.half_back.Reads as half-back-reads
-use Rattle.trace.proofs.points.is_lost.Reads as is-lost-reads
 
 abbrev Inv-loop : tie.InvT-loop
-Inv-loop targets firsts numbers g h word sets p left at out₀ tried₀ d₀ out tried d = Good targets numbers × (p ≤ length word) × (p < 256) × (d + d ≤ p) × (length out ≡ length out₀)
+Inv-loop targets firsts numbers g h word sets begins₀ kept₀ p left at out₀ tried₀ d₀ begins kept out tried d = Good targets numbers × (p ≤ length word) × (p < 256) × (d + d ≤ p) × (length out ≡ length out₀) × (length kept ≡ length kept₀)
 
 abbrev μ-loop : tie.MeasureT-loop
-μ-loop targets firsts numbers g h word sets p left at out₀ tried₀ d₀ out tried d = d
+μ-loop targets firsts numbers g h word sets begins₀ kept₀ p left at out₀ tried₀ d₀ begins kept out tried d = d
 
+-- src/copies.rt:423:9
 nowhere-requires : tie.Need-nowhere-requires Inv-loop μ-loop
-nowhere-requires c κs = tt
+nowhere-requires c κs = search needs
 
+-- src/copies.rt:425:5
 loop-holds : tie.Need-loop-holds Inv-loop μ-loop
-loop-holds c = ((c .before .before .before .before .before .pre) .0, (c .before .before .before .before .before .pre) .1, (c .before .before .before .before .before .pre) .2, omega arith, refl)
+loop-holds c = search needs
 
--- src/copies.rt:361:13
+-- src/copies.rt:427:13
 same-length : tie.Need-same-length Inv-loop μ-loop
-same-length c = (c .before .before .before .loop .inv) .4
+same-length c = search needs
 
--- src/copies.rt:361:13
-returns : tie.Need-returns Inv-loop μ-loop
-returns c = tt
-
--- src/copies.rt:363:9
-half-back-requires : tie.Need-half-back-requires Inv-loop μ-loop
-half-back-requires c κs = ((c .before .before .before .before .loop .inv) .0, (c .before .before .before .before .loop .inv) .1, (c .before .before .before .before .loop .inv) .2, (c .before .before .before .before .loop .inv) .3)
-
--- src/copies.rt:377:13
-is-lost-requires : tie.Need-is-lost-requires Inv-loop μ-loop
-is-lost-requires c κs = tt
-
--- src/copies.rt:378:13
+-- src/copies.rt:427:13
 same-length-2 : tie.Need-same-length-2 Inv-loop μ-loop
-same-length-2 c = (c .before .before .before .out .given) ∙ (c .before .before .before .before .before .before .before .before .before .loop .inv) .4
+same-length-2 c = search needs
 
--- src/copies.rt:378:13
-returns-2 : tie.Need-returns-2 Inv-loop μ-loop
-returns-2 c = tt
+-- src/copies.rt:427:13
+returns : tie.Need-returns Inv-loop μ-loop
+returns c = search needs
 
--- src/copies.rt:380:9
-sub-d : tie.Need-sub-d Inv-loop μ-loop
-sub-d c = omega (arith, (c .before .before .before .before .before .before .before .before .loop-test .taken))
+-- src/copies.rt:429:9
+half-back-requires : tie.Need-half-back-requires Inv-loop μ-loop
+half-back-requires c κs = search needs
 
--- src/copies.rt:359:5
-loop-less : tie.Need-loop-less Inv-loop μ-loop
-loop-less c = omega (arith, (c .before .before .before .before .before .before .before .before .loop-test .taken))
+-- src/copies.rt:445:13
+is-lost-requires : tie.Need-is-lost-requires Inv-loop μ-loop
+is-lost-requires c κs = search needs
 
--- src/copies.rt:359:5
-loop-again : tie.Need-loop-again Inv-loop μ-loop
-loop-again c = ((c .before .before .before .before .before .before .before .before .before .loop .inv) .0, (c .before .before .before .before .before .before .before .before .before .loop .inv) .1, (c .before .before .before .before .before .before .before .before .before .loop .inv) .2, omega (arith, (c .before .before .before .before .before .before .before .before .before .loop .inv) .3), (c .before .before .before .out .given) ∙ (c .before .before .before .before .before .before .before .before .before .loop .inv) .4)
-
--- src/copies.rt:337:1
+-- src/copies.rt:446:13
 same-length-3 : tie.Need-same-length-3 Inv-loop μ-loop
-same-length-3 c = (c .before .loop .inv) .4
+same-length-3 c = search needs
 
--- src/copies.rt:337:1
+-- src/copies.rt:446:13
+same-length-4 : tie.Need-same-length-4 Inv-loop μ-loop
+same-length-4 c = search needs
+
+-- src/copies.rt:446:13
+returns-2 : tie.Need-returns-2 Inv-loop μ-loop
+returns-2 c = search needs
+
+-- src/copies.rt:448:9
+sub-d : tie.Need-sub-d Inv-loop μ-loop
+sub-d c = search needs
+
+-- src/copies.rt:425:5
+loop-less : tie.Need-loop-less Inv-loop μ-loop
+loop-less c = search needs
+
+-- src/copies.rt:425:5
+loop-again : tie.Need-loop-again Inv-loop μ-loop
+loop-again c = ((c .before .before .before .before .before .before .before .before .before .before .before .before .before .loop .inv) .0, (c .before .before .before .before .before .before .before .before .before .before .before .before .before .loop .inv) .1, (c .before .before .before .before .before .before .before .before .before .before .before .before .before .loop .inv) .2, omega (arith, (c .before .before .before .before .before .before .before .before .before .before .before .before .before .loop .inv) .3), (c .before .before .before .out .given) ∙ (c .before .before .before .before .before .before .before .before .before .before .before .before .before .loop .inv) .4, (c .before .before .before .before .before .kept .given) ∙ (c .before .before .before .before .before .before .before .before .before .before .before .before .before .loop .inv) .5)
+
+-- src/copies.rt:406:1
+same-length-5 : tie.Need-same-length-5 Inv-loop μ-loop
+same-length-5 c = search needs
+
+-- src/copies.rt:406:1
+same-length-6 : tie.Need-same-length-6 Inv-loop μ-loop
+same-length-6 c = search needs
+
+-- src/copies.rt:406:1
 returns-3 : tie.Need-returns-3 Inv-loop μ-loop
-returns-3 c = tt
+returns-3 c = search needs
 
 pub longest-back-spec : {M : Type 1} → statement M
 longest-back-spec =
@@ -75,13 +86,16 @@ longest-back-spec =
     nowhere-requires
     loop-holds
     same-length
+    same-length-2
     returns
     half-back-requires
     is-lost-requires
-    same-length-2
+    same-length-3
+    same-length-4
     returns-2
     sub-d
     loop-less
     loop-again
-    same-length-3
+    same-length-5
+    same-length-6
     returns-3)

@@ -1,101 +1,96 @@
-use mathlib.Core.Path.{_≡_, refl, _∙_}
+use mathlib.Core.Path.{_≡_}
 use Prim.Native.Nat.{_<_}
 use lib.ListN.{length}
 use Rattle.images.specs.Graph.{Good}
-use native.Mathlib.Omega.{arith}
+use borrow.Author.Needs.{needs}
 use Rattle.trace.proofs.copies.unread.Statement.{statement}
 use Rattle.trace.proofs.copies.unread.Tie as tie
-use Rattle.trace.proofs.copies.unread.Reads as reads
-use Rattle.trace.proofs.copies.unread.Lts as lts
-use Rattle.trace.proofs.copies.letter_at.Reads as letter-at-reads
-use Rattle.trace.proofs.copies.set_at.Reads as set-at-reads
-use Rattle.trace.proofs.levels.letter_back.Reads as letter-back-reads
-use Rattle.trace.proofs.levels.only.Reads as only-reads
-use Rattle.trace.proofs.levels.settle.Reads as settle-reads
-use Rattle.trace.proofs.points.is_lost.Reads as is-lost-reads
-use Rattle.trace.proofs.points.mode_of.Reads as mode-of-reads
 
 abbrev Inv-loop : tie.InvT-loop
-Inv-loop targets firsts numbers g h word i d sets from at out₀ now₀ k₀ out now k = Good targets numbers × (i < 256) × (k < 256) × (length out ≡ length out₀)
+Inv-loop targets firsts numbers g h word i d kept begun from at out₀ now₀ k₀ out now k = Good targets numbers × (i < 256) × (k < 256) × (begun < 256) × (length out ≡ length out₀)
 
 abbrev μ-loop : tie.MeasureT-loop
-μ-loop targets firsts numbers g h word i d sets from at out₀ now₀ k₀ out now k = k
+μ-loop targets firsts numbers g h word i d kept begun from at out₀ now₀ k₀ out now k = k
 
--- src/copies.rt:100:5
+-- src/copies.rt:111:5
 loop-holds : tie.Need-loop-holds Inv-loop μ-loop
-loop-holds c = ((c .before .before .before .before .pre) .0, (c .before .before .before .before .pre) .1, (c .before .before .before .before .pre) .2, refl)
+loop-holds c = search needs
 
--- src/copies.rt:101:12
+-- src/copies.rt:112:12
 is-lost-requires : tie.Need-is-lost-requires Inv-loop μ-loop
-is-lost-requires c κs = tt
+is-lost-requires c κs = search needs
 
--- src/copies.rt:102:13
+-- src/copies.rt:113:13
 same-length : tie.Need-same-length Inv-loop μ-loop
-same-length c = (c .before .before .before .loop .inv) .3
+same-length c = search needs
 
--- src/copies.rt:102:13
+-- src/copies.rt:113:13
 returns : tie.Need-returns Inv-loop μ-loop
-returns c = tt
+returns c = search needs
 
--- src/copies.rt:104:9
+-- src/copies.rt:115:9
 sub-k : tie.Need-sub-k Inv-loop μ-loop
-sub-k c = omega (arith, (c .before .before .loop-test .taken))
+sub-k c = search needs
 
--- src/copies.rt:105:33
+-- src/copies.rt:116:33
 add-letter-at : tie.Need-add-letter-at Inv-loop μ-loop
-add-letter-at c = omega (arith, (c .before .before .before .loop .inv) .1, (c .before .before .before .loop .inv) .2)
+add-letter-at c = search needs
 
--- src/copies.rt:105:13
+-- src/copies.rt:116:13
 letter-at-requires : tie.Need-letter-at-requires Inv-loop μ-loop
-letter-at-requires c κs = tt
+letter-at-requires c κs = search needs
 
--- src/copies.rt:106:13
+-- src/copies.rt:117:32
+add-set-at : tie.Need-add-set-at Inv-loop μ-loop
+add-set-at c = search needs
+
+-- src/copies.rt:117:13
 set-at-requires : tie.Need-set-at-requires Inv-loop μ-loop
-set-at-requires c κs = tt
+set-at-requires c κs = search needs
 
--- src/copies.rt:107:9
+-- src/copies.rt:118:9
 letter-back-requires : tie.Need-letter-back-requires Inv-loop μ-loop
-letter-back-requires c κs = (c .before .before .before .before .before .before .loop .inv) .0
+letter-back-requires c κs = search needs
 
--- src/copies.rt:100:5
+-- src/copies.rt:111:5
 loop-less : tie.Need-loop-less Inv-loop μ-loop
-loop-less c = omega (arith, (c .before .before .before .before .before .before .before .before .loop-test .taken))
+loop-less c = search needs
 
--- src/copies.rt:100:5
+-- src/copies.rt:111:5
 loop-again : tie.Need-loop-again Inv-loop μ-loop
-loop-again c = ((c .before .before .before .before .before .before .before .before .before .loop .inv) .0, (c .before .before .before .before .before .before .before .before .before .loop .inv) .1, omega (arith, (c .before .before .before .before .before .before .before .before .before .loop .inv) .2), (c .before .out .given) ∙ (c .before .before .before .before .before .before .before .before .before .loop .inv) .3)
+loop-again c = search needs
 
--- src/copies.rt:109:8
+-- src/copies.rt:120:8
 is-lost-requires-2 : tie.Need-is-lost-requires-2 Inv-loop μ-loop
-is-lost-requires-2 c κs = tt
+is-lost-requires-2 c κs = search needs
 
--- src/copies.rt:110:9
+-- src/copies.rt:121:9
 same-length-2 : tie.Need-same-length-2 Inv-loop μ-loop
-same-length-2 c = (c .before .before .before .loop .inv) .3
+same-length-2 c = search needs
 
--- src/copies.rt:110:9
+-- src/copies.rt:121:9
 returns-2 : tie.Need-returns-2 Inv-loop μ-loop
-returns-2 c = tt
+returns-2 c = search needs
 
--- src/copies.rt:112:9
+-- src/copies.rt:123:9
 mode-of-requires : tie.Need-mode-of-requires Inv-loop μ-loop
-mode-of-requires c κs = tt
+mode-of-requires c κs = search needs
 
--- src/copies.rt:113:9
+-- src/copies.rt:124:9
 only-requires : tie.Need-only-requires Inv-loop μ-loop
-only-requires c κs = tt
+only-requires c κs = search needs
 
--- src/copies.rt:114:5
+-- src/copies.rt:125:5
 settle-requires : tie.Need-settle-requires Inv-loop μ-loop
-settle-requires c κs = (c .before .before .before .before .before .before .loop .inv) .0
+settle-requires c κs = search needs
 
--- src/copies.rt:82:1
+-- src/copies.rt:92:1
 same-length-3 : tie.Need-same-length-3 Inv-loop μ-loop
-same-length-3 c = (c .before .out2 .given) ∙ (c .before .before .before .before .before .before .before .before .before .loop .inv) .3
+same-length-3 c = search needs
 
--- src/copies.rt:82:1
+-- src/copies.rt:92:1
 returns-3 : tie.Need-returns-3 Inv-loop μ-loop
-returns-3 c = tt
+returns-3 c = search needs
 
 pub unread-spec : {M : Type 1} → statement M
 unread-spec =
@@ -110,6 +105,7 @@ unread-spec =
     sub-k
     add-letter-at
     letter-at-requires
+    add-set-at
     set-at-requires
     letter-back-requires
     loop-less
