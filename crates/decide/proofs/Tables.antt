@@ -23,7 +23,7 @@ use Rattle.targets.specs.Targets.{Read, Targets}
 use Rattle.images.specs.Graph.{Members, graph, May, Edge, Good}
 
 pub good-table : {m : Machine} {list w numbers targets : List ℕ} → Targets m list w numbers targets → Good targets numbers
-good-table t = record { size = t .size; rows = t .rows }
+good-table t = record { size = t .table .size; rows = t .table .rows; epsilons = t .epsilons }
 
 -- a state whose mark is not 0 is one of the machine's
 marked : (m : Machine) (list : List ℕ) → Sorted m list → (q : ℕ) → (markOf (m .marks) q ≡ 0 → ⊥) → q < m .states
@@ -83,7 +83,7 @@ pub record Table (m : Machine) (list w targets numbers : List ℕ) (g h : ℕ) :
 
 module _ {m : Machine} {list w targets numbers : List ℕ} {g h : ℕ} (t : Table m list w targets numbers g h) where
   pub edge-listed : {T : Mode} {y p q : ℕ} → Read w y → Edge (graph targets numbers g h) T y p q → Listed list (m .transitions) p y q
-  edge-listed {y = y} {p = p} {q = q} r e = t .holds .listed y p q (e .state) r .0 (e .target)
+  edge-listed {y = y} {p = p} {q = q} r e = t .holds .table .listed y p q (e .state) r .0 (e .target)
 
   pub listed-edge : {T : Mode} {y p q : ℕ} → Read w y → Listed list (m .transitions) p y q → May g h T p q → Edge (graph targets numbers g h) T y p q
   listed-edge {y = y} {p = p} {q = q} r d a =
@@ -91,4 +91,4 @@ module _ {m : Machine} {list w targets numbers : List ℕ} {g h : ℕ} (t : Tabl
       let few = t .sorted .states-fit in
       let e = d .from in
       let state : p < width = omega arith in
-      record { state = state; target = t .holds .listed y p q state r .1 d; may = a }
+      record { state = state; target = t .holds .table .listed y p q state r .1 d; may = a }

@@ -1,5 +1,5 @@
 // Whether a machine accepts a word, the table of targets made for it.
-ghost use Prim.Native.Nat.{ℕ, _+_, _*_, _≤_};
+ghost use Prim.Native.Nat.{ℕ, _+_, _*_, _≤_, _<_};
 ghost use mathlib.Core.Path.{_≡_};
 ghost use mathlib.Core.Bool.{true};
 ghost use lib.ListN.{length, getD};
@@ -19,7 +19,7 @@ fn accepts_with(
     firsts: &mut [u16],
     word: &[u8],
 ) -> bool
-    requires { ⌜ (wellFormed m (now list) ≡ true) × (length (now word) ≤ 255) × Numbered (now word) (now numbers) count × ((count + 1) * 64 ≤ length (now table))
+    requires { ⌜ (wellFormed m (now list) ≡ true) × (length (now word) ≤ 255) × Numbered (now word) (now numbers) count × ((count + 1) * 64 < length (now table))
         × ((i : ℕ) → getD (now table) i 0 ≡ 0) × (length (now table) ≤ length (now firsts)) ⌝ }
     ensures { λ r. ⌜ r ≡ accepted m (now (list .entry)) (now (word .entry)) ⌝ }
 {
@@ -34,8 +34,8 @@ fn accepts_few(m: Machine, list: &[u16], numbers: &[u8; 256], count: usize, word
     requires { ⌜ (wellFormed m (now list) ≡ true) × (length (now word) ≤ 255) × Numbered (now word) (now numbers) count × (count ≤ 3) ⌝ }
     ensures { λ r. ⌜ r ≡ accepted m (now (list .entry)) (now (word .entry)) ⌝ }
 {
-    let mut table: [u64; 256] = [0; 256];
-    let mut firsts: [u16; 256] = [0; 256];
+    let mut table: [u64; 257] = [0; 257];
+    let mut firsts: [u16; 257] = [0; 257];
     accepts_with(m, list, numbers, count, &mut table, &mut firsts, word)
 }
 
@@ -43,8 +43,8 @@ fn accepts_some(m: Machine, list: &[u16], numbers: &[u8; 256], count: usize, wor
     requires { ⌜ (wellFormed m (now list) ≡ true) × (length (now word) ≤ 255) × Numbered (now word) (now numbers) count × (count ≤ 31) ⌝ }
     ensures { λ r. ⌜ r ≡ accepted m (now (list .entry)) (now (word .entry)) ⌝ }
 {
-    let mut table: [u64; 2048] = [0; 2048];
-    let mut firsts: [u16; 2048] = [0; 2048];
+    let mut table: [u64; 2049] = [0; 2049];
+    let mut firsts: [u16; 2049] = [0; 2049];
     accepts_with(m, list, numbers, count, &mut table, &mut firsts, word)
 }
 
@@ -52,8 +52,8 @@ fn accepts_many(m: Machine, list: &[u16], numbers: &[u8; 256], count: usize, wor
     requires { ⌜ (wellFormed m (now list) ≡ true) × (length (now word) ≤ 255) × Numbered (now word) (now numbers) count ⌝ }
     ensures { λ r. ⌜ r ≡ accepted m (now (list .entry)) (now (word .entry)) ⌝ }
 {
-    let mut table: [u64; 16384] = [0; 16384];
-    let mut firsts: [u16; 16384] = [0; 16384];
+    let mut table: [u64; 16385] = [0; 16385];
+    let mut firsts: [u16; 16385] = [0; 16385];
     accepts_with(m, list, numbers, count, &mut table, &mut firsts, word)
 }
 

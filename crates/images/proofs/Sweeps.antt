@@ -1,6 +1,7 @@
 -- Loops over the members of a set, and fixpoints, for any relation.
 --
 -- Swept     == the invariant of a loop that takes a set's members one by one and unites their images
+-- part-image, no-image == the image of a set is that of its members from which steps can begin; there is none where it has none
 -- Closing   == the invariant of a closure that looks only at the members that came last
 -- Placing   == the invariant of a closure under two relations in turns
 -- ..-start, ..-turn, ..-less, ..-end == each begins, one turn, its measure, its end
@@ -63,6 +64,15 @@ module _ (R : ℕ → ℕ → Type 0) (set : ℕ) where
 
   pub swept-end : (rest image : ℕ) → Swept R set rest image → rest ≡ 0 → Members image (From set R)
   swept-end rest image s e = members-as (s .members) (λ q z. (z .0, z .1, z .3)) (λ q z. (z .0, z .1, none-in e (z .0), z .2))
+
+-- where every R-step from a set begins in a state of another, only the states of both matter
+module _ (R : ℕ → ℕ → Type 0) (set may part : ℕ) (both : Members part (λ q. In set q × In may q)) (only : (p q : ℕ) → R p q → In may p) where
+  pub part-image : (step : ℕ) → Members step (From part R) → Members step (From set R)
+  part-image step m =
+      members-as m (λ q z. (z .0, both .members (z .0) .0 (z .1) .0, z .2)) (λ q z. (z .0, both .members (z .0) .1 (z .1, only (z .0) q (z .2)), z .2))
+
+  pub no-image : part ≡ 0 → Members 0 (From set R)
+  no-image e = members-none (λ q z. none-in e (z .0) (both .members (z .0) .1 (z .1, only (z .0) q (z .2))))
 
 pub record Closing (R : ℕ → ℕ → Type 0) (set all new : ℕ) : Type 0 where
   pub all-fits : all < 2 ^ width
@@ -131,6 +141,10 @@ module _ (R : ℕ → ℕ → Type 0) (set : ℕ) where
         reach : {p q : ℕ} → In all p → Star R p q → In all q
         reach h here = h
         reach h (more {q = q} {r = r} s y) = into r (leads q r (reach h s) y)
+
+  -- no step leads on from what came last
+  pub closing-stuck : (all new : ℕ) → Closing R set all new → Members 0 (From new R) → Members all (From set (Star R))
+  closing-stuck all new c image = closing-end all new 0 0 c image (members-none (λ q z. none-in refl q (z .0))) refl
 
 pub record Placing (R : ℕ → ℕ → Type 0) (set all : ℕ) : Type 0 where
   pub fits : all < 2 ^ width

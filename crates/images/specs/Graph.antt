@@ -13,10 +13,10 @@
 -- Lead G T x p q         == q is reached from p in mode T by epsilon moves, a move that reads x, and epsilon moves
 -- EmptyCopy G p q        == from p in normal mode to q in normal mode by a copy of nothing, in epsilon moves
 -- Turn G p q             == an epsilon move in normal mode, or an empty copy
--- Good targets numbers   == each letter has a row in the table
+-- Good targets numbers   == each letter has a row in the table, and each state with an epsilon transition is in the table's last set
 -- Kind marks states b set == the set of the states below a number whose mark has the bit of value b
 -- KindsOf marks states k == the four sets of states by their marks
-use Prim.Native.Nat.{ℕ, _+_, _*_, _/_, _%_, _^_, _≤_, _<_}
+use Prim.Native.Nat.{ℕ, _+_, _-_, _*_, _/_, _%_, _^_, _≤_, _<_}
 use mathlib.Core.Path.{_≡_}
 use mathlib.Core.Logic.{_↔_, _⊎_}
 use mathlib.Core.List.{List}
@@ -94,6 +94,7 @@ Turn G p q = Edge G Normal 0 p q ⊎ EmptyCopy G p q
 pub record Good (targets numbers : List ℕ) : Type 0 where
   pub size : length numbers ≡ 256
   pub rows : (x : ℕ) → getD numbers x 0 * 64 + 64 ≤ length targets
+  pub epsilons : (p q : ℕ) → p < width → In (getD targets (getD numbers 0 0 * 64 + p) 0) q → In (getD targets (length targets - 1) 0) p
 
 abbrev pub Kind : List ℕ → ℕ → ℕ → ℕ → Type 0
 Kind marks states b set = Members set (λ q. (q < states) × (markOf marks q / b % 2 ≡ 1))

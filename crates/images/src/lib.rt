@@ -1,7 +1,7 @@
 // Images and closures of sets of states under the transitions that a mode may take. The table targets says where the transitions of
-// each letter lead from each state, and numbers which row of it a letter has; letter 0, epsilon, has row 0. g is the set of buffering
-// states, h the set of matching states.
-ghost use Prim.Native.Nat.{ℕ, _+_, _*_, _/_, _%_, _^_, _≤_, _<_};
+// each letter lead from each state, and numbers which row of it a letter has; letter 0, epsilon, has row 0. The last set of the table
+// has the states with epsilon transitions. g is the set of buffering states, h the set of matching states.
+ghost use Prim.Native.Nat.{ℕ, _+_, _-_, _*_, _/_, _%_, _^_, _≤_, _<_};
 ghost use mathlib.Core.Path.{_≡_};
 ghost use mathlib.Core.Bool.{true};
 ghost use mathlib.Core.Logic.{_⊎_};
@@ -148,15 +148,28 @@ pub fn step_set(
     }
 }
 
-// The states that a set reaches by epsilon moves in a mode.
+// The states that have epsilon transitions.
+pub fn epsilons(targets: &[u64]) -> u64
+    requires { ⌜ 0 < length (now targets) ⌝ }
+    ensures { λ r. ⌜ r ≡ getD (now (targets .entry)) (length (now (targets .entry)) - 1) 0 ⌝ }
+{
+    targets[targets.len() - 1]
+}
+
+// The states that a set reaches by epsilon moves in a mode. Only states that have epsilon transitions are looked up.
 pub fn close_set(targets: &[u64], numbers: &[u8; 256], g: u64, h: u64, mode: Mode, set: u64) -> u64
     requires { ⌜ Good (now targets) (now numbers) ⌝ }
     ensures { λ r. ⌜ Members r (From set (Free (graph (now (targets .entry)) (now (numbers .entry)) g h) mode)) ⌝ }
 {
+    let may = epsilons(targets);
     let mut all = set;
     let mut new = set;
     loop {
-        new = stateset::difference(step_set(targets, numbers, g, h, mode, new, 0), all);
+        let from = stateset::intersection(new, may);
+        if from == 0 {
+            return all;
+        }
+        new = stateset::difference(step_set(targets, numbers, g, h, mode, from, 0), all);
         if new == 0 {
             return all;
         }

@@ -203,7 +203,7 @@ fn answer_with(
     run: &mut [u16],
 ) -> Recognized
     requires { ⌜ (tableAndWord longestRecognized m (now list) (now word) ≡ 0) × (needed ≡ runBound m (length (now word))) × (needed ≤ length (now run)) × Numbered (now word) (now numbers) count
-        × ((count + 1) * 64 ≤ length (now table)) × ((i : ℕ) → getD (now table) i 0 ≡ 0) × (length (now table) ≤ length (now firsts)) ⌝ }
+        × ((count + 1) * 64 < length (now table)) × ((i : ℕ) → getD (now table) i 0 ≡ 0) × (length (now table) ≤ length (now firsts)) ⌝ }
     ensures { λ r. ⌜ Recognition m (now (list .entry)) (now (word .entry)) (now (run .entry)) (now (run .exit)) r ⌝ }
 {
     targets::fill(m, list, numbers, count, table, firsts);
@@ -240,8 +240,8 @@ fn answer_of_two(
     requires { ⌜ (tableAndWord longestRecognized m (now list) (now word) ≡ 0) × (needed ≡ runBound m (length (now word))) × (needed ≤ length (now run)) × Numbered (now word) (now numbers) count × (count ≤ 2) ⌝ }
     ensures { λ r. ⌜ Recognition m (now (list .entry)) (now (word .entry)) (now (run .entry)) (now (run .exit)) r ⌝ }
 {
-    let mut table: [u64; 192] = [0; 192];
-    let mut firsts: [u16; 192] = [0; 192];
+    let mut table: [u64; 193] = [0; 193];
+    let mut firsts: [u16; 193] = [0; 193];
     answer_with(
         m,
         list,
@@ -267,8 +267,8 @@ fn answer_of_seven(
     requires { ⌜ (tableAndWord longestRecognized m (now list) (now word) ≡ 0) × (needed ≡ runBound m (length (now word))) × (needed ≤ length (now run)) × Numbered (now word) (now numbers) count × (count ≤ 7) ⌝ }
     ensures { λ r. ⌜ Recognition m (now (list .entry)) (now (word .entry)) (now (run .entry)) (now (run .exit)) r ⌝ }
 {
-    let mut table: [u64; 512] = [0; 512];
-    let mut firsts: [u16; 512] = [0; 512];
+    let mut table: [u64; 513] = [0; 513];
+    let mut firsts: [u16; 513] = [0; 513];
     answer_with(
         m,
         list,
@@ -294,8 +294,8 @@ fn answer_of_fifteen(
     requires { ⌜ (tableAndWord longestRecognized m (now list) (now word) ≡ 0) × (needed ≡ runBound m (length (now word))) × (needed ≤ length (now run)) × Numbered (now word) (now numbers) count × (count ≤ 15) ⌝ }
     ensures { λ r. ⌜ Recognition m (now (list .entry)) (now (word .entry)) (now (run .entry)) (now (run .exit)) r ⌝ }
 {
-    let mut table: [u64; 1024] = [0; 1024];
-    let mut firsts: [u16; 1024] = [0; 1024];
+    let mut table: [u64; 1025] = [0; 1025];
+    let mut firsts: [u16; 1025] = [0; 1025];
     answer_with(
         m,
         list,
@@ -321,8 +321,8 @@ fn answer_of_thirty_one(
     requires { ⌜ (tableAndWord longestRecognized m (now list) (now word) ≡ 0) × (needed ≡ runBound m (length (now word))) × (needed ≤ length (now run)) × Numbered (now word) (now numbers) count × (count ≤ 31) ⌝ }
     ensures { λ r. ⌜ Recognition m (now (list .entry)) (now (word .entry)) (now (run .entry)) (now (run .exit)) r ⌝ }
 {
-    let mut table: [u64; 2048] = [0; 2048];
-    let mut firsts: [u16; 2048] = [0; 2048];
+    let mut table: [u64; 2049] = [0; 2049];
+    let mut firsts: [u16; 2049] = [0; 2049];
     answer_with(
         m,
         list,
@@ -348,8 +348,8 @@ fn answer_of_any(
     requires { ⌜ (tableAndWord longestRecognized m (now list) (now word) ≡ 0) × (needed ≡ runBound m (length (now word))) × (needed ≤ length (now run)) × Numbered (now word) (now numbers) count ⌝ }
     ensures { λ r. ⌜ Recognition m (now (list .entry)) (now (word .entry)) (now (run .entry)) (now (run .exit)) r ⌝ }
 {
-    let mut table: [u64; 16384] = [0; 16384];
-    let mut firsts: [u16; 16384] = [0; 16384];
+    let mut table: [u64; 16385] = [0; 16385];
+    let mut firsts: [u16; 16385] = [0; 16385];
     answer_with(
         m,
         list,

@@ -8,8 +8,10 @@
 -- Put list numbers k n p q == one of the first k transitions goes from p to q by a letter that has row n
 -- Filled list numbers targets k == the table has the first k transitions
 -- Read w x                 == x is letter 0 or a letter of w
--- Targets m list w numbers targets == the table has, for each letter of w and letter 0 and for each state, where its transitions lead
-use Prim.Native.Nat.{ℕ, _+_, _*_, _≤_, _<_}
+-- Rows m list w numbers targets == the table has, for each letter of w and letter 0 and for each state, where its transitions lead
+-- Sources targets states set == the set has each state below a number whose set in the table's first row is not empty
+-- Targets m list w numbers targets == such a table whose last set has each state with an epsilon transition
+use Prim.Native.Nat.{ℕ, _+_, _-_, _*_, _≤_, _<_}
 use mathlib.Core.Path.{_≡_}
 use mathlib.Core.Logic.{_↔_, _⊎_}
 use mathlib.Core.List.{List}
@@ -62,7 +64,14 @@ pub record Filled (list numbers targets : List ℕ) (k : ℕ) : Type 0 where
 abbrev pub Read : List ℕ → ℕ → Type 0
 Read w x = (x ≡ 0) ⊎ ((i : ℕ) × (i < length w) × (getD w i 0 ≡ x) × (0 < x))
 
-pub record Targets (m : Machine) (list w numbers targets : List ℕ) : Type 0 where
+pub record Rows (m : Machine) (list w numbers targets : List ℕ) : Type 0 where
   pub size : length numbers ≡ 256
   pub rows : (x : ℕ) → getD numbers x 0 * 64 + 64 ≤ length targets
   pub listed : (x p q : ℕ) → p < width → Read w x → In (getD targets (getD numbers x 0 * 64 + p) 0) q ↔ Listed list (m .transitions) p x q
+
+abbrev pub Sources : List ℕ → ℕ → ℕ → Type 0
+Sources targets states set = (p q : ℕ) → p < states → In (getD targets p 0) q → In set p
+
+pub record Targets (m : Machine) (list w numbers targets : List ℕ) : Type 0 where
+  pub table : Rows m list w numbers targets
+  pub epsilons : (p q : ℕ) → p < width → In (getD targets (getD numbers 0 0 * 64 + p) 0) q → In (getD targets (length targets - 1) 0) p

@@ -13,7 +13,8 @@ ghost use mathlib.Core.Bool.{true};
 ghost use mathlib.Core.List.{List};
 ghost use lib.ListN.{length, getD};
 ghost use Rattle.fsbm.specs.Machine.{wellFormed};
-ghost use Rattle.targets.specs.Targets.{Distinct, Next, Numbered, Kept, Inside, Filled, Targets};
+ghost use Rattle.targets.specs.Targets.{Distinct, Next, Numbered, Kept, Inside, Filled, Rows, Sources, Targets};
+ghost use Rattle.stateset.specs.Set.{width, In};
 use fsbm::machine::Machine;
 
 // numbers[x] is the number of letter x: from 1 to count, in the order in which the letters first stand in the word. It is 0 for
@@ -106,11 +107,10 @@ fn put(list: &[u16], numbers: &[u8; 256], targets: &mut [u64], firsts: &mut [u16
     targets[at] = stateset::add(targets[at], q);
 }
 
-// Fills a table of zeros: targets[numbers[x] * 64 + p] is then the set of the states that the transitions from p with letter x lead
-// to, for letter 0 and each letter x of the word whose letters are numbered. Beside it, firsts has the number of the first transition of
-// each set that is not empty, for a search that checks what it takes from there: nothing is promised of it.
-// Time: the transitions, each once. Memory: none but the table.
-pub fn fill(
+// Fills the rows of a table of zeros: targets[numbers[x] * 64 + p] is then the set of the states that the transitions from p with letter x
+// lead to, for letter 0 and each letter x of the word whose letters are numbered. Beside it, firsts has the number of the first
+// transition of each set that is not empty, for a search that checks what it takes from there: nothing is promised of it.
+fn fill_rows(
     m: Machine,
     list: &[u16],
     numbers: &[u8; 256],
@@ -119,11 +119,55 @@ pub fn fill(
     firsts: &mut [u16],
 )
     requires { ⌜ (wellFormed m (now list) ≡ true) × ((x : ℕ) → getD (now numbers) x 0 ≤ count) × ((count + 1) * 64 ≤ length (now targets)) × ((i : ℕ) → getD (now targets) i 0 ≡ 0) × (length (now targets) ≤ length (now firsts)) ⌝ }
-    ensures { λ r. ⌜ ((w : List ℕ) (c : ℕ) → Numbered w (now (numbers .entry)) c → Targets m (now (list .entry)) w (now (numbers .entry)) (now (targets .exit))) ⌝ }
+    ensures { λ r. ⌜ ((w : List ℕ) (c : ℕ) → Numbered w (now (numbers .entry)) c → Rows m (now (list .entry)) w (now (numbers .entry)) (now (targets .exit))) ⌝ }
 {
     let mut k: usize = 0;
     while k < m.transitions {
         put(list, numbers, targets, firsts, k);
         k += 1;
     }
+}
+
+// The set with p where its own set of states is not empty, else the set.
+fn add_source(set: u64, p: usize, own: u64) -> u64
+    ensures { λ r. ⌜ ((q : ℕ) → In set q → In r q) × ((own ≡ 0 → ⊥) → p < width → In r p) ⌝ }
+{
+    if own == 0 {
+        return set;
+    }
+    stateset::add(set, p)
+}
+
+// The states below a number whose set in the first row of the table is not empty.
+fn sources(targets: &[u64], states: usize) -> u64
+    requires { ⌜ (states ≤ width) × (width ≤ length (now targets)) ⌝ }
+    ensures { λ r. ⌜ Sources (now (targets .entry)) states r ⌝ }
+{
+    let mut set = stateset::empty();
+    let mut p: usize = 0;
+    while p < states {
+        set = add_source(set, p, targets[p]);
+        p += 1;
+    }
+    set
+}
+
+// Fills a table of zeros: its rows, one for letter 0 and one for each letter of the word whose letters are numbered, and behind them, as
+// its last set, the states that have epsilon transitions.
+// Time: the transitions and the states, each once. Memory: none but the table.
+pub fn fill(
+    m: Machine,
+    list: &[u16],
+    numbers: &[u8; 256],
+    count: usize,
+    targets: &mut [u64],
+    firsts: &mut [u16],
+)
+    requires { ⌜ (wellFormed m (now list) ≡ true) × ((x : ℕ) → getD (now numbers) x 0 ≤ count) × ((count + 1) * 64 < length (now targets)) × ((i : ℕ) → getD (now targets) i 0 ≡ 0) × (length (now targets) ≤ length (now firsts)) ⌝ }
+    ensures { λ r. ⌜ ((w : List ℕ) (c : ℕ) → Numbered w (now (numbers .entry)) c → Targets m (now (list .entry)) w (now (numbers .entry)) (now (targets .exit))) ⌝ }
+{
+    fill_rows(m, list, numbers, count, targets, firsts);
+    let set = sources(targets, m.states);
+    let last = targets.len() - 1;
+    targets[last] = set;
 }

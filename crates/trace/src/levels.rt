@@ -77,14 +77,25 @@ fn turned(sets: Spread, g: u64, h: u64) -> Spread {
     }
 }
 
-// What epsilon moves lead to, one for each.
+// What one epsilon move leads to from the states of a set in a mode.
+fn free_step(targets: &[u64], numbers: &[u8; 256], g: u64, h: u64, mode: Mode, set: u64) -> u64
+    requires { ⌜ Good (now targets) (now numbers) ⌝ }
+{
+    let from = stateset::intersection(set, images::epsilons(targets));
+    if from == 0 {
+        return 0;
+    }
+    images::step_set(targets, numbers, g, h, mode, from, 0)
+}
+
+// The same for the sets of all modes.
 fn stepped(targets: &[u64], numbers: &[u8; 256], g: u64, h: u64, sets: Spread) -> Spread
     requires { ⌜ Good (now targets) (now numbers) ⌝ }
 {
     Spread {
-        normal: images::step_set(targets, numbers, g, h, Mode::Normal, sets.normal, 0),
-        buffering: images::step_set(targets, numbers, g, h, Mode::Buffering, sets.buffering, 0),
-        emptying: images::step_set(targets, numbers, g, h, Mode::Emptying, sets.emptying, 0),
+        normal: free_step(targets, numbers, g, h, Mode::Normal, sets.normal),
+        buffering: free_step(targets, numbers, g, h, Mode::Buffering, sets.buffering),
+        emptying: free_step(targets, numbers, g, h, Mode::Emptying, sets.emptying),
     }
 }
 
@@ -357,6 +368,9 @@ pub fn letter_back(
 ) -> usize
     requires { ⌜ Good (now targets) (now numbers) ⌝ }
 {
+    if set == 0 {
+        return points::LOST;
+    }
     let direct = points::read_back(targets, firsts, numbers, g, h, set, x, at, out);
     if !points::is_lost(direct) {
         return direct;

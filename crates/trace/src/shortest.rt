@@ -58,6 +58,7 @@ fn close_back(
 ) -> u64
     requires { ⌜ Good (now targets) (now numbers) ⌝ }
 {
+    let may = stateset::intersection(set, images::epsilons(targets));
     let mut all = to;
     let mut new = to;
     let mut rounds: usize = 0;
@@ -65,7 +66,7 @@ fn close_back(
         if new == 0 {
             return all;
         }
-        let rest = stateset::difference(set, all);
+        let rest = stateset::difference(may, all);
         new = sources(targets, numbers, g, h, mode, 0, rest, new);
         all = stateset::union(all, new);
         rounds += 1;

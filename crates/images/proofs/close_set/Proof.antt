@@ -1,52 +1,60 @@
-use borrow.Author.Needs.{needs}
-use Rattle.images.proofs.Sweeps.{Closing, closing-start, closing-turn, closing-less, closing-end}
+use Rattle.images.proofs.Sweeps.{part-image, no-image, Closing, closing-start, closing-turn, closing-less, closing-end, closing-stuck}
 use Rattle.images.proofs.SetCases.{members-is}
-use native.Mathlib.Omega.{arith}
-use Prim.Native.Nat.{_-_}
+use mathlib.Core.Path.{sym, subst}
+use Prim.Native.Nat.{ℕ, _-_}
 use lib.Count.{ones}
-use Rattle.stateset.specs.Set.{width}
+use Rattle.stateset.specs.Set.{width, In}
 use Rattle.images.specs.Graph.{graph, Edge, Good}
+use borrow.Author.Needs.{needs}
+use native.Mathlib.Omega.{arith}
 use Rattle.images.proofs.close_set.Statement.{statement}
 use Rattle.images.proofs.close_set.Tie as tie
-use Rattle.images.proofs.close_set.Reads as reads
-use Rattle.images.proofs.close_set.Lts as lts
-use Rattle.images.proofs.step_set.Reads as step-set-reads
-use Rattle.stateset.proofs.difference.Reads as difference-reads
-use Rattle.stateset.proofs.union.Reads as union-reads
 
 abbrev Inv-loop : tie.InvT-loop
-Inv-loop targets numbers g h mode set all₀ new₀ all new = Good targets numbers × Closing (Edge (graph targets numbers g h) mode 0) set all new
+Inv-loop targets numbers g h mode set may all₀ new₀ all new = Good targets numbers × ((p q : ℕ) → Edge (graph targets numbers g h) mode 0 p q → In may p) × Closing (Edge (graph targets numbers g h) mode 0) set all new
 
 abbrev μ-loop : tie.MeasureT-loop
-μ-loop targets numbers g h mode set all₀ new₀ all new = width - ones all
+μ-loop targets numbers g h mode set may all₀ new₀ all new = width - ones all
 
--- src/images.rt:141:5
+-- src/lib.rt:164:9
+epsilons-requires : tie.Need-epsilons-requires Inv-loop μ-loop
+epsilons-requires c κs = omega (arith, (c .before .pre) .rows 0)
+
+-- src/lib.rt:167:5
 loop-holds : tie.Need-loop-holds Inv-loop μ-loop
-loop-holds c = ((c .before .pre), closing-start _ _ (omega arith))
+loop-holds c = ((c .before .before .pre), (λ p q e. subst (λ (y : ℕ). In y p) (sym (c .epsilons .ensures)) ((c .before .before .pre) .epsilons p q (e .state) (e .target))), closing-start _ _ (omega arith))
 
--- src/images.rt:142:36
+-- src/lib.rt:168:13
+intersection-requires : tie.Need-intersection-requires Inv-loop μ-loop
+intersection-requires c κs = search needs
+
+-- src/lib.rt:170:13
+returns : tie.Need-returns Inv-loop μ-loop
+returns c = closing-stuck _ _ _ _ ((c .before .before .loop .inv) .2) (no-image (Edge (graph ((c .before .before .before .before .before .args .targets) .now) ((c .before .before .before .before .before .args .numbers) .now) (c .before .before .before .before .before .args .g) (c .before .before .before .before .before .args .h)) (c .before .before .before .before .before .args .mode) 0) _ _ _ (members-is (c .before .intersection .ensures)) ((c .before .before .loop .inv) .1) (c .if1 .taken))
+
+-- src/lib.rt:172:36
 step-set-requires : tie.Need-step-set-requires Inv-loop μ-loop
-step-set-requires c κs = (c .loop .inv) .0
+step-set-requires c κs = (c .before .before .loop .inv) .0
 
--- src/images.rt:142:9
+-- src/lib.rt:172:9
 difference-requires : tie.Need-difference-requires Inv-loop μ-loop
 difference-requires c κs = search needs
 
--- src/images.rt:144:13
-returns : tie.Need-returns Inv-loop μ-loop
-returns c = closing-end _ _ _ _ _ _ ((c .before .before .before .loop .inv) .1) (c .before .before .step-set .ensures) (members-is (c .before .difference .ensures)) (c .if1 .taken)
+-- src/lib.rt:174:13
+returns-2 : tie.Need-returns-2 Inv-loop μ-loop
+returns-2 c = closing-end _ _ _ _ _ _ ((c .before .before .before .before .before .loop .inv) .2) (part-image (Edge (graph ((c .before .before .before .before .before .before .before .before .args .targets) .now) ((c .before .before .before .before .before .before .before .before .args .numbers) .now) (c .before .before .before .before .before .before .before .before .args .g) (c .before .before .before .before .before .before .before .before .args .h)) (c .before .before .before .before .before .before .before .before .args .mode) 0) _ _ _ (members-is (c .before .before .before .before .intersection .ensures)) ((c .before .before .before .before .before .loop .inv) .1) _ (c .before .before .step-set .ensures)) (members-is (c .before .difference .ensures)) (c .if2 .taken)
 
--- src/images.rt:146:9
+-- src/lib.rt:176:9
 union-requires : tie.Need-union-requires Inv-loop μ-loop
 union-requires c κs = search needs
 
--- src/images.rt:141:5
+-- src/lib.rt:167:5
 loop-less : tie.Need-loop-less Inv-loop μ-loop
-loop-less c = closing-less _ _ _ _ _ _ ((c .before .before .before .before .loop .inv) .1) (c .before .before .before .step-set .ensures) (members-is (c .before .before .difference .ensures)) _ (c .union .ensures) (members-is (c .union .ensures)) (c .before .if1 .left)
+loop-less c = closing-less _ _ _ _ _ _ ((c .before .before .before .before .before .before .loop .inv) .2) (part-image (Edge (graph ((c .before .before .before .before .before .before .before .before .before .args .targets) .now) ((c .before .before .before .before .before .before .before .before .before .args .numbers) .now) (c .before .before .before .before .before .before .before .before .before .args .g) (c .before .before .before .before .before .before .before .before .before .args .h)) (c .before .before .before .before .before .before .before .before .before .args .mode) 0) _ _ _ (members-is (c .before .before .before .before .before .intersection .ensures)) ((c .before .before .before .before .before .before .loop .inv) .1) _ (c .before .before .before .step-set .ensures)) (members-is (c .before .before .difference .ensures)) _ (c .union .ensures) (members-is (c .union .ensures)) (c .before .if2 .left)
 
--- src/images.rt:141:5
+-- src/lib.rt:167:5
 loop-again : tie.Need-loop-again Inv-loop μ-loop
-loop-again c = ((c .before .before .before .before .loop .inv) .0, closing-turn _ _ _ _ _ _ ((c .before .before .before .before .loop .inv) .1) (c .before .before .before .step-set .ensures) (members-is (c .before .before .difference .ensures)) _ (members-is (c .union .ensures)))
+loop-again c = ((c .before .before .before .before .before .before .loop .inv) .0, (c .before .before .before .before .before .before .loop .inv) .1, closing-turn _ _ _ _ _ _ ((c .before .before .before .before .before .before .loop .inv) .2) (part-image (Edge (graph ((c .before .before .before .before .before .before .before .before .before .args .targets) .now) ((c .before .before .before .before .before .before .before .before .before .args .numbers) .now) (c .before .before .before .before .before .before .before .before .before .args .g) (c .before .before .before .before .before .before .before .before .before .args .h)) (c .before .before .before .before .before .before .before .before .before .args .mode) 0) _ _ _ (members-is (c .before .before .before .before .before .intersection .ensures)) ((c .before .before .before .before .before .before .loop .inv) .1) _ (c .before .before .before .step-set .ensures)) (members-is (c .before .before .difference .ensures)) _ (members-is (c .union .ensures)))
 
 pub close-set-spec : {M : Type 1} → statement M
 close-set-spec =
@@ -54,10 +62,13 @@ close-set-spec =
     (tie.spec
     Inv-loop
     μ-loop
+    epsilons-requires
     loop-holds
+    intersection-requires
+    returns
     step-set-requires
     difference-requires
-    returns
+    returns-2
     union-requires
     loop-less
     loop-again)

@@ -12,7 +12,7 @@ slice-aggregate-answer-with-2 : tie.Need-slice-aggregate-answer-with-2
 slice-aggregate-answer-with-2 c = search needs
 
 answer-with-requires : tie.Need-answer-with-requires
-answer-with-requires c κs = ((c .before .before .before .before .before .before .pre) .0, (c .before .before .before .before .before .before .pre) .1, (c .before .before .before .before .before .before .pre) .2, (c .before .before .before .before .before .before .pre) .3, omega (arith, (c .before .before .before .before .before .before .pre) .4), zeros-at 192, omega arith)
+answer-with-requires c κs = ((c .before .before .before .before .before .before .pre) .0, (c .before .before .before .before .before .before .pre) .1, (c .before .before .before .before .before .before .pre) .2, (c .before .before .before .before .before .before .pre) .3, omega (arith, (c .before .before .before .before .before .before .pre) .4), zeros-at 193, omega arith)
 
 same-length : tie.Need-same-length
 same-length c = search needs

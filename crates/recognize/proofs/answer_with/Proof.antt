@@ -1,19 +1,12 @@
-use mathlib.Core.Path.{_≡_, refl, sym, _∙_}
+use mathlib.Core.Path.{refl, sym, _∙_}
 use borrow.Author.Tests.{not-true, not-false}
 use Rattle.fsbm.proofs.AnswerCases.{table-good}
 use Rattle.fsbm.specs.Rules.{rules}
 use Rattle.recognize.proofs.RecognizeCases.{says-no, says-yes}
 use borrow.Author.Needs.{needs}
 use native.Mathlib.Omega.{arith}
-use borrow.Author.Needs.{needs}
 use Rattle.recognize.proofs.answer_with.Statement.{statement}
 use Rattle.recognize.proofs.answer_with.Tie as tie
-use Rattle.recognize.proofs.answer_with.Reads as reads
-use Rattle.recognize.proofs.answer_with.Lts as lts
-use Rattle.images.proofs.kinds_of.Reads as kinds-of-reads
-use Rattle.decide.proofs.places.decide.Reads as decide-reads
-use Rattle.recognize.proofs.write.Reads as write-reads
-use Rattle.targets.proofs.fill.Reads as fill-reads
 
 -- src/lib.rt:133:5
 fill-requires : tie.Need-fill-requires
@@ -41,7 +34,7 @@ returns c = says-no (c .before .before .before .before .before .before .before .
 
 -- src/lib.rt:139:9
 write-requires : tie.Need-write-requires
-write-requires c κs = (table-good 255 (c .before .before .before .before .before .before .before .before .before .before .before .before .before .before .before .before .before .before .before .before .before .before .before .args .t1) ((c .before .before .before .before .before .before .before .before .before .before .before .before .before .before .before .before .before .before .before .before .before .before .before .args .list) .now) ((c .before .before .before .before .before .before .before .before .before .before .before .before .before .before .before .before .before .before .before .before .before .before .before .args .word) .now) ((c .before .before .before .before .before .before .before .before .before .before .before .before .before .before .before .before .before .before .before .before .before .before .before .pre) .0) .0, table-good 255 (c .before .before .before .before .before .before .before .before .before .before .before .before .before .before .before .before .before .before .before .before .before .before .before .args .t1) ((c .before .before .before .before .before .before .before .before .before .before .before .before .before .before .before .before .before .before .before .before .before .before .before .args .list) .now) ((c .before .before .before .before .before .before .before .before .before .before .before .before .before .before .before .before .before .before .before .before .before .before .before .args .word) .now) ((c .before .before .before .before .before .before .before .before .before .before .before .before .before .before .before .before .before .before .before .before .before .before .before .pre) .0) .1, sym (c .before .before .before .before .before .before .decide .ensures) ∙ not-false _ (c .before .before .before .before .before .if1 .left), (c .before .before .before .before .before .before .before .before .before .before .before .before .before .before .before .before .before .before .before .before .before .before .before .pre) .1, (c .before .before .before .before .before .before .before .before .before .before .before .before .before .before .before .before .before .before .before .before .before .before .before .pre) .2, record { size = (c .before .before .before .before .before .before .before .before .before .before .before .before .before .before .before .fill .ensures) _ _ ((c .before .before .before .before .before .before .before .before .before .before .before .before .before .before .before .before .before .before .before .before .before .before .before .pre) .3) .size; rows = (c .before .before .before .before .before .before .before .before .before .before .before .before .before .before .before .fill .ensures) _ _ ((c .before .before .before .before .before .before .before .before .before .before .before .before .before .before .before .before .before .before .before .before .before .before .before .pre) .3) .rows })
+write-requires c κs = (table-good 255 (c .before .before .before .before .before .before .before .before .before .before .before .before .before .before .before .before .before .before .before .before .before .before .before .args .t1) ((c .before .before .before .before .before .before .before .before .before .before .before .before .before .before .before .before .before .before .before .before .before .before .before .args .list) .now) ((c .before .before .before .before .before .before .before .before .before .before .before .before .before .before .before .before .before .before .before .before .before .before .before .args .word) .now) ((c .before .before .before .before .before .before .before .before .before .before .before .before .before .before .before .before .before .before .before .before .before .before .before .pre) .0) .0, table-good 255 (c .before .before .before .before .before .before .before .before .before .before .before .before .before .before .before .before .before .before .before .before .before .before .before .args .t1) ((c .before .before .before .before .before .before .before .before .before .before .before .before .before .before .before .before .before .before .before .before .before .before .before .args .list) .now) ((c .before .before .before .before .before .before .before .before .before .before .before .before .before .before .before .before .before .before .before .before .before .before .before .args .word) .now) ((c .before .before .before .before .before .before .before .before .before .before .before .before .before .before .before .before .before .before .before .before .before .before .before .pre) .0) .1, sym (c .before .before .before .before .before .before .decide .ensures) ∙ not-false _ (c .before .before .before .before .before .if1 .left), (c .before .before .before .before .before .before .before .before .before .before .before .before .before .before .before .before .before .before .before .before .before .before .before .pre) .1, (c .before .before .before .before .before .before .before .before .before .before .before .before .before .before .before .before .before .before .before .before .before .before .before .pre) .2, record { size = (c .before .before .before .before .before .before .before .before .before .before .before .before .before .before .before .fill .ensures) _ _ ((c .before .before .before .before .before .before .before .before .before .before .before .before .before .before .before .before .before .before .before .before .before .before .before .pre) .3) .table .size; rows = (c .before .before .before .before .before .before .before .before .before .before .before .before .before .before .before .fill .ensures) _ _ ((c .before .before .before .before .before .before .before .before .before .before .before .before .before .before .before .before .before .before .before .before .before .before .before .pre) .3) .table .rows; epsilons = (c .before .before .before .before .before .before .before .before .before .before .before .before .before .before .before .fill .ensures) _ _ ((c .before .before .before .before .before .before .before .before .before .before .before .before .before .before .before .before .before .before .before .before .before .before .before .pre) .3) .epsilons })
 
 -- src/lib.rt:118:1
 same-length-3 : tie.Need-same-length-3

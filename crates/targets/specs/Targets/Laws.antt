@@ -6,7 +6,9 @@
 -- kept-zero, kept-none, kept-some == the three ways through is_kept
 -- put-none, put-some           == the two ways through put
 -- filled-start, filled-end     == an empty table, and the table of all transitions
-use Prim.Native.Nat.{ℕ, _+_, _*_, _≤_, _<_}
+-- sources-start, sources-turn  == none of the states, and one more
+-- noted                        == a table with the states that have epsilon transitions as its last set
+use Prim.Native.Nat.{ℕ, _+_, _-_, _*_, _≤_, _<_}
 use mathlib.Core.Path.{_≡_, refl, sym, ap, _∙_, subst}
 use mathlib.Core.Logic.{_↔_, _⊎_, inl, inr}
 use mathlib.Core.Bool.{Bool, true, false, false≢true}
@@ -21,7 +23,7 @@ use Rattle.fsbm.specs.Machine.{transitionAt, wellFormed}
 use Rattle.fsbm.specs.Published.{Listed}
 use Rattle.fsbm.specs.declared.machine.Machine.{Machine}
 use Rattle.adjacency.specs.Index.Laws.{sorted, zeros-at}
-use Rattle.targets.specs.Targets.{Distinct, Next, Numbered, Kept, Inside, Put, Filled, Read, Targets}
+use Rattle.targets.specs.Targets.{Distinct, Next, Numbered, Kept, Inside, Put, Filled, Read, Rows, Sources, Targets}
 
 -- what holds of the element that was set and of every other one holds of each
 set-cases : (l : List ℕ) (i v : ℕ) → i < length l → (P : ℕ → ℕ → Type 0) → P i v → ((k : ℕ) → (k ≡ i → ⊥) → P k (getD l k 0)) → (k : ℕ) → P k (getD (set l i v) k 0)
@@ -184,7 +186,7 @@ module _ (m : Machine) (list numbers targets : List ℕ) where
         members = λ n p q lt. (λ h. absurd (empty-in q (subst (λ (t : ℕ). In t q) (zeros (n * 64 + p)) h)), λ (z : Put list numbers 0 n p q). absurd (omega (arith, z .below)));
       }
 
-  pub filled-end : (k : ℕ) → Filled list numbers targets k → k ≡ m .transitions → (w : List ℕ) (c : ℕ) → Numbered w numbers c → Targets m list w numbers targets
+  pub filled-end : (k : ℕ) → Filled list numbers targets k → k ≡ m .transitions → (w : List ℕ) (c : ℕ) → Numbered w numbers c → Rows m list w numbers targets
   filled-end k f all w c d =
       record {
         size = d .distinct .size;
@@ -222,3 +224,43 @@ module _ (m : Machine) (list numbers targets : List ℕ) where
             row = ap (λ (n : ℕ). getD numbers n 0) (z .letter);
             kept = subst (λ (n : ℕ). Kept n (getD numbers x 0)) (sym (z .letter)) (keeps x read);
           }
+
+-- The states with epsilon transitions
+
+pub sources-start : (targets : List ℕ) (v : ℕ) → Sources targets 0 v
+sources-start targets v p q lt h = absurd (omega arith)
+
+pub sources-turn : (targets : List ℕ) (k a b : ℕ) → k < width → Sources targets k a → ((q : ℕ) → In a q → In b q) × ((getD targets k 0 ≡ 0 → ⊥) → k < width → In b k) → Sources targets (k + 1) b
+sources-turn targets k a b lt s adds p q less h = at (ℕ-discrete p k)
+  where
+    at : Dec (p ≡ k) → In b p
+    at (yes e) =
+        subst (λ (n : ℕ). In b n) (sym e) (adds .1 (λ z. empty-in q (subst (λ (y : ℕ). In y q) (ap (λ (n : ℕ). getD targets n 0) e ∙ z) h)) lt)
+    at (no n) = adds .0 p (s p q (omega arith) h)
+
+pub noted : (m : Machine) (list w numbers targets : List ℕ) (v : ℕ) → wellFormed m list ≡ true → getD numbers 0 0 ≡ 0 → ((x : ℕ) → getD numbers x 0 * 64 + 64 < length targets)
+    → Rows m list w numbers targets → Sources targets (m .states) v → Targets m list w numbers (set targets (length targets - 1) v)
+noted m list w numbers targets v good none inside t from =
+    record {
+      table = record {
+        size = t .size;
+        rows = λ x. subst (λ (n : ℕ). getD numbers x 0 * 64 + 64 ≤ n) (sym (length-set targets (length targets - 1) v)) (t .rows x);
+        listed = λ x p q lt read. subst (λ (y : ℕ). In y q ↔ Listed list (m .transitions) p x q) (sym (other x p lt)) (t .listed x p q lt read);
+      };
+      epsilons = λ p q lt h.
+          subst (λ (n : ℕ). In (getD (set targets (length targets - 1) v) (n - 1) 0) p) (sym (length-set targets (length targets - 1) v))
+          (subst (λ (y : ℕ). In y p) (sym (getD-set-same targets (length targets - 1) v 0 (let z = inside 0 in omega arith)))
+          (has p q lt (subst (λ (y : ℕ). In y q) (other 0 p lt) h)));
+    }
+  where
+    other : (x p : ℕ) → p < width → getD (set targets (length targets - 1) v) (getD numbers x 0 * 64 + p) 0 ≡ getD targets (getD numbers x 0 * 64 + p) 0
+    other x p lt =
+        getD-set-other targets (length targets - 1) (getD numbers x 0 * 64 + p) v 0 (λ (e : getD numbers x 0 * 64 + p ≡ length targets - 1). let z = inside x in omega arith)
+
+    has : (p q : ℕ) → p < width → In (getD targets (getD numbers 0 0 * 64 + p) 0) q → In v p
+    has p q lt h =
+        let d = t .listed 0 p q lt (inl refl) .0 h in
+        let small = sorted m list good .from-below (d .number) (d .listed) in
+        let e = d .from in
+        let at : getD numbers 0 0 * 64 + p ≡ p = omega (arith, none) in
+        from p q (omega arith) (subst (λ (n : ℕ). In (getD targets n 0) q) at h)
