@@ -250,6 +250,9 @@ pub fn matched_back(
         kept,
         matching_at(kept),
     );
+    if second.set == 0 {
+        return nowhere(spend(left, second.letters));
+    }
     let begin = halves_back(
         targets,
         firsts,

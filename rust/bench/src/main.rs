@@ -1,7 +1,7 @@
 //! Times of the proved calls beside plain Rust, on the same input in the same run.
 //!
 //! Each section prints its own table. With names after `--`, only the sections named run: `checking`, `sheet`,
-//! `recognize`. A further call is measured by a function like [`checking::section`] and one more line in `main`.
+//! `recognize`, `survey`. A further call is measured by a function like [`checking::section`] and one more line in `main`.
 
 mod checking;
 mod measure;
@@ -10,12 +10,14 @@ mod plain_recognize;
 mod plain_sheet;
 mod recognize;
 mod sheet;
+mod survey;
 
 fn main() {
-    let sections: [(&str, fn()); 3] = [
+    let sections: [(&str, fn()); 4] = [
         ("checking", checking::section),
         ("sheet", sheet::section),
         ("recognize", recognize::section),
+        ("survey", survey::section),
     ];
     let wanted: Vec<String> = std::env::args().skip(1).collect();
     for (name, section) in sections {

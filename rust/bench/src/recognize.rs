@@ -30,11 +30,11 @@ impl Numbers {
 }
 
 /// A machine and the number of letters its words are made of.
-struct Table {
+pub struct Table {
     name: &'static str,
-    machine: Machine,
-    list: Vec<u16>,
-    letters: usize,
+    pub machine: Machine,
+    pub list: Vec<u16>,
+    pub letters: usize,
 }
 
 impl Table {
@@ -80,7 +80,7 @@ fn repeated() -> Table {
 
 /// Ten copy zones of six states over 20 letters. In a zone storing goes to and fro between two states, matching too, and
 /// a plain state leads on.
-fn zones() -> Table {
+pub fn zones() -> Table {
     let (mut marks, mut moves) = (Vec::new(), Vec::new());
     for zone in 0..10u16 {
         let begin = 6 * zone;

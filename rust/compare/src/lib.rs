@@ -4,6 +4,7 @@
 pub mod c;
 pub mod calls;
 pub mod kept;
+pub mod many_copies;
 
 use kept::Kept;
 use reference::{Machine, Record, Refusal};

@@ -1,27 +1,27 @@
 use Rattle.adjacency.specs.Index.Laws.{zeros-at}
 use borrow.Author.Needs.{needs}
 use native.Mathlib.Omega.{arith}
-use Rattle.decide.proofs.words.accepts_few.Statement.{statement}
-use Rattle.decide.proofs.words.accepts_few.Tie as tie
+use Rattle.decide.proofs.words.accepts_of_seven.Statement.{statement}
+use Rattle.decide.proofs.words.accepts_of_seven.Tie as tie
 
--- src/words.rt:40:43
+-- src/words.rt:49:43
 slice-aggregate-accepts-with : tie.Need-slice-aggregate-accepts-with
 slice-aggregate-accepts-with c = search needs
 
--- src/words.rt:40:55
+-- src/words.rt:49:55
 slice-aggregate-accepts-with-2 : tie.Need-slice-aggregate-accepts-with-2
 slice-aggregate-accepts-with-2 c = search needs
 
--- src/words.rt:40:5
+-- src/words.rt:49:5
 accepts-with-requires : tie.Need-accepts-with-requires
-accepts-with-requires c κs = ((c .before .before .before .before .pre) .0, (c .before .before .before .before .pre) .1, (c .before .before .before .before .pre) .2, omega (arith, (c .before .before .before .before .pre) .3), zeros-at 257, omega arith)
+accepts-with-requires c κs = ((c .before .before .before .before .pre) .0, (c .before .before .before .before .pre) .1, (c .before .before .before .before .pre) .2, omega (arith, (c .before .before .before .before .pre) .3), zeros-at 513, omega arith)
 
--- src/words.rt:34:1
+-- src/words.rt:43:1
 returns : tie.Need-returns
 returns c = search needs
 
-pub accepts-few-spec : {M : Type 1} → statement M
-accepts-few-spec =
+pub accepts-of-seven-spec : {M : Type 1} → statement M
+accepts-of-seven-spec =
     tie.close
     (tie.spec
     slice-aggregate-accepts-with

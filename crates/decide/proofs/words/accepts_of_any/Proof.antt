@@ -1,0 +1,30 @@
+use Rattle.adjacency.specs.Index.Laws.{zeros-at}
+use borrow.Author.Needs.{needs}
+use native.Mathlib.Omega.{arith}
+use Rattle.decide.proofs.words.accepts_of_any.Statement.{statement}
+use Rattle.decide.proofs.words.accepts_of_any.Tie as tie
+
+-- src/words.rt:58:43
+slice-aggregate-accepts-with : tie.Need-slice-aggregate-accepts-with
+slice-aggregate-accepts-with c = search needs
+
+-- src/words.rt:58:55
+slice-aggregate-accepts-with-2 : tie.Need-slice-aggregate-accepts-with-2
+slice-aggregate-accepts-with-2 c = search needs
+
+-- src/words.rt:58:5
+accepts-with-requires : tie.Need-accepts-with-requires
+accepts-with-requires c κs = ((c .before .before .before .before .pre) .0, (c .before .before .before .before .pre) .1, (c .before .before .before .before .pre) .2, omega (arith, (c .before .before .before .before .pre) .2 .few), zeros-at 16385, omega arith)
+
+-- src/words.rt:52:1
+returns : tie.Need-returns
+returns c = search needs
+
+pub accepts-of-any-spec : {M : Type 1} → statement M
+accepts-of-any-spec =
+    tie.close
+    (tie.spec
+    slice-aggregate-accepts-with
+    slice-aggregate-accepts-with-2
+    accepts-with-requires
+    returns)
