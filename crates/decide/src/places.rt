@@ -187,11 +187,11 @@ fn letter_changes(word: &[u8]) -> usize
 fn allowance(word: &[u8], states: usize) -> usize
     requires { ⌜ length (now word) ≤ 255 ⌝ }
 {
-    let changes = letter_changes(word) * 28;
+    let changes = letter_changes(word);
     if states <= 40 {
-        return word.len() * 6 + changes + 256;
+        return word.len() * 6 + changes * 28 + 256;
     }
-    word.len() * 4 + changes + 32
+    word.len() * 4 + changes * 20 + 32
 }
 
 // Completes the sets of all places of a word, from those at its start. What is left of the allowance is returned, 0 where it does not
@@ -247,7 +247,7 @@ fn swept(
 // Time: for a word of n letters one step of a set for each place, which looks up each of its states. Copies are followed start by
 // start, one such step for each letter of the longest square from a start, and for each square with which storing ends one for each
 // letter of its matching half, those not counted again that the square before it has read from the same states, within an allowance
-// of 6 n + 256 such steps, 4 n + 32 in a table of more than 40 states, and 28 more for each place whose letter is not that before it.
+// of 6 n + 256 such steps and 28 for each place whose letter is not that before it; in a table of more than 40 states 4 n + 32, and 20.
 // Past it the word is swept: each state is looked up once for each letter and mode (the maps of up to 16 letters are kept; of more
 // letters, those that share a row of the cache take it from each other, and their states are looked up again), each such place copies at
 // most four maps of 64 sets, and each copy in work (at most n²/2 in all) takes a union of at most 64 sets, none where the copy before it

@@ -6,8 +6,8 @@ ghost use Rattle.images.specs.Graph.{Members, From, graph, Good};
 ghost use Rattle.decide.specs.Reach.{Walk, Tailed};
 use fsbm::config::Mode;
 
-// What a stretch of letters leads to, and how many of them were read: where nothing is left to follow the rest are not. Of that
-// number nothing is promised.
+// What a stretch of letters leads to, and how many of them were read: where no state is left the others are not. Of that number nothing
+// is promised.
 struct Walked {
     reached: u64,
     letters: usize,
@@ -50,7 +50,7 @@ fn walk_on(
 }
 
 // The matching half of copies that were followed last: from the states of ready the letters up to place lead to the states of reached.
-// So many letters were read for it since the one before; of that number nothing is promised.
+// Beside it how many letters were read for it, those left out that it went on from; of that number nothing is promised.
 pub struct Tail {
     pub ready: u64,
     pub place: usize,

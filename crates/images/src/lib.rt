@@ -148,7 +148,7 @@ pub fn step_set(
     }
 }
 
-// The states that have epsilon transitions.
+// The states that have epsilon transitions; it may have others too.
 pub fn epsilons(targets: &[u64]) -> u64
     requires { ⌜ 0 < length (now targets) ⌝ }
     ensures { λ r. ⌜ r ≡ getD (now (targets .entry)) (length (now (targets .entry)) - 1) 0 ⌝ }
