@@ -1,2 +1,3 @@
 pub mod Common
 pub mod Search
+pub mod Split
