@@ -1,4 +1,5 @@
 pub mod Common
 pub mod Demand
+pub mod Examples
 pub mod Search
 pub mod Split
