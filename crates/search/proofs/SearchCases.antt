@@ -1,0 +1,166 @@
+-- The ways through the search, over plain variables.
+--
+-- join-refuses, join-gives == what `join` leaves where it refuses, and where it does not
+-- fault, none, short-word, short-first, short-second, written == what each answer comes with
+use Prim.Native.Nat.{ℕ, _+_, _*_, _≤_, _<_}
+use mathlib.Core.Path.{_≡_, refl, sym, ap, _∙_, subst}
+use mathlib.Core.Logic.{_⊎_, inl, inr}
+use mathlib.Core.Bool.{Bool, true, false, cond}
+use mathlib.Core.List.{List, _++_}
+use native.Mathlib.Omega.{arith}
+use native.Mathlib.Decide.{ℕ-discrete}
+use lib.ListN.{length, take, drop}
+use lib.Dec.{leb, eqb}
+use borrow.Author.Tests.{le-leb, eq-eqb, ne-eqb}
+use Rattle.graphs.specs.Search.Loops.{first, second}
+use Rattle.fsbm.specs.Moves.{accepting}
+use Rattle.fsbm.specs.Accepted.{runBound}
+use Rattle.fsbm.specs.Answers.{refusal, noMachine}
+use Rattle.fsbm.specs.declared.machine.Machine.{Machine}
+use Rattle.fsbm.specs.declared.answer.Refusal.{Refusal}
+use Rattle.product.specs.Product.{joinedCount, joinedTransitions, joinedMachine, joinFault, joinRefusal, joinAnswer, joinAfter}
+use Rattle.product.specs.Tables.{joinable}
+use Rattle.product.specs.declared.Product.{Product}
+use Rattle.pieces.specs.Bound.{wordBound}
+use Rattle.common.specs.declared.Lengths.{Lengths}
+use Rattle.common.specs.declared.Common.{Common}
+use Rattle.common.specs.declared.Common.the-variants.{Refused, NoCommonWord, Found}
+use Rattle.common.specs.Common.{leastCommon, commonAnswer, commonValues, answerValues, Front, CommonWord}
+use Rattle.common.specs.Common.Laws.{answer-values, answer-fault, answer-none, answer-word, answer-first, answer-second, answer-found}
+use Rattle.search.specs.Joined.{joinedRoom, Joined}
+
+-- Joining into a list that has room for every product
+
+module _ (m₁ : Machine) (l₁ : List ℕ) (m₂ : Machine) (l₂ : List ℕ) (list : List ℕ) (room : joinedRoom ≤ length list) where
+  joins : joinRefusal m₁ l₁ m₂ l₂ (length list) ≡ refusal (joinFault m₁ l₁ m₂ l₂)
+  unfolding joinRefusal
+  joins = at (ℕ-discrete (joinFault m₁ l₁ m₂ l₂) 0)
+    where
+      count : ℕ
+      count = joinedCount m₁ l₁ m₂ l₂ * 3
+
+      at : Dec (joinFault m₁ l₁ m₂ l₂ ≡ 0)
+          → cond (eqb (joinFault m₁ l₁ m₂ l₂) 0) (cond (leb count (length list)) (refusal 0) (record { number = 15; needed = count })) (refusal (joinFault m₁ l₁ m₂ l₂))
+          ≡ refusal (joinFault m₁ l₁ m₂ l₂)
+      at (yes e) =
+          let few = joinable m₁ l₁ m₂ l₂ e .few-transitions in
+          sym (first _ (eq-eqb (joinFault m₁ l₁ m₂ l₂) 0 e) (first _ (le-leb count (length list) (omega arith)) (ap refusal e)))
+      at (no e) = sym (second _ (ne-eqb (joinFault m₁ l₁ m₂ l₂) 0 e) refl)
+
+  module _ (p : Product) (after : List ℕ) (answer : p ≡ joinAnswer m₁ l₁ m₂ l₂ (length list)) (left : after ≡ joinAfter m₁ l₁ m₂ l₂ list) where
+    refused-by : p .refusal ≡ refusal (joinFault m₁ l₁ m₂ l₂)
+    unfolding joinAnswer
+    refused-by = ap (λ (x : Product). x .refusal) answer ∙ joins
+
+    pub join-refuses : (p .refusal .number ≡ 0 → ⊥) → (p .refusal ≡ refusal (joinFault m₁ l₁ m₂ l₂)) × (joinFault m₁ l₁ m₂ l₂ ≡ 0 → ⊥)
+    join-refuses h = (refused-by, λ e. h (ap (λ (f : Refusal). f .number) refused-by ∙ e))
+
+    pub join-gives : p .refusal .number ≡ 0 → Joined m₁ l₁ m₂ l₂ (p .machine) after
+    unfolding joinAnswer joinAfter
+    join-gives h =
+        let fine : joinFault m₁ l₁ m₂ l₂ ≡ 0 = ap (λ (f : Refusal). f .number) (sym refused-by) ∙ h in
+        let none : eqb (joinRefusal m₁ l₁ m₂ l₂ (length list) .number) 0 ≡ true = eq-eqb _ 0 (ap (λ (f : Refusal). f .number) joins ∙ fine) in
+        record {
+          fine = fine;
+          machine = ap (λ (x : Product). x .machine) answer ∙ ap (λ (b : Bool). cond b (joinedMachine m₁ l₁ m₂ l₂) noMachine) none;
+          rest = drop (joinedCount m₁ l₁ m₂ l₂ * 3) list;
+          transitions = left ∙ ap (λ (b : Bool). cond b (joinedTransitions m₁ l₁ m₂ l₂ ++ drop (joinedCount m₁ l₁ m₂ l₂ * 3) list) list) none;
+        }
+
+-- The answers
+
+all-kept : (l : List ℕ) → Front 0 l l
+all-kept l = record { fits = omega arith; size = refl; rest = refl }
+
+module _ (m₁ : Machine) (l₁ : List ℕ) (m₂ : Machine) (l₂ : List ℕ) (word first-run second-run : List ℕ) where
+  abbrev Says : Common → ℕ → Type 0
+  Says r entries = r ≡ commonAnswer m₁ l₁ m₂ l₂ (length word) (length first-run) (length second-run) entries
+
+  values : (r : Common) (entries : ℕ) → Says r entries → commonValues r ≡ answerValues m₁ l₁ m₂ l₂ (length word) (length first-run) (length second-run) entries
+  values r entries e = ap commonValues e ∙ answer-values m₁ l₁ m₂ l₂ (length word) (length first-run) (length second-run) entries
+
+  -- an answer with which nothing is written
+  refuses : (f : Refusal) → Says (Refused f) 0 → CommonWord m₁ l₁ m₂ l₂ word word first-run first-run second-run second-run (Refused f)
+  refuses f e =
+      record {
+        entries = 0;
+        answer = e;
+        values = values (Refused f) 0 e;
+        bounded = omega arith;
+        of-word = all-kept word;
+        of-first = all-kept first-run;
+        of-second = all-kept second-run;
+        first-accepts = λ k z. absurd (not-found z);
+        second-accepts = λ k z. absurd (not-found z);
+      }
+    where
+      not-found : {k : Lengths} → Refused f ≡ Found k → ⊥
+      not-found z = let e : _≡_ {A = ℕ} 0 1 = cc in omega arith
+
+  pub fault : (f : Refusal) → f ≡ refusal (joinFault m₁ l₁ m₂ l₂) → (joinFault m₁ l₁ m₂ l₂ ≡ 0 → ⊥)
+      → CommonWord m₁ l₁ m₂ l₂ word word first-run first-run second-run second-run (Refused f)
+  fault f is some = refuses f (ap Refused is ∙ answer-fault m₁ l₁ m₂ l₂ (length word) (length first-run) (length second-run) 0 some)
+
+  module _ (fine : joinFault m₁ l₁ m₂ l₂ ≡ 0) where
+    pub none : wordBound < leastCommon m₁ l₁ m₂ l₂ → CommonWord m₁ l₁ m₂ l₂ word word first-run first-run second-run second-run NoCommonWord
+    none past =
+        let e = answer-none m₁ l₁ m₂ l₂ (length word) (length first-run) (length second-run) 0 fine past in
+        record {
+          entries = 0;
+          answer = e;
+          values = values NoCommonWord 0 e;
+          bounded = omega arith;
+          of-word = all-kept word;
+          of-first = all-kept first-run;
+          of-second = all-kept second-run;
+          first-accepts = λ k z. absurd (not-found z);
+          second-accepts = λ k z. absurd (not-found z);
+        }
+      where
+        not-found : {k : Lengths} → NoCommonWord ≡ Found k → ⊥
+        not-found z = let e : _≡_ {A = ℕ} 0 1 = cc in omega arith
+
+    module _ (n : ℕ) (is : n ≡ leastCommon m₁ l₁ m₂ l₂) (within : leastCommon m₁ l₁ m₂ l₂ ≤ wordBound) where
+      pub short-word : length word < n → CommonWord m₁ l₁ m₂ l₂ word word first-run first-run second-run second-run (Refused (record { number = 18; needed = n }))
+      short-word short =
+          refuses (record { number = 18; needed = n })
+          (ap (λ (k : ℕ). Refused (record { number = 18; needed = k })) is ∙ answer-word m₁ l₁ m₂ l₂ (length word) (length first-run) (length second-run) 0 fine within (omega arith))
+
+      module _ (fits : n ≤ length word) (needed : ℕ) (bound : needed ≡ runBound m₁ n) where
+        at-least : needed ≡ runBound m₁ (leastCommon m₁ l₁ m₂ l₂)
+        at-least = bound ∙ ap (runBound m₁) is
+
+        pub short-first : length first-run < needed → CommonWord m₁ l₁ m₂ l₂ word word first-run first-run second-run second-run (Refused (record { number = 17; needed = needed }))
+        short-first short =
+            let e = at-least in
+            refuses (record { number = 17; needed = needed })
+            (ap (λ (k : ℕ). Refused (record { number = 17; needed = k })) e
+            ∙ answer-first m₁ l₁ m₂ l₂ (length word) (length first-run) (length second-run) 0 fine within (omega arith) (omega arith))
+
+        module _ (fits-first : needed ≤ length first-run) where
+          pub short-second : length second-run < n + 1 → CommonWord m₁ l₁ m₂ l₂ word word first-run first-run second-run second-run (Refused (record { number = 17; needed = n + 1 }))
+          short-second short =
+              let e = at-least in
+              refuses (record { number = 17; needed = n + 1 })
+              (ap (λ (k : ℕ). Refused (record { number = 17; needed = k + 1 })) is
+              ∙ answer-second m₁ l₁ m₂ l₂ (length word) (length first-run) (length second-run) 0 fine within (omega arith) (omega arith) (omega arith))
+
+          pub written : n + 1 ≤ length second-run → (entries : ℕ) → entries ≤ needed → (word′ first-run′ second-run′ : List ℕ)
+              → Front n word word′ → Front entries first-run first-run′ → Front (n + 1) second-run second-run′
+              → accepting m₁ l₁ (take n word′) (take entries first-run′) ≡ true → accepting m₂ l₂ (take n word′) (take (n + 1) second-run′) ≡ true
+              → CommonWord m₁ l₁ m₂ l₂ word word′ first-run first-run′ second-run second-run′ (Found (record { letters = n; first = entries; second = n + 1 }))
+          written fits-second entries few word′ first-run′ second-run′ w f s accepts₁ accepts₂ =
+              let e : Says (Found (record { letters = n; first = entries; second = n + 1 })) entries
+              = ap (λ (k : ℕ). Found (record { letters = k; first = entries; second = k + 1 })) is
+              ∙ answer-found m₁ l₁ m₂ l₂ (length word) (length first-run) (length second-run) entries fine within (omega arith) (let b = at-least in omega arith) (omega arith) in
+              record {
+                entries = entries;
+                answer = e;
+                values = values (Found (record { letters = n; first = entries; second = n + 1 })) entries e;
+                bounded = subst (λ (k : ℕ). entries ≤ k) bound few;
+                of-word = w;
+                of-first = f;
+                of-second = s;
+                first-accepts = λ k z. subst (λ (x : Common). accepting m₁ l₁ (take (commonValues x .letters) word′) (take (commonValues x .first) first-run′) ≡ true) z accepts₁;
+                second-accepts = λ k z. subst (λ (x : Common). accepting m₂ l₂ (take (commonValues x .letters) word′) (take (commonValues x .second) second-run′) ≡ true) z accepts₂;
+              }
