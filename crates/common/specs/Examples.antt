@@ -9,9 +9,9 @@
 -- sameMachine          == two records agree in every field (a Bool)
 -- hasNone, hasShortest == the computed tests of the rows on two machines
 -- rows                 == the table
-use Prim.Native.Nat.{ℕ, zero, suc, _+_, _≤_, _<_}
+use Prim.Native.Nat.{ℕ, zero, suc, _+_, _≤_}
 use mathlib.Core.Path.{_≡_}
-use mathlib.Core.List.{List, [], _∷_, _++_, map}
+use mathlib.Core.List.{List, [], _∷_, map}
 use mathlib.Core.Bool.{Bool, true, false, not, _&&_, _||_}
 use lib.ListN.{length, getD}
 use lib.Dec.{ltb, eqb}
@@ -28,7 +28,7 @@ use Rattle.product.specs.Examples as product
 use Rattle.product.specs.Examples.{odd, oddList, oddJoined, joins}
 use Rattle.pieces.specs.Spots.{noCopyWord}
 use Rattle.common.specs.declared.Common.the-variants.{Refused, NoCommonWord, Found}
-use Rattle.common.specs.Common.{isCommon, leastCommon, commonAnswer}
+use Rattle.common.specs.Common.{isCommon, commonAnswer}
 pub mod Laws
 
 abbrev pub some : Machine

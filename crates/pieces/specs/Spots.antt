@@ -11,7 +11,7 @@
 -- noCopyWord m list    == what is reached is closed, and no final state is there in normal mode
 use Prim.Native.Nat.{ℕ, _*_}
 use mathlib.Core.List.{List, [], _∷_, _++_, flatMap}
-use mathlib.Core.Bool.{Bool, true, false, cond, not, _&&_}
+use mathlib.Core.Bool.{Bool, false, cond, not, _&&_}
 use lib.Dec.{eqb}
 use Rattle.graphs.specs.Search.{allIn}
 use Rattle.graphs.specs.Reach.{reach, isClosed}

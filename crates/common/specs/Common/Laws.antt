@@ -14,7 +14,7 @@ use Prim.Native.Nat.{ℕ, zero, suc, _+_, _≤_, _<_}
 use mathlib.Core.Path.{_≡_, refl, sym, _∙_}
 use mathlib.Core.Logic.{_↔_, _⊎_, inl, inr}
 use mathlib.Core.Bool.{Bool, true, false, cond, _&&_}
-use mathlib.Core.List.{List, [], _∷_, _++_}
+use mathlib.Core.List.{List, [], _++_}
 use native.Mathlib.Omega.{arith}
 use native.Mathlib.Decide.{decLe}
 use lib.ListN.{length}
@@ -24,7 +24,7 @@ use Rattle.graphs.specs.Search.{AllBelow, none, more}
 use Rattle.graphs.specs.Search.Laws.{and-true, and-both-true, true-or-false, not-both, existsList-true}
 use Rattle.graphs.specs.Search.Loops.{first, second}
 use Rattle.graphs.specs.Least.Laws.{least-bound, least-has, least-first}
-use Rattle.fsbm.specs.Machine.{maxLetters, wellFormed, transitionAt}
+use Rattle.fsbm.specs.Machine.{maxLetters, wellFormed}
 use Rattle.fsbm.specs.Moves.{accepting}
 use Rattle.fsbm.specs.Accepted.{runBound, accepted}
 use Rattle.fsbm.specs.Answers.{refusal}

@@ -7,18 +7,18 @@ use Prim.Native.Nat.{ℕ, zero, suc, _+_, _≤_, _<_}
 use mathlib.Core.Path.{_≡_, refl, sym, ap, _∙_, subst, subst₂}
 use mathlib.Core.Logic.{_⊎_, inl, inr}
 use mathlib.Core.List.{List, [], _∷_, _++_, map, append-nil, List·Memᴰ, List·Memᴰ·cases-cons, Memᴰ·of-map}
-use mathlib.Core.Bool.{Bool, true, false, cond, not, _&&_, _||_}
+use mathlib.Core.Bool.{Bool, true, false, cond, _&&_}
 use native.Mathlib.Omega.{arith}
 use native.Mathlib.Decide.{decLe}
 use lib.ListN.{length, getD}
 use lib.Seq.{ext-getD}
-use lib.Dec.{leb, ltb, eqb}
-use borrow.Author.Tests.{leb-true, ltb-true, eqb-true, le-leb, lt-leb, eq-eqb, not-true}
-use Rattle.graphs.specs.Search.{anyBelow, allBelow, AllBelow, none, more}
+use lib.Dec.{ltb, eqb}
+use borrow.Author.Tests.{ltb-true, eqb-true, not-true}
+use Rattle.graphs.specs.Search.{anyBelow, allBelow, AllBelow}
 use Rattle.graphs.specs.Search.Laws.{and-true, and-both-true, or-false, not-both, anyBelow-false, allBelow-true, AllBelow-head, AllBelow-tail}
 use Rattle.graphs.specs.Search.Loops.{first, second}
 use Rattle.fsbm.specs.Moves.{accepting}
-use Rattle.fsbm.specs.Accepted.{runBound, accepted}
+use Rattle.fsbm.specs.Accepted.{runBound}
 use Rattle.fsbm.specs.declared.machine.Machine.{Machine}
 use Rattle.language.specs.Examples.{doubling, doublingList}
 use Rattle.language.specs.Reached.{decided}
@@ -30,12 +30,10 @@ use Rattle.product.specs.Examples as product
 use Rattle.product.specs.Examples.{odd, oddList, oddJoined, joins}
 use Rattle.product.specs.Examples.Laws as product-laws
 use Rattle.product.specs.Examples.Laws.{joins-means}
-use Rattle.pieces.specs.Bound.{wordBound}
 use Rattle.pieces.specs.Spots.{noCopyWord}
 use Rattle.pieces.specs.Spots.Laws.{no-copy-word}
-use Rattle.common.specs.declared.Common.{Common}
-use Rattle.common.specs.declared.Common.the-variants.{Refused, NoCommonWord, Found}
-use Rattle.common.specs.Common.{isCommon, leastCommon, commonAnswer}
+use Rattle.common.specs.declared.Common.the-variants.{Refused, Found}
+use Rattle.common.specs.Common.{isCommon, leastCommon}
 use Rattle.common.specs.Common.Laws.{answer-none, answer-word, answer-found, common-parts, common-runs, common-joined, common-letters, least-common, no-shorter, any-common, none-common}
 use Rattle.common.specs.Examples.{some, someList, oddMachine, Row, before, noCommon, shortestCommon, Meaning, someWord, noneShorter, sameMachine, hasNone, hasShortest, rows}
 

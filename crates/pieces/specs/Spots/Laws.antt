@@ -8,7 +8,7 @@ use Prim.Native.Nat.{ℕ, zero, suc, _+_, _*_}
 use mathlib.Core.Path.{_≡_, refl, sym, ap, _∙_, subst}
 use mathlib.Core.Logic.{_↔_}
 use mathlib.Core.Bool.{Bool, true, false, cond, not, _&&_, false≢true}
-use mathlib.Core.List.{List, [], _∷_, _++_, flatMap, List·Memᴰ, List·Memᴰ·head, List·Memᴰ·tail, Memᴰ·append-left, Memᴰ·append-right}
+use mathlib.Core.List.{List, [], _++_, flatMap, List·Memᴰ, List·Memᴰ·head, List·Memᴰ·tail, Memᴰ·append-left, Memᴰ·append-right}
 use native.Mathlib.Omega.{arith}
 use lib.Dec.{eqb}
 use borrow.Author.Tests.{eqb-true, eq-eqb, ne-eqb}
@@ -29,7 +29,7 @@ use Rattle.language.specs.Agreement.{run-path}
 use Rattle.language.specs.Bound.{accepted-iff-published}
 use Rattle.language.specs.Chosen.{numbers, numbers-of, chosen, chosen-of}
 use Rattle.pieces.specs.Pieces.Laws.{path-leads}
-use Rattle.pieces.specs.Pairs.{Pair, both, PairMove, stores-none, matches-none, letter, moves, Piece, moved, copied}
+use Rattle.pieces.specs.Pairs.{Pair, PairMove, stores-none, matches-none, letter, moves, Piece, moved, copied}
 use Rattle.pieces.specs.Pairs.Laws.{leads-route}
 use Rattle.pieces.specs.Spots.{Spot, normally, copying, sameSpot, mayRead, mayStore, mayMatch, readSpots, beginSpots, storeSpots, matchSpots, bothSpots, letterSpots, endSpots, nextSpots, spots, endsAt, noCopyWord}
 
