@@ -22,11 +22,10 @@ use Rattle.product.specs.Product.{joinedCount, joinedTransitions, joinedMachine
 use Rattle.product.specs.Tables.{joinable}
 use Rattle.product.specs.declared.Product.{Product}
 use Rattle.pieces.specs.Bound.{wordBound}
-use Rattle.common.specs.declared.Lengths.{Lengths}
-use Rattle.common.specs.declared.Common.{Common}
 use Rattle.common.specs.declared.Common.the-variants.{Refused, NoCommonWord, Found}
-use Rattle.common.specs.Common.{leastCommon, commonAnswer, commonValues, answerValues, Front, CommonWord}
-use Rattle.common.specs.Common.Laws.{answer-values, answer-fault, answer-none, answer-word, answer-first, answer-second, answer-found}
+use Rattle.common.specs.Common.{leastCommon, commonAnswer, Front, CommonWord}
+use Rattle.common.specs.Contract.{contract-unchanged, contract-found}
+use Rattle.common.specs.Common.Laws.{answer-fault, answer-none, answer-word, answer-first, answer-second}
 use Rattle.search.specs.Joined.{joinedRoom, Joined}
 
 -- Joining into a list that has room for every product
@@ -69,33 +68,10 @@ module _ (m₁ : Machine) (l₁ : List ℕ) (m₂ : Machine) (l₂ : List ℕ) (
 
 -- The answers
 
-all-kept : (l : List ℕ) → Front 0 l l
-all-kept l = record { fits = omega arith; size = refl; rest = refl }
-
 module _ (m₁ : Machine) (l₁ : List ℕ) (m₂ : Machine) (l₂ : List ℕ) (word first-run second-run : List ℕ) where
-  abbrev Says : Common → ℕ → Type 0
-  Says r entries = r ≡ commonAnswer m₁ l₁ m₂ l₂ (length word) (length first-run) (length second-run) entries
-
-  values : (r : Common) (entries : ℕ) → Says r entries → commonValues r ≡ answerValues m₁ l₁ m₂ l₂ (length word) (length first-run) (length second-run) entries
-  values r entries e = ap commonValues e ∙ answer-values m₁ l₁ m₂ l₂ (length word) (length first-run) (length second-run) entries
-
-  -- an answer with which nothing is written
-  refuses : (f : Refusal) → Says (Refused f) 0 → CommonWord m₁ l₁ m₂ l₂ word word first-run first-run second-run second-run (Refused f)
-  refuses f e =
-      record {
-        entries = 0;
-        answer = e;
-        values = values (Refused f) 0 e;
-        bounded = omega arith;
-        of-word = all-kept word;
-        of-first = all-kept first-run;
-        of-second = all-kept second-run;
-        first-accepts = λ k z. absurd (not-found z);
-        second-accepts = λ k z. absurd (not-found z);
-      }
-    where
-      not-found : {k : Lengths} → Refused f ≡ Found k → ⊥
-      not-found z = let e : _≡_ {A = ℕ} 0 1 = cc in omega arith
+  refuses : (f : Refusal) → Refused f ≡ commonAnswer m₁ l₁ m₂ l₂ (length word) (length first-run) (length second-run) 0
+      → CommonWord m₁ l₁ m₂ l₂ word word first-run first-run second-run second-run (Refused f)
+  refuses f e = contract-unchanged m₁ l₁ m₂ l₂ word first-run second-run (Refused f) 0 refl e
 
   pub fault : (f : Refusal) → f ≡ refusal (joinFault m₁ l₁ m₂ l₂) → (joinFault m₁ l₁ m₂ l₂ ≡ 0 → ⊥)
       → CommonWord m₁ l₁ m₂ l₂ word word first-run first-run second-run second-run (Refused f)
@@ -104,21 +80,8 @@ module _ (m₁ : Machine) (l₁ : List ℕ) (m₂ : Machine) (l₂ : List ℕ) (
   module _ (fine : joinFault m₁ l₁ m₂ l₂ ≡ 0) where
     pub none : wordBound < leastCommon m₁ l₁ m₂ l₂ → CommonWord m₁ l₁ m₂ l₂ word word first-run first-run second-run second-run NoCommonWord
     none past =
-        let e = answer-none m₁ l₁ m₂ l₂ (length word) (length first-run) (length second-run) 0 fine past in
-        record {
-          entries = 0;
-          answer = e;
-          values = values NoCommonWord 0 e;
-          bounded = omega arith;
-          of-word = all-kept word;
-          of-first = all-kept first-run;
-          of-second = all-kept second-run;
-          first-accepts = λ k z. absurd (not-found z);
-          second-accepts = λ k z. absurd (not-found z);
-        }
-      where
-        not-found : {k : Lengths} → NoCommonWord ≡ Found k → ⊥
-        not-found z = let e : _≡_ {A = ℕ} 0 1 = cc in omega arith
+        contract-unchanged m₁ l₁ m₂ l₂ word first-run second-run NoCommonWord 0 refl
+        (answer-none m₁ l₁ m₂ l₂ (length word) (length first-run) (length second-run) 0 fine past)
 
     module _ (n : ℕ) (is : n ≡ leastCommon m₁ l₁ m₂ l₂) (within : leastCommon m₁ l₁ m₂ l₂ ≤ wordBound) where
       pub short-word : length word < n → CommonWord m₁ l₁ m₂ l₂ word word first-run first-run second-run second-run (Refused (record { number = 18; needed = n }))
@@ -150,17 +113,11 @@ module _ (m₁ : Machine) (l₁ : List ℕ) (m₂ : Machine) (l₂ : List ℕ) (
               → accepting m₁ l₁ (take n word′) (take entries first-run′) ≡ true → accepting m₂ l₂ (take n word′) (take (n + 1) second-run′) ≡ true
               → CommonWord m₁ l₁ m₂ l₂ word word′ first-run first-run′ second-run second-run′ (Found (record { letters = n; first = entries; second = n + 1 }))
           written fits-second entries few word′ first-run′ second-run′ w f s accepts₁ accepts₂ =
-              let e : Says (Found (record { letters = n; first = entries; second = n + 1 })) entries
-              = ap (λ (k : ℕ). Found (record { letters = k; first = entries; second = k + 1 })) is
-              ∙ answer-found m₁ l₁ m₂ l₂ (length word) (length first-run) (length second-run) entries fine within (omega arith) (let b = at-least in omega arith) (omega arith) in
-              record {
-                entries = entries;
-                answer = e;
-                values = values (Found (record { letters = n; first = entries; second = n + 1 })) entries e;
-                bounded = subst (λ (k : ℕ). entries ≤ k) bound few;
-                of-word = w;
-                of-first = f;
-                of-second = s;
-                first-accepts = λ k z. subst (λ (x : Common). accepting m₁ l₁ (take (commonValues x .letters) word′) (take (commonValues x .first) first-run′) ≡ true) z accepts₁;
-                second-accepts = λ k z. subst (λ (x : Common). accepting m₂ l₂ (take (commonValues x .letters) word′) (take (commonValues x .second) second-run′) ≡ true) z accepts₂;
-              }
+              let b = at-least in
+              subst (λ (k : ℕ). CommonWord m₁ l₁ m₂ l₂ word word′ first-run first-run′ second-run second-run′ (Found (record { letters = k; first = entries; second = k + 1 }))) (sym is)
+              (contract-found m₁ l₁ m₂ l₂ word first-run second-run word′ first-run′ second-run′ entries fine within (omega arith) (omega arith)
+              (subst (λ (k : ℕ). Front k word word′) is w)
+              f
+              (subst (λ (k : ℕ). Front (k + 1) second-run second-run′) is s)
+              (subst (λ (k : ℕ). accepting m₁ l₁ (take k word′) (take entries first-run′) ≡ true) is accepts₁)
+              (subst (λ (k : ℕ). accepting m₂ l₂ (take k word′) (take (k + 1) second-run′) ≡ true) is accepts₂))
