@@ -24,7 +24,7 @@ use Rattle.fsbm.specs.Answers.{goodLetter}
 use Rattle.fsbm.specs.Accepted.{accepted}
 use Rattle.fsbm.specs.declared.machine.Machine.{Machine}
 use Rattle.lines.specs.declared.Answer.{Answer}
-use Rattle.lines.specs.Line.{letterAt, tabulate, wordOf, holdsNumber, holdsLetter, lineRefusal, lineAnswer, lineOf, Stored, WordRead}
+use Rattle.lines.specs.Line.{letterAt, tabulate, wordOf, holdsNumber, holdsLetter, lineRefusal, lineAnswer, answerLine, Stored, WordRead}
 
 module _ (letters : ℕ) (line : List ℕ) where
   pub refused-long : 800 < length line → 9 ≡ lineRefusal letters line
@@ -157,8 +157,8 @@ module _ (at : ℕ) (l a : List ℕ) (fits : at ≤ length l) where
 
 -- three columns and byte 10, written one after the other
 pub line-written : (at : ℕ) (l : List ℕ) (n a r : ℕ) (o₁ o₂ o₃ : List ℕ) → at + 16 ≤ length l
-    → o₁ ≡ put at l (columnOf 5 n) → o₂ ≡ put (at + 5) o₁ (columnOf 5 a) → o₃ ≡ put (at + 10) o₂ (columnOf 5 r) → set o₃ (at + 15) 10 ≡ put at l (lineOf n a r)
-unfolding lineOf
+    → o₁ ≡ put at l (columnOf 5 n) → o₂ ≡ put (at + 5) o₁ (columnOf 5 a) → o₃ ≡ put (at + 10) o₂ (columnOf 5 r) → set o₃ (at + 15) 10 ≡ put at l (answerLine n a r)
+unfolding answerLine
 line-written at l n a r o₁ o₂ o₃ fits e₁ e₂ e₃ =
     ap (λ (z : List ℕ). set z (at + 15) 10) (third e₃)
     ∙ (ap (λ (z : ℕ). set (put at l (columnOf 5 n ++ columnOf 5 a ++ columnOf 5 r)) (at + z) 10) (sym len₃)
@@ -194,8 +194,8 @@ put-length at l b fits =
     length-append (take at l ++ b) (drop (at + length b) l)
     ∙ (let p = front-length at l b (omega arith) in let q = length-drop (at + length b) l in omega arith)
 
-pub line-length : (n a r : ℕ) → length (lineOf n a r) ≡ 16
-unfolding lineOf
+pub line-length : (n a r : ℕ) → length (answerLine n a r) ≡ 16
+unfolding answerLine
 line-length n a r =
     length-append (columnOf 5 n ++ columnOf 5 a ++ columnOf 5 r) (10 ∷ [])
     ∙ (let p = length-append (columnOf 5 n ++ columnOf 5 a) (columnOf 5 r) in
