@@ -3,6 +3,7 @@
 -- after-full, after-end, after-more    == what is kept after a byte, in the three cases
 -- prints-full, prints-end, prints-more == what a byte prints, in the three cases
 -- after-cut, prints-cut   == a piece that is cut in two leaves and prints the same
+-- after-one, prints-one   == one byte behind a piece
 -- end-none, end-line      == what the end prints
 -- full-after, full-prints, full-end == after the last word nothing is kept anew and nothing printed
 -- few-words               == never more than mostWords words
@@ -64,6 +65,10 @@ unfolding afterPiece
 after-cut p [] y = refl
 after-cut p (b ∷ x) y = after-cut (afterByte p b) x y
 
+pub after-one : (p : Pending) (x : List ℕ) (b : ℕ) → afterPiece p (x ++ (b ∷ [])) ≡ afterByte (afterPiece p x) b
+unfolding afterPiece
+after-one p x b = after-cut p x (b ∷ [])
+
 module _ (m : Machine) (list : List ℕ) where
   pub prints-cut : (p : Pending) (x y : List ℕ) → piecePrints m list p (x ++ y) ≡ piecePrints m list p x ++ piecePrints m list (afterPiece p x) y
   unfolding piecePrints afterPiece
@@ -71,6 +76,11 @@ module _ (m : Machine) (list : List ℕ) where
   prints-cut p (b ∷ x) y =
       ap (λ (z : List ℕ). bytePrints m list p b ++ z) (prints-cut (afterByte p b) x y)
       ∙ sym (append-assoc (bytePrints m list p b) (piecePrints m list (afterByte p b) x) (piecePrints m list (afterPiece (afterByte p b) x) y))
+
+  pub prints-one : (p : Pending) (x : List ℕ) (b : ℕ) → piecePrints m list p (x ++ (b ∷ [])) ≡ piecePrints m list p x ++ bytePrints m list (afterPiece p x) b
+  unfolding piecePrints
+  prints-one p x b =
+      prints-cut p x (b ∷ []) ∙ ap (λ (z : List ℕ). piecePrints m list p x ++ z) (append-nil (bytePrints m list (afterPiece p x) b))
 
   unfoldable pub piecesPrint : Pending → List (List ℕ) → List ℕ
   piecesPrint p [] = []
