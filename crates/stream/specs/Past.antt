@@ -1,7 +1,8 @@
 -- Nothing past a machine's transitions is looked at.
 --
 -- accepted-past == a list that goes on past the transitions gives the same answer to a word
--- lines-past    == and the same printed lines
+-- prints-past   == and to a piece of input
+-- end-past      == and at its end
 use Prim.Native.Nat.{ℕ, suc, _+_, _*_, _<_, _≤_}
 use mathlib.Core.Path.{_≡_, refl, sym, ap, _∙_}
 use mathlib.Core.Logic.{_⊎_, inl, inr}
@@ -24,7 +25,8 @@ use Rattle.fsbm.specs.declared.config.Config.{Config}
 use Rattle.fsbm.specs.declared.config.Move.{Move}
 use Rattle.lines.specs.declared.Answer.{Answer}
 use Rattle.lines.specs.Line.{lineAnswer, lineRefusal, answerLine, wordOf}
-use Rattle.stream.specs.Listing.{wordLine, wordLines}
+use Rattle.stream.specs.Listing.{wordLine, mostWords}
+use Rattle.stream.specs.Pieces.{Pending, afterByte, bytePrints, piecePrints, endPrints}
 
 module _ (m : Machine) (list more : List ℕ) (long : m .transitions * 3 ≤ length list) where
   same-transition : (k : ℕ) → k < m .transitions → transitionAt (list ++ more) k ≡ transitionAt list k
@@ -79,9 +81,17 @@ module _ (m : Machine) (list more : List ℕ) (long : m .transitions * 3 ≤ len
   answer-past line =
       ap {B = Answer} (λ (z : Bool). cond (eqb (lineRefusal (m .letters) line) 0) (record { answer = cond z 1 0; refusal = 0 }) (record { answer = 2; refusal = lineRefusal (m .letters) line })) (accepted-past (wordOf line))
 
-  pub lines-past : (i : ℕ) (ls : List (List ℕ)) → wordLines m (list ++ more) i ls ≡ wordLines m list i ls
-  unfolding wordLines wordLine
-  lines-past i [] = refl
-  lines-past i (line ∷ ls) =
-      ap (λ (a : Answer). answerLine i (a .answer) (a .refusal) ++ wordLines m (list ++ more) (suc i) ls) (answer-past line)
-      ∙ ap (λ (z : List ℕ). wordLine m list i line ++ z) (lines-past (suc i) ls)
+  line-past : (i : ℕ) (line : List ℕ) → wordLine m (list ++ more) i line ≡ wordLine m list i line
+  unfolding wordLine
+  line-past i line = ap (λ (a : Answer). answerLine i (a .answer) (a .refusal)) (answer-past line)
+
+  pub prints-past : (p : Pending) (x : List ℕ) → piecePrints m (list ++ more) p x ≡ piecePrints m list p x
+  unfolding piecePrints bytePrints
+  prints-past p [] = refl
+  prints-past p (b ∷ x) =
+      ap (λ (z : List ℕ). cond (ltb (p .words) mostWords) (cond (eqb b 10) z []) [] ++ piecePrints m (list ++ more) (afterByte p b) x) (line-past (p .words + 1) (p .bytes))
+      ∙ ap (λ (z : List ℕ). bytePrints m list p b ++ z) (prints-past (afterByte p b) x)
+
+  pub end-past : (p : Pending) → endPrints m (list ++ more) p ≡ endPrints m list p
+  unfolding endPrints
+  end-past p = ap (λ (z : List ℕ). cond (ltb (p .words) mostWords) (cond (eqb (length (p .bytes)) 0) [] z) []) (line-past (p .words + 1) (p .bytes))

@@ -2,9 +2,10 @@
 --
 -- glue k ls        == the bytes k in front of the first of these lines
 -- input-lines      == what an input and its end print are the lines of its words
--- number-read      == a list of 12,000 is long enough for every sheet: the only refusal is the sheet's fault
 -- listing-of-pieces == the opening, what the pieces print and what the end prints are the listing of the joined pieces
 -- listing-refused  == of a sheet with a fault the opening is the whole listing
+-- prints-read, end-read == the table that read_sheet reads into a list of at least 12,000 elements prints the same
+-- number-read      == for such a list the only refusal is the sheet's fault
 use Prim.Native.Nat.{ℕ, zero, suc, _+_, _-_, _*_, _<_, _≤_}
 use mathlib.Core.Path.{_≡_, refl, sym, ap, _∙_}
 use mathlib.Core.Logic.{_⊎_, inl, inr}
@@ -31,7 +32,7 @@ use Rattle.sheet.specs.Reading.{columnAt, firstFault, numbersIn, machineOf, tra
 use Rattle.sheet.specs.Reading.Laws.{no-fault}
 use Rattle.stream.specs.Listing.{longer, linesOf, wordLine, wordLines, header, refusedSheet, mostWords, listing}
 use Rattle.stream.specs.Pieces.{Pending, nothingYet, mostKept, afterByte, afterPiece, bytePrints, piecePrints, endPrints, opening}
-use Rattle.stream.specs.Past.{lines-past}
+use Rattle.stream.specs.Past.{prints-past, end-past}
 use Rattle.stream.specs.Pieces.Laws.{after-full, after-end, after-more, prints-full, prints-end, prints-more, end-none, end-line, full-prints, full-after, full-end, same-line, piecesPrint, pieces-joined}
 
 -- bytes in front of the first line
@@ -165,7 +166,33 @@ module _ (m : Machine) (list : List ℕ) where
   unfolding all kept rest glue
   input-lines input = whole-input input [] 0
 
--- the sheet
+pub listing-refused : (s input : List ℕ) → (firstFault s ≡ 0 → ⊥) → opening s ≡ listing s input
+unfolding opening listing
+listing-refused s input n = sym (second _ (ne-eqb _ _ n) refl) ∙ second _ (ne-eqb _ _ n) refl
+
+pub listing-of-pieces : (s : List ℕ) → firstFault s ≡ 0 → (pieces : List (List ℕ))
+    → opening s ++ (piecesPrint (machineOf s) (transitionsOf s) nothingYet pieces ++ endPrints (machineOf s) (transitionsOf s) (afterPiece nothingYet (flatten pieces)))
+    ≡ listing s (flatten pieces)
+unfolding opening listing
+listing-of-pieces s good pieces =
+    ap (λ (z : Bool). cond z header (refusedSheet (firstFault s)) ++ (piecesPrint m list nothingYet pieces ++ end)) good-test
+    ∙ (ap (λ (z : List ℕ). header ++ (z ++ end)) (pieces-joined m list nothingYet pieces)
+    ∙ (ap (λ (z : List ℕ). header ++ z) (input-lines m list (flatten pieces))
+    ∙ ap (λ (z : Bool). cond z (header ++ wordLines m list 1 (take mostWords (linesOf (flatten pieces)))) (refusedSheet (firstFault s))) (sym good-test)))
+  where
+    good-test : eqb (firstFault s) 0 ≡ true
+    good-test = eq-eqb _ _ good
+
+    m : Machine
+    m = machineOf s
+
+    list : List ℕ
+    list = transitionsOf s
+
+    end : List ℕ
+    end = endPrints m list (afterPiece nothingYet (flatten pieces))
+
+-- the table that read_sheet reads into a list of 12,000 elements
 
 module _ (s : List ℕ) (good : firstFault s ≡ 0) where
   few : columnAt s 10 ≤ 4000
@@ -175,27 +202,33 @@ module _ (s : List ℕ) (good : firstFault s ≡ 0) where
   unfolding transitionsOf numbersIn
   transitions-length = each-length 3 (λ k. numbersIn s (transitionStart (columnAt s 0) k)) (λ k. refl) (columnAt s 10) ∙ omega arith
 
-  module _ (len : ℕ) (long : 12000 ≤ len) where
-    not-refused : readRefusal s len ≡ refusal 0
-    unfolding readRefusal
-    not-refused = let fits : columnAt s 10 * 3 ≤ len = omega (arith, few) in sym (first _ (eq-eqb _ _ good) (first _ (le-leb _ _ fits) refl))
+  not-refused : (len : ℕ) → 12000 ≤ len → readRefusal s len ≡ refusal 0
+  unfolding readRefusal
+  not-refused len long = let fits : columnAt s 10 * 3 ≤ len = omega (arith, few) in sym (first _ (eq-eqb _ _ good) (first _ (le-leb _ _ fits) refl))
 
-    machine-read : readAnswer s len .machine ≡ machineOf s
-    unfolding readAnswer
-    machine-read = ap (λ (x : Refusal). cond (eqb (x .number) 0) (machineOf s) noMachine) not-refused
+  machine-read : (len : ℕ) → 12000 ≤ len → readAnswer s len .machine ≡ machineOf s
+  unfolding readAnswer
+  machine-read len long = ap (λ (x : Refusal). cond (eqb (x .number) 0) (machineOf s) noMachine) (not-refused len long)
 
-  list-read : (entry : List ℕ) → 12000 ≤ length entry → readList s entry ≡ transitionsOf s ++ drop (columnAt s 10 * 3) entry
-  unfolding readList
-  list-read entry long = ap (λ (x : Refusal). cond (eqb (x .number) 0) (transitionsOf s ++ drop (columnAt s 10 * 3) entry) entry) (not-refused (length entry) long)
+  module _ (entry : List ℕ) (long : 12000 ≤ length entry) where
+    list-read : readList s entry ≡ transitionsOf s ++ drop (columnAt s 10 * 3) entry
+    unfolding readList
+    list-read = ap (λ (x : Refusal). cond (eqb (x .number) 0) (transitionsOf s ++ drop (columnAt s 10 * 3) entry) entry) (not-refused (length entry) long)
 
-  -- the words of a good sheet's listing
-  words-read : (entry : List ℕ) → 12000 ≤ length entry → (i : ℕ) (ls : List (List ℕ))
-      → wordLines (readAnswer s (length entry) .machine) (readList s entry) i ls ≡ wordLines (machineOf s) (transitionsOf s) i ls
-  unfolding machineOf
-  words-read entry long i ls =
-      ap (λ (x : Machine). wordLines x (readList s entry) i ls) (machine-read (length entry) long)
-      ∙ (ap (λ (x : List ℕ). wordLines (machineOf s) x i ls) (list-read entry long)
-      ∙ lines-past (machineOf s) (transitionsOf s) (drop (columnAt s 10 * 3) entry) (omega (arith, transitions-length)) i ls)
+    enough : machineOf s .transitions * 3 ≤ length (transitionsOf s)
+    unfolding machineOf
+    enough = omega (arith, transitions-length)
+
+    module _ (m : Machine) (list : List ℕ) (m-is : m ≡ readAnswer s (length entry) .machine) (list-is : list ≡ readList s entry) where
+      pub prints-read : (p : Pending) (x : List ℕ) → piecePrints m list p x ≡ piecePrints (machineOf s) (transitionsOf s) p x
+      prints-read p x =
+          ap (λ (z : Machine). piecePrints z list p x) (m-is ∙ machine-read (length entry) long)
+          ∙ (ap (λ (z : List ℕ). piecePrints (machineOf s) z p x) (list-is ∙ list-read) ∙ prints-past (machineOf s) (transitionsOf s) (drop (columnAt s 10 * 3) entry) enough p x)
+
+      pub end-read : (p : Pending) → endPrints m list p ≡ endPrints (machineOf s) (transitionsOf s) p
+      end-read p =
+          ap (λ (z : Machine). endPrints z list p) (m-is ∙ machine-read (length entry) long)
+          ∙ (ap (λ (z : List ℕ). endPrints (machineOf s) z p) (list-is ∙ list-read) ∙ end-past (machineOf s) (transitionsOf s) (drop (columnAt s 10 * 3) entry) enough p)
 
 pub number-read : (s : List ℕ) (len : ℕ) → 12000 ≤ len → readAnswer s len .refusal .number ≡ firstFault s
 unfolding readAnswer readRefusal
@@ -204,36 +237,3 @@ number-read s len long = at (ℕ-discrete (firstFault s) 0)
     at : Dec (firstFault s ≡ 0) → readRefusal s len .number ≡ firstFault s
     at (yes e) = ap (λ (x : Refusal). x .number) (not-refused s e len long) ∙ sym e
     at (no n) = ap (λ (x : Refusal). x .number) (sym (second _ (ne-eqb _ _ n) refl))
-
-pub listing-refused : (s input : List ℕ) → (firstFault s ≡ 0 → ⊥) → opening s ≡ listing s input
-unfolding opening listing
-listing-refused s input n = sym (second _ (ne-eqb _ _ n) refl) ∙ second _ (ne-eqb _ _ n) refl
-
-pub listing-of-pieces : (s entry : List ℕ) → 12000 ≤ length entry → firstFault s ≡ 0 → (pieces : List (List ℕ))
-    → opening s ++ (piecesPrint (readAnswer s (length entry) .machine) (readList s entry) nothingYet pieces
-    ++ endPrints (readAnswer s (length entry) .machine) (readList s entry) (afterPiece nothingYet (flatten pieces))) ≡ listing s (flatten pieces)
-unfolding opening listing
-listing-of-pieces s entry long good pieces =
-    ap (λ (z : Bool). cond z header (refusedSheet (firstFault s)) ++ printed) good-test
-    ∙ (ap (λ (z : List ℕ). header ++ z) words-printed
-    ∙ ap (λ (z : Bool). cond z (header ++ wordLines (machineOf s) (transitionsOf s) 1 (take mostWords (linesOf (flatten pieces)))) (refusedSheet (firstFault s))) (sym good-test))
-  where
-    good-test : eqb (firstFault s) 0 ≡ true
-    good-test = eq-eqb _ _ good
-
-    m : Machine
-    m = readAnswer s (length entry) .machine
-
-    list : List ℕ
-    list = readList s entry
-
-    end : List ℕ
-    end = endPrints m list (afterPiece nothingYet (flatten pieces))
-
-    printed : List ℕ
-    printed = piecesPrint m list nothingYet pieces ++ end
-
-    words-printed : printed ≡ wordLines (machineOf s) (transitionsOf s) 1 (take mostWords (linesOf (flatten pieces)))
-    words-printed =
-        ap (λ (z : List ℕ). z ++ end) (pieces-joined m list nothingYet pieces)
-        ∙ (input-lines m list (flatten pieces) ∙ words-read s good entry long 1 (take mostWords (linesOf (flatten pieces))))

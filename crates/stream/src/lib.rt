@@ -12,16 +12,13 @@ ghost use lib.ListN.{length, take};
 ghost use Rattle.columns.specs.Column.{put};
 ghost use Rattle.fsbm.specs.Machine.{wellFormed};
 ghost use Rattle.sheet.specs.Reading.{readList};
-ghost use Rattle.stream.specs.Listing.{wordLine, header, refusedSheet};
-ghost use Rattle.stream.specs.Pieces.{opening, endPrints};
+ghost use Rattle.stream.specs.Listing.{wordLine, header, refusedSheet, mostWords};
+ghost use Rattle.stream.specs.Pieces.{mostKept, opening, endPrints};
 ghost use Rattle.stream.specs.Calls.{pendingOf, ended, openAnswer, Lent, Kept, ByteTaken, PieceTaken};
 use fsbm::machine::Machine;
 
 // The most words that are listed.
 pub const MOST_WORDS: usize = 99999;
-
-// The bytes of a line that are kept, one more than a line may have.
-pub const MOST_KEPT: usize = 801;
 
 // The answer of open: the sheet's table, how many bytes of output there are, and whether the sheet is good.
 pub struct Opened {
@@ -108,7 +105,7 @@ pub fn begin() -> Held
 // Prints the word in the kept bytes of a line behind the output so far.
 fn end_line(m: Machine, list: &[u16], line: &[u8], out: &mut [u8], p: Taken) -> Taken
     requires { ⌜ wellFormed m (now list) ≡ true ⌝ }
-    requires { ⌜ (p .held .kept ≤ length (now line)) × (p .held .words < 99999) × (p .used + 16 ≤ length (now out)) ⌝ }
+    requires { ⌜ (p .held .kept ≤ length (now line)) × (p .held .words < mostWords) × (p .used + 16 ≤ length (now out)) ⌝ }
     ensures { λ r. ⌜ (r ≡ ended p) × (now (out .exit) ≡ put (p .used) (now (out .entry)) (wordLine m (now (list .entry)) (p .held .words + 1) (take (p .held .kept) (now (line .entry))))) ⌝ }
 {
     let kept = p.held.kept;
@@ -166,7 +163,7 @@ pub fn take_piece(
     held: Held,
 ) -> Taken
     requires { ⌜ wellFormed m (now list) ≡ true ⌝ }
-    requires { ⌜ (length (now line) ≡ 801) × (held .kept ≤ 801) × (16 * length (now piece) ≤ length (now out)) ⌝ }
+    requires { ⌜ (length (now line) ≡ mostKept) × (held .kept ≤ mostKept) × (16 * length (now piece) ≤ length (now out)) ⌝ }
     ensures { λ r. ⌜ PieceTaken m (now (list .entry)) (now (piece .entry)) held (now (line .entry)) (now (out .entry)) r (now (line .exit)) (now (out .exit)) ⌝ }
 {
     let mut p = Taken { held, used: 0 };
