@@ -31,7 +31,7 @@ use Rattle.sheet.specs.Reading.{firstFault, readAnswer, readList}
 use Rattle.stream.specs.Listing.{wordLine, header, sheetRefused, refusedSheet, mostWords}
 use Rattle.stream.specs.Pieces.{Pending, mostKept, afterByte, afterPiece, bytePrints, piecePrints, endPrints, opening}
 use Rattle.stream.specs.Pieces.Laws.{after-full, after-end, after-more, prints-full, prints-end, prints-more, after-one, prints-one, prints-length, byte-length, word-length}
-use Rattle.stream.specs.Pieces.Laws.{full-end, end-none, end-line}
+use Rattle.stream.specs.Pieces.Laws.{full-end, end-none, end-line, header-length, refused-length, opening-good, opening-bad}
 use Rattle.stream.specs.Whole.{number-read}
 use Rattle.stream.specs.Calls.{pendingOf, ended, openAnswer, Lent, Kept, ByteTaken, PieceTaken}
 use Rattle.stream.specs.declared.Held.{Held}
@@ -86,24 +86,6 @@ refused-written l o₁ o₂ n fits e₁ e₂ =
 
     two : o₂ ≡ put 0 l (sheetRefused ++ columnOf 5 n)
     two = e₂ ∙ (ap (λ (z : List ℕ). put 13 z (columnOf 5 n)) e₁ ∙ put-put 0 13 l sheetRefused (columnOf 5 n) refl (omega (arith, five)))
-
-header-length : length header ≡ 16
-unfolding header
-header-length = refl
-
-refused-length : (n : ℕ) → length (refusedSheet n) ≡ 19
-unfolding refusedSheet sheetRefused
-refused-length n =
-    length-append (sheetRefused ++ columnOf 5 n) (10 ∷ [])
-    ∙ (let a = length-append sheetRefused (columnOf 5 n) in let b = column-length 5 n in omega arith)
-
-opening-bad : (s : List ℕ) → (firstFault s ≡ 0 → ⊥) → refusedSheet (firstFault s) ≡ opening s
-unfolding opening
-opening-bad s n = second _ (ne-eqb _ _ n) refl
-
-opening-good : (s : List ℕ) → firstFault s ≡ 0 → header ≡ opening s
-unfolding opening
-opening-good s e = first _ (eq-eqb _ _ e) refl
 
 -- keep
 

@@ -8,6 +8,8 @@
 -- full-after, full-prints, full-end == after the last word nothing is kept anew and nothing printed
 -- few-words               == never more than mostWords words
 -- prints-length           == a piece of n bytes prints at most 16 × n
+-- end-length, opening-length == at most 16 and at most 19 bytes
+-- opening-good, opening-bad == the opening of a sheet without fault and of one with a fault
 -- piecesPrint m list p ps == what is printed for pieces that come one after the other
 -- pieces-joined           == it is what the joined pieces print
 -- same-answer             == a line and as much of it as is kept have the same answer
@@ -29,8 +31,11 @@ use Rattle.fsbm.specs.declared.machine.Machine.{Machine}
 use Rattle.lines.specs.declared.Answer.{Answer}
 use Rattle.lines.specs.Line.{lineAnswer, lineRefusal, answerLine, wordOf}
 use Rattle.lines.proofs.LineCases.{refused-long, line-length}
-use Rattle.stream.specs.Listing.{longer, linesOf, wordLine, wordLines, mostWords}
-use Rattle.stream.specs.Pieces.{Pending, mostKept, afterByte, afterPiece, bytePrints, piecePrints, endPrints}
+use Rattle.columns.specs.Column.{columnOf}
+use Rattle.columns.specs.Column.Laws.{column-length}
+use Rattle.sheet.specs.Reading.{firstFault}
+use Rattle.stream.specs.Listing.{wordLine, header, sheetRefused, refusedSheet, mostWords}
+use Rattle.stream.specs.Pieces.{Pending, mostKept, afterByte, afterPiece, bytePrints, piecePrints, endPrints, opening}
 
 module _ (p : Pending) (b : ℕ) where
   pub after-full : mostWords ≤ p .words → afterByte p b ≡ p
@@ -153,6 +158,42 @@ module _ (m : Machine) (list : List ℕ) where
       let e = byte-length p b in
       let f = prints-length (afterByte p b) x in
       let g = length-append (bytePrints m list p b) (piecePrints m list (afterByte p b) x) in omega arith
+
+  pub end-length : (p : Pending) → length (endPrints m list p) ≤ 16
+  end-length p = at (decLt (p .words) mostWords) (ℕ-discrete (length (p .bytes)) 0)
+    where
+      at : Dec (p .words < mostWords) → Dec (length (p .bytes) ≡ 0) → length (endPrints m list p) ≤ 16
+      at (no n) d = let e = ap length (full-end m list p (omega arith)) in omega arith
+      at (yes l) (yes e) = let f = ap length (end-none m list p l e) in omega arith
+      at (yes l) (no e) =
+          let f = ap length (end-line m list p l e) in
+          let g = word-length m list (p .words + 1) (p .bytes) in
+          omega arith
+
+pub header-length : length header ≡ 16
+unfolding header
+header-length = refl
+
+pub refused-length : (n : ℕ) → length (refusedSheet n) ≡ 19
+unfolding refusedSheet sheetRefused
+refused-length n =
+    length-append (sheetRefused ++ columnOf 5 n) (10 ∷ [])
+    ∙ (let a = length-append sheetRefused (columnOf 5 n) in let b = column-length 5 n in omega arith)
+
+pub opening-bad : (s : List ℕ) → (firstFault s ≡ 0 → ⊥) → refusedSheet (firstFault s) ≡ opening s
+unfolding opening
+opening-bad s n = second _ (ne-eqb _ _ n) refl
+
+pub opening-good : (s : List ℕ) → firstFault s ≡ 0 → header ≡ opening s
+unfolding opening
+opening-good s e = first _ (eq-eqb _ _ e) refl
+
+pub opening-length : (s : List ℕ) → length (opening s) ≤ 19
+opening-length s = at (ℕ-discrete (firstFault s) 0)
+  where
+    at : Dec (firstFault s ≡ 0) → length (opening s) ≤ 19
+    at (yes e) = let f = ap length (opening-good s e) in omega (arith, header-length)
+    at (no n) = let f = ap length (opening-bad s n) in omega (arith, refused-length (firstFault s))
 
 -- what is kept of a long line is as good as the line
 
