@@ -5,23 +5,27 @@
 -- next-bytes          == what list_piece writes
 -- reached-begin, reached-more == what is held is what the input so far leaves
 -- ready-same          == buffers of the same lengths as before
+-- done-none, done-full, done-else == the ways through is_done
+-- done-closed, still-open == what that says of the output
 -- last-fits, last-bytes == what end_input writes
 -- opening-fits, opening-bytes == what list_sheet writes first
 -- opened-table, opened-obeys == the table of a good sheet
-use Prim.Native.Nat.{ℕ, _*_, _+_, _≤_}
+use Prim.Native.Nat.{ℕ, _*_, _+_, _≤_, _<_}
 use mathlib.Core.Path.{_≡_, refl, sym, ap, _∙_, subst}
 use mathlib.Core.List.{List, [], _∷_, _++_}
-use mathlib.Core.Bool.{Bool, true, false, cond}
+use mathlib.Core.Bool.{Bool, true, false, _||_, true≢false}
 use native.Mathlib.Omega.{arith}
 use lib.ListN.{length, take}
 use lib.Seq.{take-at, length-take-le}
-use borrow.Author.Tests.{eqb-true}
+use lib.Dec.{leb, eqb}
+use borrow.Author.Tests.{eqb-true, eq-eqb, ne-eqb, le-leb, lt-leb}
 use Rattle.columns.specs.Column.{put}
 use Rattle.columns.specs.Column.Laws.{put-zero, put-length}
 use Rattle.fsbm.specs.Machine.{wellFormed}
 use Rattle.fsbm.specs.declared.machine.Machine.{Machine}
 use Rattle.sheet.specs.Reading.{firstFault, machineOf, transitionsOf, readAnswer, readList}
 use Rattle.sheet_laws.specs.Obeys.{read-obeys}
+use Rattle.stream.specs.Listing.{mostWords}
 use Rattle.stream.specs.Pieces.{Pending, mostKept, nothingYet, afterPiece, piecePrints, endPrints, opening}
 use Rattle.stream.specs.Pieces.Laws.{after-cut, prints-length, end-length, opening-length}
 use Rattle.stream.specs.Whole.{prints-read, end-read, number-read}
@@ -30,7 +34,7 @@ use Rattle.stream.specs.declared.Held.{Held}
 use Rattle.stream.specs.declared.Taken.{Taken}
 use Rattle.stream.specs.declared.Opened.{Opened}
 use Rattle.listing.specs.declared.Turn.{Turn}
-use Rattle.listing.specs.Output.{pieceBytes, endBytes, ReadFrom, Reached, NextBytes, LastBytes, Ready, Turned}
+use Rattle.listing.specs.Output.{pieceBytes, endBytes, ReadFrom, Reached, NextBytes, LastBytes, Ready, Turned, atEnd, done}
 
 module _ (out out′ bytes : List ℕ) (used : ℕ) (e : out′ ≡ put 0 out bytes) (u : used ≡ length bytes) where
   pub front : take used out′ ≡ bytes
@@ -73,19 +77,53 @@ reached-more m list held line out r input′ line′ out′ reached turned =
           ∙ (ap (λ (z : Pending). afterPiece z (take (r .count) input′)) (reached .pending) ∙ sym (after-cut nothingYet (reached .input) (take (r .count) input′)));
     }
 
-module _ (m : Machine) (list line out out′ : List ℕ) (held : Held) (used : ℕ)
-    (finished : (used ≡ length (endPrints m list (pendingOf line held))) × (out′ ≡ put 0 out (endPrints m list (pendingOf line held)))) where
-  pub last-fits : 16 ≤ length out → used ≤ length out′
-  last-fits h = front-fits out out′ (endPrints m list (pendingOf line held)) used (finished .1) (finished .0) (omega (arith, end-length m list (pendingOf line held)))
+-- when the program stops
 
-  pub last-bytes : (sheet : List ℕ) → ReadFrom sheet m list → Reached line held → LastBytes sheet line held (take used out′)
+or-true : (a b : Bool) → b ≡ true → (a || b) ≡ true
+or-true true b e = refl
+or-true false b e = e
+
+or-first : (a b : Bool) → (a || b) ≡ true → b ≡ false → a ≡ true
+or-first true b e f = refl
+or-first false b e f = sym (sym e ∙ f)
+
+or-false : (a b : Bool) → (a || b) ≡ false → (a ≡ false) × (b ≡ false)
+or-false true b e = absurd (true≢false e)
+or-false false b e = (refl, e)
+
+module _ (t : Turn) where
+  pub done-none : t .count ≡ 0 → true ≡ done t
+  done-none e = ap (λ (z : Bool). z || leb mostWords (t .held .words) || t .closed) (sym (eq-eqb _ _ e))
+
+  pub done-full : mostWords ≤ t .held .words → true ≡ done t
+  done-full h = sym (ap (λ (z : Bool). z || t .closed) (or-true (eqb (t .count) 0) _ (le-leb _ _ h)))
+
+  pub done-else : (t .count ≡ 0 → ⊥) → t .held .words < mostWords → t .closed ≡ done t
+  done-else n h =
+      ap (λ (z : Bool). z || t .closed) (sym (lt-leb _ _ h))
+      ∙ ap (λ (z : Bool). z || leb mostWords (t .held .words) || t .closed) (sym (ne-eqb _ _ n))
+
+  pub done-closed : t .closed ≡ true → done t ≡ true
+  done-closed e = or-true (atEnd t) (t .closed) e
+
+  pub still-open : (r : Bool) → r ≡ done t → r ≡ false → t .closed ≡ false
+  still-open r e f = or-false (atEnd t) (t .closed) (sym e ∙ f) .1
+
+module _ (m : Machine) (list line out out′ : List ℕ) (t : Turn) (used : ℕ)
+    (finished : (used ≡ length (endPrints m list (pendingOf line (t .held)))) × (out′ ≡ put 0 out (endPrints m list (pendingOf line (t .held))))) where
+  pub last-fits : 16 ≤ length out → used ≤ length out′
+  last-fits h = front-fits out out′ (endPrints m list (pendingOf line (t .held))) used (finished .1) (finished .0) (omega (arith, end-length m list (pendingOf line (t .held))))
+
+  pub last-bytes : (sheet : List ℕ) → ReadFrom sheet m list → Reached line (t .held) → done t ≡ true → t .closed ≡ false → LastBytes sheet line t (take used out′)
   unfolding endBytes
-  last-bytes sheet from reached =
+  last-bytes sheet from reached d o =
       record {
         input = reached .input;
         pending = reached .pending;
-        printed = front out out′ (endPrints m list (pendingOf line held)) used (finished .1) (finished .0)
-            ∙ (end-read sheet (from .good) (from .entry) (from .long) m list (from .machine) (from .transitions) (pendingOf line held)
+        at-end = or-first (atEnd t) (t .closed) d o;
+        still-open = o;
+        printed = front out out′ (endPrints m list (pendingOf line (t .held))) used (finished .1) (finished .0)
+            ∙ (end-read sheet (from .good) (from .entry) (from .long) m list (from .machine) (from .transitions) (pendingOf line (t .held))
             ∙ ap (λ (z : Pending). endPrints (machineOf sheet) (transitionsOf sheet) z) (reached .pending));
       }
 

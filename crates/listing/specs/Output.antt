@@ -7,16 +7,21 @@
 -- ReadFrom sheet m list         == m and list are the table that read_sheet reads from a sheet without fault
 -- Reached line held             == what is held is what some input leaves
 -- NextBytes sheet piece bytes   == these bytes are printed for the piece, after some input
--- LastBytes sheet line held bytes == these bytes are printed at the end of an input that leaves what is held
+-- atEnd t, done t               == the input has ended or the last word is listed; that, or the output is closed
+-- LastBytes sheet line t bytes  == the input has ended, the output is open, and these bytes are printed at the end of an input that leaves
+--                                  what is held
 -- Ready                         == what list_piece needs of its buffers
 -- Turned                        == what list_piece leaves
 use Prim.Native.Nat.{ℕ, _*_, _≤_}
 use mathlib.Core.Path.{_≡_}
 use mathlib.Core.List.{List}
+use mathlib.Core.Bool.{Bool, true, false, _||_}
 use lib.ListN.{length, take}
+use lib.Dec.{leb, eqb}
 use Rattle.columns.specs.Column.{put}
 use Rattle.fsbm.specs.declared.machine.Machine.{Machine}
 use Rattle.sheet.specs.Reading.{firstFault, machineOf, transitionsOf, readAnswer, readList}
+use Rattle.stream.specs.Listing.{mostWords}
 use Rattle.stream.specs.Pieces.{mostKept, nothingYet, afterPiece, piecePrints, endPrints}
 use Rattle.stream.specs.Calls.{pendingOf}
 use Rattle.stream.specs.declared.Held.{Held}
@@ -43,10 +48,20 @@ pub record NextBytes (sheet piece bytes : List ℕ) : Type 0 where
   pub before : List ℕ
   pub printed : bytes ≡ pieceBytes sheet before piece
 
-pub record LastBytes (sheet line : List ℕ) (held : Held) (bytes : List ℕ) : Type 0 where
+-- no byte of input came, or the last word is listed
+abbrev pub atEnd : Turn → Bool
+atEnd t = eqb (t .count) 0 || leb mostWords (t .held .words)
+
+-- the program reads on until this holds
+abbrev pub done : Turn → Bool
+done t = atEnd t || t .closed
+
+pub record LastBytes (sheet line : List ℕ) (t : Turn) (bytes : List ℕ) : Type 0 where
   pub input : List ℕ
-  pub pending : pendingOf line held ≡ afterPiece nothingYet input
+  pub pending : pendingOf line (t .held) ≡ afterPiece nothingYet input
   pub printed : bytes ≡ endBytes sheet input
+  pub at-end : atEnd t ≡ true
+  pub still-open : t .closed ≡ false
 
 -- sixteen bytes of output for each byte of a piece
 pub record Ready (input line out : List ℕ) (held : Held) : Type 0 where

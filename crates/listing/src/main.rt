@@ -13,13 +13,13 @@ ghost use mathlib.Core.Bool.{true, false};
 ghost use lib.ListN.{length};
 ghost use Rattle.fsbm.specs.Machine.{wellFormed};
 ghost use Rattle.stream.specs.Pieces.{mostKept, opening};
-ghost use Rattle.listing.specs.Output.{ReadFrom, Reached, NextBytes, LastBytes, Ready, Turned};
+ghost use Rattle.listing.specs.Output.{ReadFrom, Reached, NextBytes, LastBytes, Ready, Turned, done};
 use fsbm::machine::Machine;
 use libc::STDIN_FILENO;
 use libc::STDOUT_FILENO;
 use stream::Held;
 
-// What a piece leaves: what is held, how many bytes of input came, and whether the output is closed.
+// What a piece leaves: what is held, how many bytes of input came, and whether the output is closed, since a write has failed.
 pub struct Turn {
     pub held: Held,
     pub count: usize,
@@ -41,13 +41,13 @@ fn write_piece(sheet: &[u8], piece: &[u8], bytes: &[u8]) -> bool
 }
 
 // Writes what is printed at the end of the input.
-fn write_end(sheet: &[u8], line: &[u8], held: Held, bytes: &[u8])
-    requires { ⌜ LastBytes (now sheet) (now line) held (now bytes) ⌝ }
+fn write_end(sheet: &[u8], line: &[u8], t: Turn, bytes: &[u8])
+    requires { ⌜ LastBytes (now sheet) (now line) t (now bytes) ⌝ }
 {
     io::write_all(STDOUT_FILENO, bytes);
 }
 
-// Reads a piece of the input, and writes what is printed for it.
+// Reads a piece of the input, and writes what is printed for it. It reads only while the output is open.
 fn list_piece(
     sheet: &[u8],
     m: Machine,
@@ -55,14 +55,16 @@ fn list_piece(
     input: &mut [u8],
     line: &mut [u8],
     out: &mut [u8],
-    held: Held,
+    t: Turn,
 ) -> Turn
     requires { ⌜ wellFormed m (now list) ≡ true ⌝ }
     requires { ⌜ ReadFrom (now sheet) m (now list) ⌝ }
-    requires { ⌜ Ready (now input) (now line) (now out) held ⌝ }
-    requires { ⌜ Reached (now line) held ⌝ }
-    ensures { λ r. ⌜ Turned m (now (list .entry)) held (now (line .entry)) (now (out .entry)) r (now (input .exit)) (now (line .exit)) (now (out .exit)) ⌝ }
+    requires { ⌜ Ready (now input) (now line) (now out) (t .held) ⌝ }
+    requires { ⌜ Reached (now line) (t .held) ⌝ }
+    requires { ⌜ t .closed ≡ false ⌝ }
+    ensures { λ r. ⌜ Turned m (now (list .entry)) (t .held) (now (line .entry)) (now (out .entry)) r (now (input .exit)) (now (line .exit)) (now (out .exit)) ⌝ }
 {
+    let held = t.held;
     let got = libc::read(STDIN_FILENO, input);
     let count = io::count(got, input);
     let taken = stream::take_piece(m, list, &input[..count], line, out, held);
@@ -77,7 +79,9 @@ fn list_piece(
 }
 
 // Whether the input has ended, the last word is listed or the output is closed.
-fn is_done(t: Turn) -> bool {
+fn is_done(t: Turn) -> bool
+    ensures { λ r. ⌜ r ≡ done t ⌝ }
+{
     if t.count == 0 {
         return true;
     }
@@ -100,7 +104,7 @@ fn take_input(
     requires { ⌜ wellFormed m (now list) ≡ true ⌝ }
     requires { ⌜ ReadFrom (now sheet) m (now list) ⌝ }
     requires { ⌜ Ready (now input) (now line) (now out) (record { kept = 0; words = 0 }) ⌝ }
-    ensures { λ r. ⌜ Reached (now (line .exit)) (r .held) × (r .held .kept ≤ mostKept) ⌝ }
+    ensures { λ r. ⌜ Reached (now (line .exit)) (r .held) × (r .held .kept ≤ mostKept) × (done r ≡ true) ⌝ }
 {
     let mut t = Turn {
         held: stream::begin(),
@@ -109,28 +113,32 @@ fn take_input(
     };
     let mut turns = u64::MAX;
     while 0 < turns {
-        let held = t.held;
-        t = list_piece(sheet, m, list, input, line, out, held);
+        t = list_piece(sheet, m, list, input, line, out, t);
         if is_done(t) {
             return t;
         }
         turns -= 1;
     }
-    t
+    let held = t.held;
+    Turn {
+        held,
+        count: t.count,
+        closed: true,
+    }
 }
 
 // Lists the last line, unless the output is closed.
 fn end_input(sheet: &[u8], m: Machine, list: &[u16], line: &[u8], out: &mut [u8], t: Turn)
     requires { ⌜ wellFormed m (now list) ≡ true ⌝ }
     requires { ⌜ ReadFrom (now sheet) m (now list) ⌝ }
-    requires { ⌜ Reached (now line) (t .held) × (t .held .kept ≤ length (now line)) × (16 ≤ length (now out)) ⌝ }
+    requires { ⌜ Reached (now line) (t .held) × (t .held .kept ≤ length (now line)) × (16 ≤ length (now out)) × (done t ≡ true) ⌝ }
 {
     if t.closed {
         return;
     }
     let held = t.held;
     let used = stream::finish(m, list, line, out, held);
-    write_end(sheet, line, held, &out[..used]);
+    write_end(sheet, line, t, &out[..used]);
 }
 
 // Lists the words of standard input over a table.

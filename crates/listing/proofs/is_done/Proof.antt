@@ -1,0 +1,20 @@
+use Rattle.listing.proofs.OutputCases.{done-none, done-full, done-else}
+use Rattle.listing.proofs.is_done.Statement.{statement}
+use Rattle.listing.proofs.is_done.Tie as tie
+use Rattle.listing.proofs.is_done.Reads as reads
+use Rattle.listing.proofs.is_done.Lts as lts
+
+-- src/main.rt:86:9
+returns : tie.Need-returns
+returns c = done-none ((c .before .before) .args .t) ((c) .if1 .taken)
+
+-- src/main.rt:89:9
+returns-2 : tie.Need-returns-2
+returns-2 c = done-full ((c .before .before .before .before) .args .t) ((c) .if2 .taken)
+
+-- src/main.rt:82:1
+returns-3 : tie.Need-returns-3
+returns-3 c = done-else ((c .before .before .before .before) .args .t) ((c .before .before) .if1 .left) ((c) .if2 .left)
+
+pub is-done-spec : {M : Type 1} → statement M
+is-done-spec = tie.close (tie.spec returns returns-2 returns-3)
