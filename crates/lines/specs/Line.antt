@@ -9,7 +9,7 @@
 use Prim.Native.Nat.{ℕ, zero, suc, _+_, _*_, _/_, _%_}
 use mathlib.Core.Path.{_≡_}
 use mathlib.Core.List.{List, [], _∷_, _++_}
-use mathlib.Core.Bool.{Bool, true, false, cond, not, _&&_}
+use mathlib.Core.Bool.{Bool, true, cond, not, _&&_}
 use lib.ListN.{length, take, drop, set}
 use lib.Dec.{leb, eqb}
 use Rattle.graphs.specs.Search.{allBelow}

@@ -3,12 +3,11 @@
 // read_word    the letters of a word's line, or the refusal of it
 // answer_line  what is printed for a word's line
 // write_line   the printed line
-ghost use Prim.Native.Nat.{ℕ, _+_, _*_, _≤_, _<_};
+ghost use Prim.Native.Nat.{_+_, _*_, _≤_, _<_};
 ghost use mathlib.Core.Path.{_≡_};
 ghost use mathlib.Core.Bool.{true, _&&_};
-ghost use lib.ListN.{length, set};
+ghost use lib.ListN.{length};
 ghost use Rattle.columns.specs.Column.{put};
-ghost use Rattle.fsbm.specs.Answers.{goodLetter};
 ghost use Rattle.fsbm.specs.Machine.{wellFormed};
 ghost use Rattle.lines.specs.Line.{WordRead, Stored, lineAnswer, answerLine};
 use fsbm::machine::Machine;

@@ -12,11 +12,11 @@
 -- opened-table, opened-obeys == the table of a good sheet
 use Prim.Native.Nat.{ℕ, _*_, _+_, _≤_, _<_}
 use mathlib.Core.Path.{_≡_, refl, sym, ap, _∙_, subst}
-use mathlib.Core.List.{List, [], _∷_, _++_}
+use mathlib.Core.List.{List, [], _++_}
 use mathlib.Core.Bool.{Bool, true, false, _||_, true≢false}
 use native.Mathlib.Omega.{arith}
 use lib.ListN.{length, take}
-use lib.Seq.{take-at, length-take-le}
+use lib.Seq.{take-at}
 use lib.Dec.{leb, eqb}
 use borrow.Author.Tests.{eqb-true, eq-eqb, ne-eqb, le-leb, lt-leb}
 use Rattle.columns.specs.Column.{put}
@@ -34,7 +34,7 @@ use Rattle.stream.specs.declared.Held.{Held}
 use Rattle.stream.specs.declared.Taken.{Taken}
 use Rattle.stream.specs.declared.Opened.{Opened}
 use Rattle.listing.specs.declared.Turn.{Turn}
-use Rattle.listing.specs.Output.{pieceBytes, endBytes, ReadFrom, Reached, NextBytes, LastBytes, Ready, Turned, atEnd, done}
+use Rattle.listing.specs.Output.{pieceBytes, endBytes, ReadFrom, HeldAfter, NextBytes, LastBytes, Buffers, PieceListed, atEnd, done}
 
 module _ (out out′ bytes : List ℕ) (used : ℕ) (e : out′ ≡ put 0 out bytes) (u : used ≡ length bytes) where
   pub front : take used out′ ≡ bytes
@@ -47,7 +47,7 @@ module _ (m : Machine) (list piece : List ℕ) (held : Held) (line out : List �
   pub used-fits : 16 * length piece ≤ length out → r .used ≤ length out′
   used-fits h = front-fits out out′ (piecePrints m list (pendingOf line held) piece) (r .used) (taken .printed) (taken .used) (omega (arith, prints-length m list (pendingOf line held) piece))
 
-  pub next-bytes : (sheet : List ℕ) → ReadFrom sheet m list → Reached line held → NextBytes sheet piece (take (r .used) out′)
+  pub next-bytes : (sheet : List ℕ) → ReadFrom sheet m list → HeldAfter line held → NextBytes sheet piece (take (r .used) out′)
   unfolding pieceBytes
   next-bytes sheet from reached =
       record {
@@ -57,19 +57,19 @@ module _ (m : Machine) (list piece : List ℕ) (held : Held) (line out : List �
             ∙ ap (λ (z : Pending). piecePrints (machineOf sheet) (transitionsOf sheet) z piece) (reached .pending));
       }
 
-reached-none : (line : List ℕ) → Reached line (record { kept = 0; words = 0 })
+reached-none : (line : List ℕ) → HeldAfter line (record { kept = 0; words = 0 })
 unfolding afterPiece
 reached-none line = record { input = []; pending = refl }
 
-pub reached-begin : (line : List ℕ) (h : Held) → h ≡ record { kept = 0; words = 0 } → Reached line h × (h .kept ≤ mostKept)
-reached-begin line h e = (subst (Reached line) (sym e) (reached-none line), let z = ap (λ (x : Held). x .kept) e in omega arith)
+pub reached-begin : (line : List ℕ) (h : Held) → h ≡ record { kept = 0; words = 0 } → HeldAfter line h × (h .kept ≤ mostKept)
+reached-begin line h e = (subst (HeldAfter line) (sym e) (reached-none line), let z = ap (λ (x : Held). x .kept) e in omega arith)
 
-pub ready-same : (input₀ line₀ out₀ input line out : List ℕ) (h₀ h : Held) → Ready input₀ line₀ out₀ h₀ → length input ≡ length input₀ → length line ≡ length line₀
-    → length out ≡ length out₀ → h .kept ≤ mostKept → Ready input line out h
+pub ready-same : (input₀ line₀ out₀ input line out : List ℕ) (h₀ h : Held) → Buffers input₀ line₀ out₀ h₀ → length input ≡ length input₀ → length line ≡ length line₀
+    → length out ≡ length out₀ → h .kept ≤ mostKept → Buffers input line out h
 ready-same input₀ line₀ out₀ input line out h₀ h r a b d k = record { piece = omega (arith, r .piece); room = b ∙ r .room; within = k }
 
-pub reached-more : (m : Machine) (list : List ℕ) (held : Held) (line out : List ℕ) (r : Turn) (input′ line′ out′ : List ℕ) → Reached line held
-    → Turned m list held line out r input′ line′ out′ → Reached line′ (r .held)
+pub reached-more : (m : Machine) (list : List ℕ) (held : Held) (line out : List ℕ) (r : Turn) (input′ line′ out′ : List ℕ) → HeldAfter line held
+    → PieceListed m list held line out r input′ line′ out′ → HeldAfter line′ (r .held)
 reached-more m list held line out r input′ line′ out′ reached turned =
     record {
       input = reached .input ++ take (r .count) input′;
@@ -114,7 +114,7 @@ module _ (m : Machine) (list line out out′ : List ℕ) (t : Turn) (used : ℕ)
   pub last-fits : 16 ≤ length out → used ≤ length out′
   last-fits h = front-fits out out′ (endPrints m list (pendingOf line (t .held))) used (finished .1) (finished .0) (omega (arith, end-length m list (pendingOf line (t .held))))
 
-  pub last-bytes : (sheet : List ℕ) → ReadFrom sheet m list → Reached line (t .held) → done t ≡ true → t .closed ≡ false → LastBytes sheet line t (take used out′)
+  pub last-bytes : (sheet : List ℕ) → ReadFrom sheet m list → HeldAfter line (t .held) → done t ≡ true → t .closed ≡ false → LastBytes sheet line t (take used out′)
   unfolding endBytes
   last-bytes sheet from reached d o =
       record {

@@ -5,13 +5,13 @@
 -- pieceBytes sheet before piece == what is printed for a piece of the input that comes after the input before
 -- endBytes sheet input          == what is printed at the end of the input
 -- ReadFrom sheet m list         == m and list are the table that read_sheet reads from a sheet without fault
--- Reached line held             == what is held is what some input leaves
+-- HeldAfter line held             == what is held is what some input leaves
 -- NextBytes sheet piece bytes   == these bytes are printed for the piece, after some input
 -- atEnd t, done t               == the input has ended or the last word is listed; that, or the output is closed
 -- LastBytes sheet line t bytes  == the input has ended, the output is open, and these bytes are printed at the end of an input that leaves
 --                                  what is held
--- Ready                         == what list_piece needs of its buffers
--- Turned                        == what list_piece leaves
+-- Buffers                         == what list_piece needs of its buffers
+-- PieceListed                        == what list_piece leaves
 use Prim.Native.Nat.{ℕ, _*_, _≤_}
 use mathlib.Core.Path.{_≡_}
 use mathlib.Core.List.{List}
@@ -40,7 +40,7 @@ pub record ReadFrom (sheet : List ℕ) (m : Machine) (list : List ℕ) : Type 0 
   pub machine : m ≡ readAnswer sheet (length entry) .machine
   pub transitions : list ≡ readList sheet entry
 
-pub record Reached (line : List ℕ) (held : Held) : Type 0 where
+pub record HeldAfter (line : List ℕ) (held : Held) : Type 0 where
   pub input : List ℕ
   pub pending : pendingOf line held ≡ afterPiece nothingYet input
 
@@ -64,13 +64,13 @@ pub record LastBytes (sheet line : List ℕ) (t : Turn) (bytes : List ℕ) : Typ
   pub still-open : t .closed ≡ false
 
 -- sixteen bytes of output for each byte of a piece
-pub record Ready (input line out : List ℕ) (held : Held) : Type 0 where
+pub record Buffers (input line out : List ℕ) (held : Held) : Type 0 where
   pub piece : 16 * length input ≤ length out
   pub room : length line ≡ mostKept
   pub within : held .kept ≤ mostKept
 
 -- the piece is the first bytes of the input buffer; it is taken once, and its output is the front of the output buffer
-pub record Turned (m : Machine) (list : List ℕ) (held : Held) (line out : List ℕ) (r : Turn) (input′ line′ out′ : List ℕ) : Type 0 where
+pub record PieceListed (m : Machine) (list : List ℕ) (held : Held) (line out : List ℕ) (r : Turn) (input′ line′ out′ : List ℕ) : Type 0 where
   pub count : r .count ≤ length input′
   pub pending : pendingOf line′ (r .held) ≡ afterPiece (pendingOf line held) (take (r .count) input′)
   pub printed : out′ ≡ put 0 out (piecePrints m list (pendingOf line held) (take (r .count) input′))

@@ -13,7 +13,7 @@ ghost use mathlib.Core.Bool.{true, false};
 ghost use lib.ListN.{length};
 ghost use Rattle.fsbm.specs.Machine.{wellFormed};
 ghost use Rattle.stream.specs.Pieces.{mostKept, opening};
-ghost use Rattle.listing.specs.Output.{ReadFrom, Reached, NextBytes, LastBytes, Ready, Turned, done};
+ghost use Rattle.listing.specs.Output.{ReadFrom, HeldAfter, NextBytes, LastBytes, Buffers, PieceListed, done};
 use fsbm::machine::Machine;
 use libc::STDIN_FILENO;
 use libc::STDOUT_FILENO;
@@ -59,10 +59,10 @@ fn list_piece(
 ) -> Turn
     requires { ⌜ wellFormed m (now list) ≡ true ⌝ }
     requires { ⌜ ReadFrom (now sheet) m (now list) ⌝ }
-    requires { ⌜ Ready (now input) (now line) (now out) (t .held) ⌝ }
-    requires { ⌜ Reached (now line) (t .held) ⌝ }
+    requires { ⌜ Buffers (now input) (now line) (now out) (t .held) ⌝ }
+    requires { ⌜ HeldAfter (now line) (t .held) ⌝ }
     requires { ⌜ t .closed ≡ false ⌝ }
-    ensures { λ r. ⌜ Turned m (now (list .entry)) (t .held) (now (line .entry)) (now (out .entry)) r (now (input .exit)) (now (line .exit)) (now (out .exit)) ⌝ }
+    ensures { λ r. ⌜ PieceListed m (now (list .entry)) (t .held) (now (line .entry)) (now (out .entry)) r (now (input .exit)) (now (line .exit)) (now (out .exit)) ⌝ }
 {
     let held = t.held;
     let got = libc::read(STDIN_FILENO, input);
@@ -103,8 +103,8 @@ fn take_input(
 ) -> Turn
     requires { ⌜ wellFormed m (now list) ≡ true ⌝ }
     requires { ⌜ ReadFrom (now sheet) m (now list) ⌝ }
-    requires { ⌜ Ready (now input) (now line) (now out) (record { kept = 0; words = 0 }) ⌝ }
-    ensures { λ r. ⌜ Reached (now (line .exit)) (r .held) × (r .held .kept ≤ mostKept) × (done r ≡ true) ⌝ }
+    requires { ⌜ Buffers (now input) (now line) (now out) (record { kept = 0; words = 0 }) ⌝ }
+    ensures { λ r. ⌜ HeldAfter (now (line .exit)) (r .held) × (r .held .kept ≤ mostKept) × (done r ≡ true) ⌝ }
 {
     let mut t = Turn {
         held: stream::begin(),
@@ -131,7 +131,7 @@ fn take_input(
 fn end_input(sheet: &[u8], m: Machine, list: &[u16], line: &[u8], out: &mut [u8], t: Turn)
     requires { ⌜ wellFormed m (now list) ≡ true ⌝ }
     requires { ⌜ ReadFrom (now sheet) m (now list) ⌝ }
-    requires { ⌜ Reached (now line) (t .held) × (t .held .kept ≤ length (now line)) × (16 ≤ length (now out)) × (done t ≡ true) ⌝ }
+    requires { ⌜ HeldAfter (now line) (t .held) × (t .held .kept ≤ length (now line)) × (16 ≤ length (now out)) × (done t ≡ true) ⌝ }
 {
     if t.closed {
         return;

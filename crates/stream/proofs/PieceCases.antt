@@ -8,18 +8,16 @@
 -- piece-none, piece-lent, piece-more, piece-done == the loop of take_piece
 -- end-full, end-empty, end-last    == the ways through finish
 -- open-refused, open-good          == the ways through open
-use Prim.Native.Nat.{ℕ, zero, suc, _+_, _-_, _*_, _<_, _≤_}
+use Prim.Native.Nat.{ℕ, _+_, _-_, _*_, _<_, _≤_}
 use mathlib.Core.Path.{_≡_, refl, sym, ap, _∙_, subst}
-use mathlib.Core.List.{List, [], _∷_, _++_, append-assoc, append-nil}
-use mathlib.Core.Bool.{Bool, true, false, cond}
+use mathlib.Core.List.{List, [], _∷_, _++_, append-nil}
+use mathlib.Core.Bool.{true, false}
 use native.Mathlib.Omega.{arith}
 use native.Mathlib.Nat.{add-zero}
 use native.Mathlib.Numerals.{add-one}
 use lib.ListN.{length, take, drop, getD, set, length-append, take-append-drop}
 use lib.Seq.{take-all, take-suc, take-suc-set, take-append-seam, length-take-le}
-use lib.Dec.{eqb}
 use borrow.Author.Tests.{eq-eqb, ne-eqb}
-use Rattle.graphs.specs.Search.Loops.{first, second}
 use Rattle.columns.specs.Column.{columnOf, put}
 use Rattle.columns.specs.Column.Laws.{column-length, put-put}
 use Rattle.fsbm.specs.declared.machine.Machine.{Machine}
@@ -33,10 +31,9 @@ use Rattle.stream.specs.Pieces.{Pending, mostKept, afterByte, afterPiece
 use Rattle.stream.specs.Pieces.Laws.{after-full, after-end, after-more, prints-full, prints-end, prints-more, after-one, prints-one, prints-length, byte-length, word-length}
 use Rattle.stream.specs.Pieces.Laws.{full-end, end-none, end-line, header-length, refused-length, opening-good, opening-bad}
 use Rattle.stream.specs.Whole.{number-read}
-use Rattle.stream.specs.Calls.{pendingOf, ended, openAnswer, Lent, Kept, ByteTaken, PieceTaken}
+use Rattle.stream.specs.Calls.{pendingOf, ended, openAnswer, Lent, ByteKept, ByteTaken, PieceTaken}
 use Rattle.stream.specs.declared.Held.{Held}
 use Rattle.stream.specs.declared.Taken.{Taken}
-use Rattle.stream.specs.declared.Opened.{Opened}
 
 pub put-nothing : (at : ℕ) (l : List ℕ) → l ≡ put at l []
 unfolding put
@@ -90,14 +87,14 @@ refused-written l o₁ o₂ n fits e₁ e₂ =
 -- keep
 
 module _ (line : List ℕ) (kept b : ℕ) where
-  pub kept-full : kept ≤ length line → length line ≤ kept → Kept line kept b kept line
+  pub kept-full : kept ≤ length line → length line ≤ kept → ByteKept line kept b kept line
   kept-full h g =
       record {
         bytes = take-all kept line g ∙ (sym (take-append-seam line (b ∷ [])) ∙ ap (λ (z : List ℕ). take (length line) (z ++ (b ∷ []))) (sym (take-all kept line g)));
         within = h;
       }
 
-  pub kept-more : kept < length line → Kept line kept b (kept + 1) (set line kept b)
+  pub kept-more : kept < length line → ByteKept line kept b (kept + 1) (set line kept b)
   kept-more h =
       record {
         bytes = ap (λ (z : ℕ). take z (set line kept b)) (add-one kept)
@@ -150,7 +147,7 @@ module _ (m : Machine) (list : List ℕ) (b : ℕ) (p : Taken) (line out : List 
           let y = word-length m list (p .held .words + 1) (take (p .held .kept) line) in
           omega arith
 
-  pub byte-more : length line ≡ mostKept → p .held .words < mostWords → (b ≡ 10 → ⊥) → (kept : ℕ) (line′ : List ℕ) → Kept line (p .held .kept) b kept line′
+  pub byte-more : length line ≡ mostKept → p .held .words < mostWords → (b ≡ 10 → ⊥) → (kept : ℕ) (line′ : List ℕ) → ByteKept line (p .held .kept) b kept line′
       → ByteTaken m list b p line out (record { held = record { kept = kept; words = p .held .words }; used = p .used }) line′ out
   byte-more room h n kept line′ k =
       record {

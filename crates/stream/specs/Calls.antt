@@ -4,7 +4,7 @@
 -- ended p             == after a line's end: no byte kept, one word and 16 bytes of output more
 -- openAnswer s len    == what open answers for a sheet and a list of this length
 -- Lent                == what take_byte needs of its buffers
--- Kept                == what keep leaves
+-- ByteKept                == what keep leaves
 -- ByteTaken           == what take_byte leaves
 -- PieceTaken          == what take_piece leaves
 use Prim.Native.Nat.{ℕ, _+_, _≤_}
@@ -35,7 +35,7 @@ pub record Lent (line out : List ℕ) (p : Taken) : Type 0 where
   pub within : p .held .kept ≤ mostKept
   pub space : p .used + 16 ≤ length out
 
-pub record Kept (line : List ℕ) (kept b r : ℕ) (line′ : List ℕ) : Type 0 where
+pub record ByteKept (line : List ℕ) (kept b r : ℕ) (line′ : List ℕ) : Type 0 where
   pub bytes : take r line′ ≡ take (length line) (take kept line ++ (b ∷ []))
   pub within : r ≤ length line
 

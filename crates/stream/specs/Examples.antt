@@ -7,7 +7,6 @@
 use Prim.Native.Nat.{ℕ}
 use mathlib.Core.Path.{_≡_, refl}
 use mathlib.Core.List.{List, [], _∷_, _++_}
-use lib.ListN.{length}
 use Rattle.columns.specs.Column.{padded, digitOr, columnOf}
 use Rattle.stream.specs.Listing.{longer, linesOf, sheetRefused, refusedSheet}
 

@@ -3,19 +3,17 @@
 -- accepted-past == a list that goes on past the transitions gives the same answer to a word
 -- prints-past   == and to a piece of input
 -- end-past      == and at its end
-use Prim.Native.Nat.{ℕ, suc, _+_, _*_, _<_, _≤_}
+use Prim.Native.Nat.{ℕ, _+_, _*_, _<_, _≤_}
 use mathlib.Core.Path.{_≡_, refl, sym, ap, _∙_}
-use mathlib.Core.Logic.{_⊎_, inl, inr}
 use mathlib.Core.List.{List, [], _∷_, _++_}
 use mathlib.Core.Bool.{Bool, true, false, cond, _&&_}
 use native.Mathlib.Omega.{arith}
-use lib.ListN.{length, getD, List·getD-append}
+use lib.ListN.{length, List·getD-append}
 use lib.Dec.{ltb, eqb}
 use borrow.Author.Tests.{ltb-true}
 use Rattle.graphs.specs.Bools.{same-truth}
-use Rattle.graphs.specs.Search.Laws.{true-or-false}
 use Rattle.fsbm.specs.Machine.{transitionAt}
-use Rattle.fsbm.specs.Moves.{takes, changes, goes, wellPlaced, move, acceptingFrom, accepting, startAt, accepts}
+use Rattle.fsbm.specs.Moves.{takes, changes, goes, wellPlaced, move, acceptingFrom, accepting, startAt}
 use Rattle.fsbm.specs.Accepted.{accepted}
 use Rattle.fsbm.specs.Accepted.Laws.{accepted-true}
 use Rattle.fsbm.specs.Machine.{initial}

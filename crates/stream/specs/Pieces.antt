@@ -11,7 +11,7 @@
 -- opening sheet              == what is printed ahead of any input
 use Prim.Native.Nat.{ℕ, _+_}
 use mathlib.Core.List.{List, [], _∷_, _++_}
-use mathlib.Core.Bool.{Bool, cond}
+use mathlib.Core.Bool.{cond}
 use lib.ListN.{length, take}
 use lib.Dec.{ltb, eqb}
 use Rattle.fsbm.specs.declared.machine.Machine.{Machine}

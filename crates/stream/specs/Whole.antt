@@ -8,24 +8,19 @@
 -- number-read      == for such a list the only refusal is the sheet's fault
 use Prim.Native.Nat.{ℕ, zero, suc, _+_, _-_, _*_, _<_, _≤_}
 use mathlib.Core.Path.{_≡_, refl, sym, ap, _∙_}
-use mathlib.Core.Logic.{_⊎_, inl, inr}
 use mathlib.Core.List.{List, [], _∷_, _++_, append-assoc, append-nil, flatten}
-use mathlib.Core.Bool.{Bool, true, false, cond, _&&_}
+use mathlib.Core.Bool.{Bool, true, cond}
 use native.Mathlib.Omega.{arith}
 use native.Mathlib.Numerals.{add-one}
-use native.Mathlib.Decide.{decLe, decLt, ℕ-discrete}
-use lib.ListN.{length, take, drop, getD, length-append, List·getD-append}
-use lib.Seq.{take-nil, take-all, take-take, take-append-le, length-take-le}
-use lib.Dec.{ltb, leb, eqb}
-use borrow.Author.Tests.{lt-ltb, le-ltb, le-leb, eq-eqb, ne-eqb, ltb-true}
+use native.Mathlib.Decide.{decLt, ℕ-discrete}
+use lib.ListN.{length, take, drop}
+use lib.Seq.{take-nil}
+use lib.Dec.{eqb}
+use borrow.Author.Tests.{le-leb, eq-eqb, ne-eqb}
 use Rattle.graphs.specs.Search.Loops.{first, second}
-use Rattle.graphs.specs.Search.Laws.{true-or-false}
 use Rattle.fsbm.specs.Answers.{refusal}
 use Rattle.fsbm.specs.declared.machine.Machine.{Machine}
 use Rattle.fsbm.specs.declared.answer.Refusal.{Refusal}
-use Rattle.lines.specs.declared.Answer.{Answer}
-use Rattle.lines.specs.Line.{lineAnswer, lineRefusal, answerLine, wordOf}
-use Rattle.sheet.specs.Series.{eachBelow}
 use Rattle.sheet.specs.Series.Laws.{each-length}
 use Rattle.sheet.specs.Format.{transitionStart}
 use Rattle.sheet.specs.Reading.{columnAt, firstFault, numbersIn, machineOf, transitionsOf, noMachine, readRefusal, readAnswer, readList}
@@ -33,7 +28,7 @@ use Rattle.sheet.specs.Reading.Laws.{no-fault}
 use Rattle.stream.specs.Listing.{longer, linesOf, wordLine, wordLines, header, refusedSheet, mostWords, listing}
 use Rattle.stream.specs.Pieces.{Pending, nothingYet, mostKept, afterByte, afterPiece, bytePrints, piecePrints, endPrints, opening}
 use Rattle.stream.specs.Past.{prints-past, end-past}
-use Rattle.stream.specs.Pieces.Laws.{after-full, after-end, after-more, prints-full, prints-end, prints-more, end-none, end-line, full-prints, full-after, full-end, same-line, piecesPrint, pieces-joined}
+use Rattle.stream.specs.Pieces.Laws.{after-end, after-more, prints-end, prints-more, end-none, end-line, full-prints, full-after, full-end, same-line, piecesPrint, pieces-joined}
 
 -- bytes in front of the first line
 

@@ -5,7 +5,7 @@
 // begin       what is held before any input
 // take_piece  what a piece of the input prints, and what is held after it
 // finish      what is printed at the end of the input
-ghost use Prim.Native.Nat.{ℕ, _+_, _*_, _≤_, _<_};
+ghost use Prim.Native.Nat.{_+_, _*_, _≤_, _<_};
 ghost use mathlib.Core.Path.{_≡_};
 ghost use mathlib.Core.Bool.{true};
 ghost use lib.ListN.{length, take};
@@ -14,7 +14,7 @@ ghost use Rattle.fsbm.specs.Machine.{wellFormed};
 ghost use Rattle.sheet.specs.Reading.{readList};
 ghost use Rattle.stream.specs.Listing.{wordLine, header, refusedSheet, mostWords};
 ghost use Rattle.stream.specs.Pieces.{mostKept, opening, endPrints};
-ghost use Rattle.stream.specs.Calls.{pendingOf, ended, openAnswer, Lent, Kept, ByteTaken, PieceTaken};
+ghost use Rattle.stream.specs.Calls.{pendingOf, ended, openAnswer, Lent, ByteKept, ByteTaken, PieceTaken};
 use fsbm::machine::Machine;
 
 // The most words that are listed.
@@ -122,7 +122,7 @@ fn end_line(m: Machine, list: &[u16], line: &[u8], out: &mut [u8], p: Taken) -> 
 // Keeps one byte more of a line, as long as there is room.
 fn keep(line: &mut [u8], kept: usize, b: u8) -> usize
     requires { ⌜ kept ≤ length (now line) ⌝ }
-    ensures { λ r. ⌜ Kept (now (line .entry)) kept b r (now (line .exit)) ⌝ }
+    ensures { λ r. ⌜ ByteKept (now (line .entry)) kept b r (now (line .exit)) ⌝ }
 {
     if line.len() <= kept {
         return kept;

@@ -1,9 +1,9 @@
-use Prim.Native.Nat.{_+_, _≤_}
 use native.Mathlib.Omega.{arith}
 use Rattle.lines.specs.Line.{answerLine}
-use Rattle.lines.proofs.LineCases.{put-length, line-length}
-use mathlib.Core.Path.{_≡_, refl, sym, _∙_, ap}
-use lib.ListN.{length, length-set}
+use Rattle.columns.specs.Column.Laws.{put-length}
+use Rattle.lines.proofs.LineCases.{line-length}
+use mathlib.Core.Path.{_∙_, ap}
+use lib.ListN.{length}
 use Rattle.lines.proofs.LineCases.{line-written}
 use borrow.Author.Needs.{needs}
 use Rattle.lines.proofs.write_line.Statement.{statement}

@@ -1,6 +1,6 @@
 use native.Mathlib.Omega.{arith}
-use mathlib.Core.Path.{_≡_, refl, sym, _∙_, ap}
-use lib.ListN.{take, length}
+use mathlib.Core.Path.{sym}
+use lib.ListN.{take}
 use lib.Seq.{length-take-le}
 use Rattle.listing.proofs.OutputCases.{used-fits, next-bytes}
 use borrow.Author.Needs.{needs}

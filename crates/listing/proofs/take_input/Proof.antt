@@ -1,11 +1,11 @@
 use Prim.Native.Nat.{_≤_}
-use mathlib.Core.Path.{_≡_, refl, sym, _∙_, ap}
+use mathlib.Core.Path.{_≡_, refl, sym, _∙_}
 use mathlib.Core.Bool.{true, false}
 use native.Mathlib.Omega.{arith}
 use borrow.Author.Needs.{needs}
 use lib.ListN.{length}
 use Rattle.stream.specs.Pieces.{mostKept}
-use Rattle.listing.specs.Output.{Reached}
+use Rattle.listing.specs.Output.{HeldAfter}
 use Rattle.listing.proofs.OutputCases.{reached-begin, reached-more, ready-same, done-closed, still-open}
 use Rattle.listing.proofs.take_input.Statement.{statement}
 use Rattle.listing.proofs.take_input.Tie as tie
@@ -16,7 +16,7 @@ use Rattle.listing.proofs.list_piece.Reads as list-piece-reads
 use Rattle.stream.proofs.begin.Reads as begin-reads
 
 abbrev Inv-loop : tie.InvT-loop
-Inv-loop sheet m list input₀ line₀ out₀ t₀ turns₀ input line out t turns = Reached line (t .held) × (t .held .kept ≤ mostKept) × (t .closed ≡ false) × (length input ≡ length input₀) × (length line ≡ length line₀) × (length out ≡ length out₀)
+Inv-loop sheet m list input₀ line₀ out₀ t₀ turns₀ input line out t turns = HeldAfter line (t .held) × (t .held .kept ≤ mostKept) × (t .closed ≡ false) × (length input ≡ length input₀) × (length line ≡ length line₀) × (length out ≡ length out₀)
 
 abbrev μ-loop : tie.MeasureT-loop
 μ-loop sheet m list input₀ line₀ out₀ t₀ turns₀ input line out t turns = turns

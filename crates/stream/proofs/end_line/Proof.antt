@@ -1,11 +1,7 @@
 use Prim.Native.Nat.{_+_}
-use mathlib.Core.Path.{_≡_, refl, sym, _∙_, ap}
+use mathlib.Core.Path.{refl, sym}
 use lib.Seq.{length-take-le}
 use lib.ListN.{take}
-use Rattle.columns.specs.Column.{put}
-use Rattle.lines.specs.Line.{answerLine}
-use Rattle.lines.specs.declared.Answer.{Answer}
-use Rattle.stream.specs.Listing.{wordLine}
 use Rattle.stream.proofs.PieceCases.{line-printed}
 use borrow.Author.Needs.{needs}
 use Rattle.stream.proofs.end_line.Statement.{statement}

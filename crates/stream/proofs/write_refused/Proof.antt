@@ -1,5 +1,5 @@
-use lib.ListN.{length, length-set}
-use mathlib.Core.Path.{_≡_, refl, sym, _∙_, ap}
+use lib.ListN.{length-set}
+use mathlib.Core.Path.{_∙_}
 use Rattle.stream.specs.Listing.{sheetRefused}
 use Rattle.stream.proofs.PieceCases.{refused-written}
 use borrow.Author.Needs.{needs}

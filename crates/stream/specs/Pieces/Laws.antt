@@ -14,22 +14,21 @@
 -- pieces-joined           == it is what the joined pieces print
 -- same-answer             == a line and as much of it as is kept have the same answer
 -- same-line               == and the same printed line
-use Prim.Native.Nat.{ℕ, zero, suc, _+_, _-_, _*_, _<_, _≤_}
+use Prim.Native.Nat.{ℕ, _+_, _-_, _*_, _<_, _≤_}
 use mathlib.Core.Path.{_≡_, refl, sym, ap, _∙_}
-use mathlib.Core.Logic.{_⊎_, inl, inr}
 use mathlib.Core.List.{List, [], _∷_, _++_, append-assoc, append-nil, flatten}
-use mathlib.Core.Bool.{Bool, true, false, cond}
+use mathlib.Core.Bool.{cond}
 use native.Mathlib.Omega.{arith}
 use native.Mathlib.Decide.{decLe, decLt, ℕ-discrete}
-use lib.ListN.{length, take, length-append, length-take}
-use lib.Seq.{take-all, take-take, take-append-le, length-take-le}
-use lib.Dec.{ltb, eqb}
+use lib.ListN.{length, take, length-append}
+use lib.Seq.{take-all, length-take-le}
+use lib.Dec.{eqb}
 use borrow.Author.Tests.{lt-ltb, le-ltb, eq-eqb, ne-eqb}
 use Rattle.graphs.specs.Search.Loops.{first, second}
 use Rattle.fsbm.specs.Accepted.{accepted}
 use Rattle.fsbm.specs.declared.machine.Machine.{Machine}
 use Rattle.lines.specs.declared.Answer.{Answer}
-use Rattle.lines.specs.Line.{lineAnswer, lineRefusal, answerLine, wordOf}
+use Rattle.lines.specs.Line.{lineAnswer, answerLine, wordOf}
 use Rattle.lines.proofs.LineCases.{refused-long, line-length}
 use Rattle.columns.specs.Column.{columnOf}
 use Rattle.columns.specs.Column.Laws.{column-length}
