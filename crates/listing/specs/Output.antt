@@ -26,6 +26,7 @@ use Rattle.stream.specs.Pieces.{mostKept, nothingYet, afterPiece, piecePrints, 
 use Rattle.stream.specs.Calls.{pendingOf}
 use Rattle.stream.specs.declared.Held.{Held}
 use Rattle.listing.specs.declared.Turn.{Turn}
+pub mod Laws
 
 unfoldable pub pieceBytes : List ℕ → List ℕ → List ℕ → List ℕ
 pieceBytes sheet before piece = piecePrints (machineOf sheet) (transitionsOf sheet) (afterPiece nothingYet before) piece
