@@ -5,13 +5,13 @@
 -- pieceBytes sheet before piece == what is printed for a piece of the input that comes after the input before
 -- endBytes sheet input          == what is printed at the end of the input
 -- ReadFrom sheet m list         == m and list are the table that read_sheet reads from a sheet without fault
--- HeldAfter line held             == what is held is what some input leaves
+-- HeldAfter line held           == what is held is what some input leaves
 -- NextBytes sheet piece bytes   == these bytes are printed for the piece, after some input
--- atEnd t, done t               == the input has ended or the last word is listed; that, or the output is closed
--- LastBytes sheet line t bytes  == the input has ended, the output is open, and these bytes are printed at the end of an input that leaves
---                                  what is held
--- Buffers                         == what list_piece needs of its buffers
--- PieceListed                        == what list_piece leaves
+-- atEnd t                       == the input has ended or the last word is listed
+-- done t                        == that, or the output is closed
+-- LastBytes sheet line t bytes  == at the end, with the output open, these bytes are printed after an input that leaves what is held
+-- Buffers                       == what list_piece needs of its buffers
+-- PieceListed                   == what list_piece leaves
 use Prim.Native.Nat.{ℕ, _*_, _≤_}
 use mathlib.Core.Path.{_≡_}
 use mathlib.Core.List.{List}

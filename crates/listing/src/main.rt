@@ -4,7 +4,7 @@
 // fails.
 //
 // What is printed is decided in crate stream; here a piece of the input is read, handed on, and its output written. Each write goes by
-// a function that asks for the bytes of the definition.
+// a function that asks for the bytes of the definition, and takes what these are defined from beside them.
 //
 // Memory: two buffers of 64 KB, one of 4 KB, a line and the table, whatever comes in.
 ghost use Prim.Native.Nat.{_≤_};

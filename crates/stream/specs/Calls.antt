@@ -4,7 +4,7 @@
 -- ended p             == after a line's end: no byte kept, one word and 16 bytes of output more
 -- openAnswer s len    == what open answers for a sheet and a list of this length
 -- Lent                == what take_byte needs of its buffers
--- ByteKept                == what keep leaves
+-- ByteKept            == what keep leaves
 -- ByteTaken           == what take_byte leaves
 -- PieceTaken          == what take_piece leaves
 use Prim.Native.Nat.{ℕ, _+_, _≤_}

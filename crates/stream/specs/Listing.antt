@@ -1,11 +1,13 @@
 -- The bytes of the listing (document 01, "Written words and the listing"): from the bytes of the sheet and the bytes of standard
 -- input to the bytes that are printed. What is printed for one line is in crate lines.
 --
+-- longer b ls            == the byte b in front of the first of the lines ls
 -- linesOf input          == the lines of the input, each without its byte 10
 -- wordLine m list i line == the printed line of word number i
 -- wordLines m list i ls  == the printed lines of the words ls, numbered from i on
 -- header                 == "  NO.  ANS  REF" and byte 10
--- refusedSheet n         == "SHEET REFUSED", the number n in a column of five, and byte 10
+-- sheetRefused           == "SHEET REFUSED"
+-- refusedSheet n         == that, the number n in a column of five, and byte 10
 -- mostWords              == the most words that are listed
 -- listing sheet input    == all that is printed
 use Prim.Native.Nat.{ℕ, suc}
@@ -18,7 +20,7 @@ use Rattle.fsbm.specs.declared.machine.Machine.{Machine}
 use Rattle.lines.specs.Line.{lineAnswer, answerLine}
 use Rattle.sheet.specs.Reading.{firstFault, machineOf, transitionsOf}
 
--- a byte in front of the first line; where there is no line it is one by itself
+-- where there is no line the byte is one by itself
 unfoldable pub longer : ℕ → List (List ℕ) → List (List ℕ)
 longer b [] = (b ∷ []) ∷ []
 longer b (line ∷ ls) = (b ∷ line) ∷ ls
@@ -49,6 +51,7 @@ refusedSheet n = sheetRefused ++ columnOf 5 n ++ (10 ∷ [])
 abbrev pub mostWords : ℕ
 mostWords = 99999
 
+-- of a sheet without fault the header and the lines of the first words, numbered from 1; else the line of its first fault
 unfoldable pub listing : List ℕ → List ℕ → List ℕ
 listing sheet input =
     cond (eqb (firstFault sheet) 0) (header ++ wordLines (machineOf sheet) (transitionsOf sheet) 1 (take mostWords (linesOf input)))

@@ -1,8 +1,9 @@
--- The listing of an input that comes in pieces. The laws in specs/Pieces/Laws.antt say that its output is the listing of
--- specs/Listing.antt, however the input is cut.
+-- The listing of an input that comes in pieces. The law listing-of-pieces in specs/Whole.antt says that its output is the listing
+-- of specs/Listing.antt, however the input is cut.
 --
 -- Pending                    == what is kept between two pieces: bytes of the present line, and the number of words listed
 -- nothingYet                 == what is kept before any input
+-- mostKept                   == the most bytes that are kept
 -- afterByte p b              == what is kept after one byte more
 -- afterPiece p piece         == what is kept after a piece
 -- bytePrints m list p b      == what is printed at one byte

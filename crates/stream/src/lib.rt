@@ -70,8 +70,9 @@ fn write_header(out: &mut [u8])
 }
 
 // Reads the sheet into the list, and writes to the front of out what is printed ahead of any input: the header, or the line of a
-// refused sheet with the number of its first fault, after which no more is printed.
-// Time: the sheet once. Memory: none but what is lent.
+// refused sheet with the number of its first fault in reading order, 1 to 7, after which no more is printed. The list has at least
+// 12,000 elements, so that 15 cannot come; the list of a refused sheet stays as it was.
+// Time: the sheet twice. Memory: none but what is lent.
 pub fn open(sheet: &[u8], list: &mut [u16], out: &mut [u8]) -> Opened
     requires { ⌜ (12000 ≤ length (now list)) × (19 ≤ length (now out)) ⌝ }
     ensures { λ r. ⌜ (r ≡ openAnswer (now (sheet .entry)) (length (now (list .entry)))) × (now (list .exit) ≡ readList (now (sheet .entry)) (now (list .entry))) × (now (out .exit) ≡ put 0 (now (out .entry)) (opening (now (sheet .entry)))) ⌝ }
@@ -152,7 +153,8 @@ fn take_byte(m: Machine, list: &[u16], b: u8, line: &mut [u8], out: &mut [u8], p
 }
 
 // Takes a piece of the input: prints its words from the front of out on, 16 bytes each, and keeps in the line buffer what has come
-// of the last line. The line buffer has 801 bytes, the output 16 for each byte of the piece.
+// of the last line. A line's refusals are those of lines::answer_line. The line buffer has 801 bytes, the output 16 for each byte of
+// the piece; what the line buffer holds past the bytes kept is left open.
 // Time: the piece once, and the time of the words' decisions. Memory: none but what is lent.
 pub fn take_piece(
     m: Machine,
