@@ -10,7 +10,7 @@
 -- last-fits, last-bytes == what end_input writes
 -- opening-fits, opening-bytes == what list_sheet writes first
 -- opened-table, opened-obeys == the table of a good sheet
-use Prim.Native.Nat.{ℕ, _*_, _+_, _≤_, _<_}
+use Prim.Native.Nat.{ℕ, _*_, _+_, _≤_}
 use mathlib.Core.Path.{_≡_, refl, sym, ap, _∙_, subst}
 use mathlib.Core.List.{List, [], _++_}
 use mathlib.Core.Bool.{Bool, true, false, _||_, true≢false}
@@ -18,7 +18,7 @@ use native.Mathlib.Omega.{arith}
 use lib.ListN.{length, take}
 use lib.Seq.{take-at}
 use lib.Dec.{leb, eqb}
-use borrow.Author.Tests.{eqb-true, eq-eqb, ne-eqb, le-leb, lt-leb}
+use borrow.Author.Tests.{eqb-true, eq-eqb, ne-eqb}
 use Rattle.columns.specs.Column.{put}
 use Rattle.columns.specs.Column.Laws.{put-zero, put-length}
 use Rattle.fsbm.specs.Machine.{wellFormed}
@@ -95,12 +95,12 @@ module _ (t : Turn) where
   pub done-none : t .count ≡ 0 → true ≡ done t
   done-none e = ap (λ (z : Bool). z || leb mostWords (t .held .words) || t .closed) (sym (eq-eqb _ _ e))
 
-  pub done-full : mostWords ≤ t .held .words → true ≡ done t
-  done-full h = sym (ap (λ (z : Bool). z || t .closed) (or-true (eqb (t .count) 0) _ (le-leb _ _ h)))
+  pub done-full : leb mostWords (t .held .words) ≡ true → true ≡ done t
+  done-full h = sym (ap (λ (z : Bool). z || t .closed) (or-true (eqb (t .count) 0) _ h))
 
-  pub done-else : (t .count ≡ 0 → ⊥) → t .held .words < mostWords → t .closed ≡ done t
+  pub done-else : (t .count ≡ 0 → ⊥) → leb mostWords (t .held .words) ≡ false → t .closed ≡ done t
   done-else n h =
-      ap (λ (z : Bool). z || t .closed) (sym (lt-leb _ _ h))
+      ap (λ (z : Bool). z || t .closed) (sym h)
       ∙ ap (λ (z : Bool). z || leb mostWords (t .held .words) || t .closed) (sym (ne-eqb _ _ n))
 
   pub done-closed : t .closed ≡ true → done t ≡ true

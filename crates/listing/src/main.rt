@@ -85,7 +85,8 @@ fn is_done(t: Turn) -> bool
     if t.count == 0 {
         return true;
     }
-    if stream::MOST_WORDS <= t.held.words {
+    let held = t.held;
+    if stream::is_full(held) {
         return true;
     }
     t.closed

@@ -3,11 +3,13 @@
 //
 // open        what is printed ahead of any input, and the sheet's table
 // begin       what is held before any input
+// is_full     whether the last word is listed
 // take_piece  what a piece of the input prints, and what is held after it
 // finish      what is printed at the end of the input
 ghost use Prim.Native.Nat.{_+_, _*_, _≤_, _<_};
 ghost use mathlib.Core.Path.{_≡_};
 ghost use mathlib.Core.Bool.{true};
+ghost use lib.Dec.{leb};
 ghost use lib.ListN.{length, take};
 ghost use Rattle.columns.specs.Column.{put};
 ghost use Rattle.fsbm.specs.Machine.{wellFormed};
@@ -27,10 +29,11 @@ pub struct Opened {
     pub good: bool,
 }
 
-// What is held between two pieces: how many bytes of the present line are kept, and how many words are listed.
+// What is held between two pieces: how many bytes of the present line are kept, and how many words are listed. Only this crate makes
+// one: a program has it from begin and from take_piece.
 pub struct Held {
-    pub kept: usize,
-    pub words: usize,
+    kept: usize,
+    words: usize,
 }
 
 // What is held after a piece, and how many bytes of output there are.
@@ -101,6 +104,13 @@ pub fn begin() -> Held
     ensures { λ r. ⌜ r ≡ record { kept = 0; words = 0 } ⌝ }
 {
     Held { kept: 0, words: 0 }
+}
+
+// Whether the last word is listed, so that no further piece prints anything.
+pub fn is_full(held: Held) -> bool
+    ensures { λ r. ⌜ r ≡ leb mostWords (held .words) ⌝ }
+{
+    MOST_WORDS <= held.words
 }
 
 // Prints the word in the kept bytes of a line behind the output so far.
