@@ -19,11 +19,12 @@ use lib.Dec.{eqb}
 use borrow.Author.Tests.{le-leb, eq-eqb, ne-eqb}
 use Rattle.graphs.specs.Search.Loops.{first, second}
 use Rattle.fsbm.specs.Answers.{refusal}
+use Rattle.fsbm.specs.Answers.{noMachine}
 use Rattle.fsbm.specs.declared.machine.Machine.{Machine}
 use Rattle.fsbm.specs.declared.answer.Refusal.{Refusal}
 use Rattle.sheet.specs.Series.Laws.{each-length}
 use Rattle.sheet.specs.Format.{transitionStart}
-use Rattle.sheet.specs.Reading.{columnAt, firstFault, numbersIn, machineOf, transitionsOf, noMachine, readRefusal, readAnswer, readList}
+use Rattle.sheet.specs.Reading.{columnAt, firstFault, numbersIn, machineOf, transitionsOf, readRefusal, readAnswer, readList}
 use Rattle.sheet.specs.Reading.Laws.{no-fault}
 use Rattle.stream.specs.Listing.{longer, linesOf, wordLine, wordLines, header, refusedSheet, mostWords, listing}
 use Rattle.stream.specs.Pieces.{Pending, nothingYet, mostKept, afterByte, afterPiece, bytePrints, piecePrints, endPrints, opening}
