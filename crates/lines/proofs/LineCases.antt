@@ -2,8 +2,11 @@
 --
 -- refused-long, refused-part, refused-column, refused-letter, not-refused == the ways through read_word
 -- Read letters line n word good k == what read_word has after k columns of n; read-none, read-more == where it starts, one column more
--- put-put                          == bytes put behind bytes
-use Prim.Native.Nat.{ℕ, zero, suc, _+_, _*_, _-_, _/_, _%_, _≤_, _<_}
+-- set-put                          == one byte stored behind bytes that were put
+-- line-written, line-length        == a printed line, written in parts
+-- short-line                       == a line that is not refused is short
+-- answer-refused, answer-decided   == the ways through answer_line
+use Prim.Native.Nat.{ℕ, suc, _+_, _-_, _/_, _%_, _≤_, _<_}
 use mathlib.Core.Path.{_≡_, refl, sym, _∙_, ap}
 use mathlib.Core.Bool.{Bool, true, false, not, cond, _&&_, and-comm, true≢false}
 use mathlib.Core.List.{List, [], _∷_, _++_, append-assoc}
@@ -12,19 +15,19 @@ use native.Mathlib.Numerals.{add-one}
 use lib.ListN.{length, getD, take, drop, set, length-set, length-append, length-drop}
 use lib.Seq.{take-suc-set, drop-append-add, take-at, set-at, drop-drop, drop-cons, length-take-le}
 use native.Mathlib.Nat.{add-assoc}
-use lib.Dec.{leb, eqb}
+use lib.Dec.{eqb}
 use native.Mathlib.Decide.{decLe}
 use borrow.Author.Tests.{le-leb, lt-leb, eq-eqb, ne-eqb}
 use Rattle.graphs.specs.Search.{allBelow}
 use Rattle.graphs.specs.Search.Laws.{allBelow-false, and-true, and-both-true}
 use Rattle.graphs.specs.Search.Loops.{pass, stop, first, second}
 use Rattle.columns.specs.Column.{noNumber, columnOf, put}
-use Rattle.columns.specs.Column.Laws.{column-length}
+use Rattle.columns.specs.Column.Laws.{column-length, put-put}
 use Rattle.fsbm.specs.Answers.{goodLetter}
 use Rattle.fsbm.specs.Accepted.{accepted}
 use Rattle.fsbm.specs.declared.machine.Machine.{Machine}
 use Rattle.lines.specs.declared.Answer.{Answer}
-use Rattle.lines.specs.Line.{letterAt, tabulate, wordOf, holdsNumber, holdsLetter, lineRefusal, lineAnswer, lineOf, Stored, WordRead}
+use Rattle.lines.specs.Line.{letterAt, tabulate, wordOf, holdsNumber, holdsLetter, lineRefusal, lineAnswer, answerLine, Stored, WordRead}
 
 module _ (letters : ℕ) (line : List ℕ) where
   pub refused-long : 800 < length line → 9 ≡ lineRefusal letters line
@@ -129,19 +132,10 @@ module _ (letters v k : ℕ) (word : List ℕ) where
   pub stored-letter : 1 ≤ v → v ≤ letters → Stored letters v k true word (set word k v)
   stored-letter l h = record { is-letter = pass (le-leb _ _ l) (sym (le-leb _ _ h)); stored = λ e. refl; kept = length-set word k v }
 
--- bytes put behind bytes are put in one go; one byte is put by a store
+-- a byte behind bytes is put by a store
 module _ (at : ℕ) (l a : List ℕ) (fits : at ≤ length l) where
   front-length : length (take at l ++ a) ≡ at + length a
   front-length = length-append (take at l) a ∙ ap (λ (z : ℕ). z + length a) (length-take-le at l fits)
-
-  pub put-put : (b : List ℕ) → put (at + length a) (put at l a) b ≡ put at l (a ++ b)
-  unfolding put
-  put-put b =
-      ap (λ (z : List ℕ). z ++ b ++ drop (at + length a + length b) (take at l ++ a ++ drop (at + length a) l)) (take-at (take at l ++ a) (drop (at + length a) l) (at + length a) front-length)
-      ∙ (ap (λ (z : ℕ). take at l ++ a ++ b ++ drop (z + length b) (take at l ++ a ++ drop (at + length a) l)) (sym front-length)
-      ∙ (ap (λ (z : List ℕ). take at l ++ a ++ b ++ z) (drop-append-add (take at l ++ a) (drop (at + length a) l) (length b) ∙ drop-drop (length b) (at + length a) l)
-      ∙ (ap (λ (z : List ℕ). z ++ drop (at + length a + length b) l) (append-assoc (take at l) a b)
-      ∙ ap (λ (z : ℕ). take at l ++ (a ++ b) ++ drop z l) (add-assoc at (length a) (length b) ∙ ap (λ (z : ℕ). at + z) (sym (length-append a b))))))
 
   pub set-put : (x : ℕ) → at + length a < length l → set (put at l a) (at + length a) x ≡ put at l (a ++ (x ∷ []))
   unfolding put
@@ -157,8 +151,8 @@ module _ (at : ℕ) (l a : List ℕ) (fits : at ≤ length l) where
 
 -- three columns and byte 10, written one after the other
 pub line-written : (at : ℕ) (l : List ℕ) (n a r : ℕ) (o₁ o₂ o₃ : List ℕ) → at + 16 ≤ length l
-    → o₁ ≡ put at l (columnOf 5 n) → o₂ ≡ put (at + 5) o₁ (columnOf 5 a) → o₃ ≡ put (at + 10) o₂ (columnOf 5 r) → set o₃ (at + 15) 10 ≡ put at l (lineOf n a r)
-unfolding lineOf
+    → o₁ ≡ put at l (columnOf 5 n) → o₂ ≡ put (at + 5) o₁ (columnOf 5 a) → o₃ ≡ put (at + 10) o₂ (columnOf 5 r) → set o₃ (at + 15) 10 ≡ put at l (answerLine n a r)
+unfolding answerLine
 line-written at l n a r o₁ o₂ o₃ fits e₁ e₂ e₃ =
     ap (λ (z : List ℕ). set z (at + 15) 10) (third e₃)
     ∙ (ap (λ (z : ℕ). set (put at l (columnOf 5 n ++ columnOf 5 a ++ columnOf 5 r)) (at + z) 10) (sym len₃)
@@ -178,24 +172,17 @@ line-written at l n a r o₁ o₂ o₃ fits e₁ e₂ e₃ =
         e₂
         ∙ (ap (λ (z : List ℕ). put (at + 5) z (columnOf 5 a)) e₁
         ∙ (ap (λ (z : ℕ). put (at + z) (put at l (columnOf 5 n)) (columnOf 5 a)) (sym len₁)
-        ∙ put-put at l (columnOf 5 n) (omega arith) (columnOf 5 a)))
+        ∙ put-put at (at + length (columnOf 5 n)) l (columnOf 5 n) (columnOf 5 a) refl (let q = column-length 5 a in omega (arith, len₁))))
 
     third : o₃ ≡ put (at + 10) o₂ (columnOf 5 r) → o₃ ≡ put at l (columnOf 5 n ++ columnOf 5 a ++ columnOf 5 r)
     third e =
         e
         ∙ (ap (λ (z : List ℕ). put (at + 10) z (columnOf 5 r)) second-put
         ∙ (ap (λ (z : ℕ). put (at + z) (put at l (columnOf 5 n ++ columnOf 5 a)) (columnOf 5 r)) (sym len₂)
-        ∙ put-put at l (columnOf 5 n ++ columnOf 5 a) (omega arith) (columnOf 5 r)))
+        ∙ put-put at (at + length (columnOf 5 n ++ columnOf 5 a)) l (columnOf 5 n ++ columnOf 5 a) (columnOf 5 r) refl (let q = column-length 5 r in omega (arith, len₂))))
 
--- bytes put inside a list leave its length alone
-pub put-length : (at : ℕ) (l b : List ℕ) → at + length b ≤ length l → length (put at l b) ≡ length l
-unfolding put
-put-length at l b fits =
-    length-append (take at l ++ b) (drop (at + length b) l)
-    ∙ (let p = front-length at l b (omega arith) in let q = length-drop (at + length b) l in omega arith)
-
-pub line-length : (n a r : ℕ) → length (lineOf n a r) ≡ 16
-unfolding lineOf
+pub line-length : (n a r : ℕ) → length (answerLine n a r) ≡ 16
+unfolding answerLine
 line-length n a r =
     length-append (columnOf 5 n ++ columnOf 5 a ++ columnOf 5 r) (10 ∷ [])
     ∙ (let p = length-append (columnOf 5 n ++ columnOf 5 a) (columnOf 5 r) in

@@ -1,15 +1,15 @@
 -- The lines of the listing (document 01, "Written words and the listing").
 --
--- columnAt line k          == column number k of a line, five bytes
+-- letterColumn line k      == column number k of a line, five bytes
 -- letterAt line k          == the number in it
 -- wordOf line              == the word that a line holds, one letter a column
 -- lineRefusal letters line == the refusal of a word's line, or 0
 -- lineAnswer m list line   == what is printed for a word: 1 yes, 0 no, 2 turned down, and the refusal
--- lineOf n a r             == the printed line of word number n
+-- answerLine n a r         == the printed line of word number n
 use Prim.Native.Nat.{ℕ, zero, suc, _+_, _*_, _/_, _%_}
 use mathlib.Core.Path.{_≡_}
 use mathlib.Core.List.{List, [], _∷_, _++_}
-use mathlib.Core.Bool.{Bool, true, false, cond, not, _&&_}
+use mathlib.Core.Bool.{Bool, true, cond, not, _&&_}
 use lib.ListN.{length, take, drop, set}
 use lib.Dec.{leb, eqb}
 use Rattle.graphs.specs.Search.{allBelow}
@@ -23,11 +23,11 @@ use Rattle.lines.specs.declared.Answer.{Answer}
 abbrev pub longestLine : ℕ
 longestLine = 800
 
-abbrev pub columnAt : List ℕ → ℕ → List ℕ
-columnAt line k = take 5 (drop (k * 5) line)
+abbrev pub letterColumn : List ℕ → ℕ → List ℕ
+letterColumn line k = take 5 (drop (k * 5) line)
 
 unfoldable pub letterAt : List ℕ → ℕ → ℕ
-letterAt line k = columnNumber (columnAt line k)
+letterAt line k = columnNumber (letterColumn line k)
 
 -- f 0, f 1, .. , f (n - 1)
 unfoldable pub tabulate : ℕ → (ℕ → ℕ) → List ℕ
@@ -60,8 +60,8 @@ lineAnswer m list line =
     (record { answer = 2; refusal = lineRefusal (m .letters) line })
 
 -- three columns of five and byte 10
-unfoldable pub lineOf : ℕ → ℕ → ℕ → List ℕ
-lineOf n a r = columnOf 5 n ++ columnOf 5 a ++ columnOf 5 r ++ (10 ∷ [])
+unfoldable pub answerLine : ℕ → ℕ → ℕ → List ℕ
+answerLine n a r = columnOf 5 n ++ columnOf 5 a ++ columnOf 5 r ++ (10 ∷ [])
 
 -- what read_word leaves: the refusal, and where there is none the letters at the front of the buffer
 pub record WordRead (letters : ℕ) (line : List ℕ) (r : ℕ) (word : List ℕ) : Type 0 where

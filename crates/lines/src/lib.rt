@@ -3,14 +3,13 @@
 // read_word    the letters of a word's line, or the refusal of it
 // answer_line  what is printed for a word's line
 // write_line   the printed line
-ghost use Prim.Native.Nat.{ℕ, _+_, _*_, _≤_, _<_};
+ghost use Prim.Native.Nat.{_+_, _*_, _≤_, _<_};
 ghost use mathlib.Core.Path.{_≡_};
 ghost use mathlib.Core.Bool.{true, _&&_};
-ghost use lib.ListN.{length, set};
+ghost use lib.ListN.{length};
 ghost use Rattle.columns.specs.Column.{put};
-ghost use Rattle.fsbm.specs.Answers.{goodLetter};
 ghost use Rattle.fsbm.specs.Machine.{wellFormed};
-ghost use Rattle.lines.specs.Line.{WordRead, Stored, lineAnswer, lineOf};
+ghost use Rattle.lines.specs.Line.{WordRead, Stored, lineAnswer, answerLine};
 use fsbm::machine::Machine;
 
 // The most bytes of a word's line: 160 letters in columns of five.
@@ -43,7 +42,7 @@ pub fn read_word(letters: usize, line: &[u8], word: &mut [u8]) -> u8
     requires { ⌜ (letters ≤ 250) × (160 ≤ length (now word)) ⌝ }
     ensures { λ r. ⌜ WordRead letters (now (line .entry)) r (now (word .exit)) ⌝ }
 {
-    if 800 < line.len() {
+    if LONGEST < line.len() {
         return 9;
     }
     if line.len() % 5 != 0 {
@@ -54,7 +53,7 @@ pub fn read_word(letters: usize, line: &[u8], word: &mut [u8]) -> u8
     let mut k: usize = 0;
     while k < n {
         let v = columns::number(line, k * 5, 5);
-        if v == 10000000000 {
+        if v == columns::NO_NUMBER {
             return 2;
         }
         let stored = store_letter(letters, v, k, word);
@@ -76,7 +75,7 @@ fn both(a: bool, b: bool) -> bool
 // Writes the line of a word's number and answer, 16 bytes, from byte at on.
 pub fn write_line(out: &mut [u8], at: usize, number: usize, a: Answer)
     requires { ⌜ at + 16 ≤ length (now out) ⌝ }
-    ensures { λ r. ⌜ now (out .exit) ≡ put at (now (out .entry)) (lineOf number (a .answer) (a .refusal)) ⌝ }
+    ensures { λ r. ⌜ now (out .exit) ≡ put at (now (out .entry)) (answerLine number (a .answer) (a .refusal)) ⌝ }
 {
     columns::write_number(out, at, number);
     columns::write_number(out, at + 5, a.answer as usize);

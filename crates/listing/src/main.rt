@@ -1,214 +1,157 @@
 // The listing program. It reads the sheet in the file table.txt and words from standard input, one a line, letters in columns of five,
 // and prints for each word its number, 1 yes, 0 no or 2 turned down, and the refusal's number or 0. It stops after 99,999 words. A
-// bad sheet prints SHEET REFUSED and the number; a file that cannot be opened is an empty sheet.
+// bad sheet prints SHEET REFUSED and the number; a file that cannot be opened is an empty sheet. It stops reading as soon as a write
+// fails.
 //
-// Memory: three buffers of 64 KB and the table, whatever comes in. What a line means is lines::answer_line; here bytes are only read,
-// handed on and written.
-ghost use Prim.Native.Nat.{_≤_, _<_, _+_};
+// What is printed is decided in crate stream; here a piece of the input is read, handed on, and its output written. Each write goes by
+// a function that asks for the bytes of the definition, and takes what these are defined from beside them.
+//
+// Memory: two buffers of 64 KB, one of 4 KB, a line and the table, whatever comes in.
+ghost use Prim.Native.Nat.{_≤_};
 ghost use mathlib.Core.Path.{_≡_};
 ghost use mathlib.Core.Bool.{true, false};
 ghost use lib.ListN.{length};
 ghost use Rattle.fsbm.specs.Machine.{wellFormed};
-ghost use Rattle.listing.specs.Progress.{Within};
+ghost use Rattle.stream.specs.Pieces.{mostKept, opening};
+ghost use Rattle.listing.specs.Output.{ReadFrom, HeldAfter, NextBytes, LastBytes, Buffers, PieceListed, done};
 use fsbm::machine::Machine;
 use libc::STDIN_FILENO;
 use libc::STDOUT_FILENO;
+use stream::Held;
 
-// How far the listing is: the bytes kept of the present line, the words listed, the bytes of output that wait to be written, and
-// whether the output is closed.
-pub struct Progress {
-    pub kept: usize,
-    pub words: usize,
-    pub used: usize,
+// What a piece leaves: what is held, how many bytes of input came, and whether the output is closed, since a write has failed.
+pub struct Turn {
+    pub held: Held,
+    pub count: usize,
     pub closed: bool,
 }
 
-// Whether no further word is listed.
-fn is_done(p: Progress) -> bool
-    ensures { λ r. ⌜ (r ≡ false → p .words < 99999) ⌝ }
+// Writes what is printed ahead of any input; answers whether that went well.
+fn write_opening(sheet: &[u8], bytes: &[u8]) -> bool
+    requires { ⌜ now bytes ≡ opening (now sheet) ⌝ }
 {
-    if 99999 <= p.words {
-        return true;
-    }
-    p.closed
+    io::write_all(STDOUT_FILENO, bytes)
 }
 
-// Where the next line of output goes.
-pub struct Room {
-    pub at: usize,
-    pub closed: bool,
-}
-
-// Room for one line of output behind the used bytes; they are written first where there is none.
-fn make_room(out: &[u8], used: usize, closed: bool) -> Room
-    requires { ⌜ (used ≤ length (now out)) × (16 ≤ length (now out)) ⌝ }
-    ensures { λ r. ⌜ r .at + 16 ≤ length (now (out .entry)) ⌝ }
+// Writes what is printed for a piece of the input; answers whether that went well.
+fn write_piece(sheet: &[u8], piece: &[u8], bytes: &[u8]) -> bool
+    requires { ⌜ NextBytes (now sheet) (now piece) (now bytes) ⌝ }
 {
-    if 16 <= out.len() - used {
-        return Room { at: used, closed };
-    }
-    let written = io::write_all(STDOUT_FILENO, &out[..used]);
-    Room {
-        at: 0,
-        closed: !written,
-    }
+    io::write_all(STDOUT_FILENO, bytes)
 }
 
-// Lists the word in the kept bytes of a line.
-fn end_line(m: Machine, list: &[u16], line: &[u8], out: &mut [u8], p: Progress) -> Progress
-    requires { ⌜ wellFormed m (now list) ≡ true ⌝ }
-    requires { ⌜ Within p (length (now line)) (length (now out)) ⌝ }
-    requires { ⌜ p .words < 99999 ⌝ }
-    ensures { λ r. ⌜ Within r (length (now (line .entry))) (length (now (out .entry))) ⌝ }
+// Writes what is printed at the end of the input.
+fn write_end(sheet: &[u8], line: &[u8], t: Turn, bytes: &[u8])
+    requires { ⌜ LastBytes (now sheet) (now line) t (now bytes) ⌝ }
 {
-    let kept = p.kept;
-    let answer = lines::answer_line(m, list, &line[..kept]);
-    let room = make_room(out, p.used, p.closed);
-    let at = room.at;
-    let number = p.words + 1;
-    lines::write_line(out, at, number, answer);
-    Progress {
-        kept: 0,
-        words: number,
-        used: at + 16,
-        closed: room.closed,
-    }
+    io::write_all(STDOUT_FILENO, bytes);
 }
 
-// Keeps one byte more of a line, as long as there is room: the room is one byte more than a line may have.
-fn keep(line: &mut [u8], kept: usize, b: u8) -> usize
-    requires { ⌜ kept ≤ length (now line) ⌝ }
-    ensures { λ r. ⌜ r ≤ length (now (line .entry)) ⌝ }
-{
-    if line.len() <= kept {
-        return kept;
-    }
-    line[kept] = b;
-    kept + 1
-}
-
-// One byte of input: the end of a line, or one byte more of it.
-fn take_byte(
-    m: Machine,
-    list: &[u16],
-    line: &mut [u8],
-    out: &mut [u8],
-    p: Progress,
-    b: u8,
-) -> Progress
-    requires { ⌜ wellFormed m (now list) ≡ true ⌝ }
-    requires { ⌜ Within p (length (now line)) (length (now out)) ⌝ }
-    requires { ⌜ p .words < 99999 ⌝ }
-    ensures { λ r. ⌜ Within r (length (now (line .entry))) (length (now (out .entry))) ⌝ }
-{
-    if b == 10 {
-        return end_line(m, list, line, out, p);
-    }
-    Progress {
-        kept: keep(line, p.kept, b),
-        words: p.words,
-        used: p.used,
-        closed: p.closed,
-    }
-}
-
-// The first n bytes of input.
-fn take_bytes(
-    m: Machine,
-    list: &[u16],
-    input: &[u8],
-    n: usize,
-    line: &mut [u8],
-    out: &mut [u8],
-    first: Progress,
-) -> Progress
-    requires { ⌜ wellFormed m (now list) ≡ true ⌝ }
-    requires { ⌜ Within first (length (now line)) (length (now out)) ⌝ }
-    requires { ⌜ n ≤ length (now input) ⌝ }
-    ensures { λ r. ⌜ Within r (length (now (line .entry))) (length (now (out .entry))) ⌝ }
-{
-    let mut p = first;
-    let mut i: usize = 0;
-    while i < n {
-        if is_done(p) {
-            return p;
-        }
-        p = take_byte(m, list, line, out, p, input[i]);
-        i += 1;
-    }
-    p
-}
-
-// Reads standard input to its end and lists its words. A loop that is proved ends, so it counts its turns down from a number that no
-// run uses up.
-fn take_input(
+// Reads a piece of the input, and writes what is printed for it. It reads only while the output is open.
+fn list_piece(
+    sheet: &[u8],
     m: Machine,
     list: &[u16],
     input: &mut [u8],
     line: &mut [u8],
     out: &mut [u8],
-) -> Progress
+    t: Turn,
+) -> Turn
     requires { ⌜ wellFormed m (now list) ≡ true ⌝ }
-    requires { ⌜ 16 ≤ length (now out) ⌝ }
-    ensures { λ r. ⌜ Within r (length (now (line .entry))) (length (now (out .entry))) ⌝ }
+    requires { ⌜ ReadFrom (now sheet) m (now list) ⌝ }
+    requires { ⌜ Buffers (now input) (now line) (now out) (t .held) ⌝ }
+    requires { ⌜ HeldAfter (now line) (t .held) ⌝ }
+    requires { ⌜ t .closed ≡ false ⌝ }
+    ensures { λ r. ⌜ PieceListed m (now (list .entry)) (t .held) (now (line .entry)) (now (out .entry)) r (now (input .exit)) (now (line .exit)) (now (out .exit)) ⌝ }
 {
-    let mut p = Progress {
-        kept: 0,
-        words: 0,
-        used: 0,
+    let held = t.held;
+    let got = libc::read(STDIN_FILENO, input);
+    let count = io::count(got, input);
+    let taken = stream::take_piece(m, list, &input[..count], line, out, held);
+    let used = taken.used;
+    let after = taken.held;
+    let written = write_piece(sheet, &input[..count], &out[..used]);
+    Turn {
+        held: after,
+        count,
+        closed: !written,
+    }
+}
+
+// Whether the input has ended, the last word is listed or the output is closed.
+fn is_done(t: Turn) -> bool
+    ensures { λ r. ⌜ r ≡ done t ⌝ }
+{
+    if t.count == 0 {
+        return true;
+    }
+    let held = t.held;
+    if stream::is_full(held) {
+        return true;
+    }
+    t.closed
+}
+
+// Reads standard input to its end and lists its words. A loop that is proved ends, so it counts its turns down from a number that no
+// run uses up.
+fn take_input(
+    sheet: &[u8],
+    m: Machine,
+    list: &[u16],
+    input: &mut [u8],
+    line: &mut [u8],
+    out: &mut [u8],
+) -> Turn
+    requires { ⌜ wellFormed m (now list) ≡ true ⌝ }
+    requires { ⌜ ReadFrom (now sheet) m (now list) ⌝ }
+    requires { ⌜ Buffers (now input) (now line) (now out) (record { kept = 0; words = 0 }) ⌝ }
+    ensures { λ r. ⌜ HeldAfter (now (line .exit)) (r .held) × (r .held .kept ≤ mostKept) × (done r ≡ true) ⌝ }
+{
+    let mut t = Turn {
+        held: stream::begin(),
+        count: 0,
         closed: false,
     };
     let mut turns = u64::MAX;
     while 0 < turns {
-        let got = libc::read(STDIN_FILENO, input);
-        let n = io::count(got, input);
-        if n == 0 {
-            return p;
-        }
-        p = take_bytes(m, list, input, n, line, out, p);
-        if is_done(p) {
-            return p;
+        t = list_piece(sheet, m, list, input, line, out, t);
+        if is_done(t) {
+            return t;
         }
         turns -= 1;
     }
-    p
+    let held = t.held;
+    Turn {
+        held,
+        count: t.count,
+        closed: true,
+    }
 }
 
-// Lists a last line without byte 10, unless it is empty.
-fn last_line(m: Machine, list: &[u16], line: &[u8], out: &mut [u8], p: Progress) -> Progress
+// Lists the last line, unless the output is closed.
+fn end_input(sheet: &[u8], m: Machine, list: &[u16], line: &[u8], out: &mut [u8], t: Turn)
     requires { ⌜ wellFormed m (now list) ≡ true ⌝ }
-    requires { ⌜ Within p (length (now line)) (length (now out)) ⌝ }
-    ensures { λ r. ⌜ Within r (length (now (line .entry))) (length (now (out .entry))) ⌝ }
+    requires { ⌜ ReadFrom (now sheet) m (now list) ⌝ }
+    requires { ⌜ HeldAfter (now line) (t .held) × (t .held .kept ≤ length (now line)) × (16 ≤ length (now out)) × (done t ≡ true) ⌝ }
 {
-    if p.kept == 0 {
-        return p;
+    if t.closed {
+        return;
     }
-    if is_done(p) {
-        return p;
-    }
-    end_line(m, list, line, out, p)
-}
-
-// Lists the last line, and writes what output waits.
-fn finish(m: Machine, list: &[u16], line: &[u8], out: &mut [u8], p: Progress)
-    requires { ⌜ wellFormed m (now list) ≡ true ⌝ }
-    requires { ⌜ Within p (length (now line)) (length (now out)) ⌝ }
-{
-    let last = last_line(m, list, line, out, p);
-    let used = last.used;
-    io::write_all(STDOUT_FILENO, &out[..used]);
+    let held = t.held;
+    let used = stream::finish(m, list, line, out, held);
+    write_end(sheet, line, t, &out[..used]);
 }
 
 // Lists the words of standard input over a table.
-fn list_words(m: Machine, list: &[u16])
+fn list_words(sheet: &[u8], m: Machine, list: &[u16], out: &mut [u8])
     requires { ⌜ wellFormed m (now list) ≡ true ⌝ }
+    requires { ⌜ ReadFrom (now sheet) m (now list) ⌝ }
+    requires { ⌜ 65536 ≤ length (now out) ⌝ }
 {
-    io::write_all(STDOUT_FILENO, b"  NO.  ANS  REF\n");
-    let mut input = io::large_buffer();
+    let mut input = io::buffer();
     let mut line = line_buffer();
-    let mut out = io::large_buffer();
-    let p = take_input(m, list, &mut input, &mut line, &mut out);
-    finish(m, list, &line, &mut out, p);
+    let t = take_input(sheet, m, list, &mut input, &mut line, out);
+    end_input(sheet, m, list, &line, out, t);
 }
 
 // Room for a line and one byte more.
@@ -225,11 +168,20 @@ fn transition_buffer() -> [u16; 12000]
     [0; 12000]
 }
 
-// Prints that the sheet is refused, with the number in five columns.
-fn refuse(number: u8) {
-    let mut text = *b"SHEET REFUSED     \n";
-    columns::write_number(&mut text, 13, number as usize);
-    io::write_all(STDOUT_FILENO, &text);
+// Prints the listing of a sheet and standard input.
+fn list_sheet(sheet: &[u8]) {
+    let mut list = transition_buffer();
+    let mut out = io::large_buffer();
+    let opened = stream::open(sheet, &mut list, &mut out);
+    let used = opened.used;
+    if !write_opening(sheet, &out[..used]) {
+        return;
+    }
+    if !opened.good {
+        return;
+    }
+    let machine = opened.machine;
+    list_words(sheet, machine, &list, &mut out);
 }
 
 // Reads the file table.txt, as much of it as is longer than any sheet, and answers how many bytes came; 0 where it cannot be opened.
@@ -248,13 +200,5 @@ fn read_table(table: &mut [u8]) -> usize
 fn main() {
     let mut table = io::large_buffer();
     let n = read_table(&mut table);
-    let mut list = transition_buffer();
-    let read = sheet::read::read_sheet(&table[..n], &mut list);
-    let number = read.refusal.number;
-    if number != 0 {
-        refuse(number);
-        return;
-    }
-    let machine = read.machine;
-    list_words(machine, &list);
+    list_sheet(&table[..n]);
 }

@@ -1,7 +1,7 @@
 use Rattle.adjacency.specs.Index.Laws.{sorted}
 use Rattle.lines.proofs.LineCases.{short-line}
 use Prim.Native.Nat.{_/_}
-use mathlib.Core.Path.{_≡_, refl, sym, _∙_, ap}
+use mathlib.Core.Path.{sym, _∙_, ap}
 use mathlib.Core.Bool.{cond}
 use native.Mathlib.Omega.{arith}
 use lib.ListN.{length}

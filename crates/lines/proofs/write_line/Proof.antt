@@ -1,9 +1,9 @@
-use Prim.Native.Nat.{_+_, _≤_}
 use native.Mathlib.Omega.{arith}
-use Rattle.lines.specs.Line.{lineOf}
-use Rattle.lines.proofs.LineCases.{put-length, line-length}
-use mathlib.Core.Path.{_≡_, refl, sym, _∙_, ap}
-use lib.ListN.{length, length-set}
+use Rattle.lines.specs.Line.{answerLine}
+use Rattle.columns.specs.Column.Laws.{put-length}
+use Rattle.lines.proofs.LineCases.{line-length}
+use mathlib.Core.Path.{_∙_, ap}
+use lib.ListN.{length}
 use Rattle.lines.proofs.LineCases.{line-written}
 use borrow.Author.Needs.{needs}
 use Rattle.lines.proofs.write_line.Statement.{statement}
@@ -50,7 +50,7 @@ slice-write-out c = search needs
 
 -- src/lib.rt:74:1
 same-length : tie.Need-same-length
-same-length c = ap length (line-written (c .before .before .before .before .before .before .before .before .before .before .before .before .before .before .before .args .at) ((c .before .before .before .before .before .before .before .before .before .before .before .before .before .before .before .args .out) .now) (c .before .before .before .before .before .before .before .before .before .before .before .before .before .before .before .args .number) ((c .before .before .before .before .before .before .before .before .before .before .before .before .before .before .before .args .a) .answer) ((c .before .before .before .before .before .before .before .before .before .before .before .before .before .before .before .args .a) .refusal) ((c .before .before .before .before .before .before .before .before .before .before .before .before .write-number .last) .0) ((c .before .before .before .before .before .before .before .write-number2 .last) .0) ((c .before .before .write-number3 .last) .0) (c .before .before .before .before .before .before .before .before .before .before .before .before .before .before .before .pre) (c .before .before .before .before .before .before .before .before .before .before .before .before .write-number .ensures) (c .before .before .before .before .before .before .before .write-number2 .ensures) (c .before .before .write-number3 .ensures)) ∙ put-length (c .before .before .before .before .before .before .before .before .before .before .before .before .before .before .before .args .at) ((c .before .before .before .before .before .before .before .before .before .before .before .before .before .before .before .args .out) .now) (lineOf (c .before .before .before .before .before .before .before .before .before .before .before .before .before .before .before .args .number) ((c .before .before .before .before .before .before .before .before .before .before .before .before .before .before .before .args .a) .answer) ((c .before .before .before .before .before .before .before .before .before .before .before .before .before .before .before .args .a) .refusal)) (omega (arith, (c .before .before .before .before .before .before .before .before .before .before .before .before .before .before .before .pre), line-length (c .before .before .before .before .before .before .before .before .before .before .before .before .before .before .before .args .number) ((c .before .before .before .before .before .before .before .before .before .before .before .before .before .before .before .args .a) .answer) ((c .before .before .before .before .before .before .before .before .before .before .before .before .before .before .before .args .a) .refusal)))
+same-length c = ap length (line-written (c .before .before .before .before .before .before .before .before .before .before .before .before .before .before .before .args .at) ((c .before .before .before .before .before .before .before .before .before .before .before .before .before .before .before .args .out) .now) (c .before .before .before .before .before .before .before .before .before .before .before .before .before .before .before .args .number) ((c .before .before .before .before .before .before .before .before .before .before .before .before .before .before .before .args .a) .answer) ((c .before .before .before .before .before .before .before .before .before .before .before .before .before .before .before .args .a) .refusal) ((c .before .before .before .before .before .before .before .before .before .before .before .before .write-number .last) .0) ((c .before .before .before .before .before .before .before .write-number2 .last) .0) ((c .before .before .write-number3 .last) .0) (c .before .before .before .before .before .before .before .before .before .before .before .before .before .before .before .pre) (c .before .before .before .before .before .before .before .before .before .before .before .before .write-number .ensures) (c .before .before .before .before .before .before .before .write-number2 .ensures) (c .before .before .write-number3 .ensures)) ∙ put-length (c .before .before .before .before .before .before .before .before .before .before .before .before .before .before .before .args .at) ((c .before .before .before .before .before .before .before .before .before .before .before .before .before .before .before .args .out) .now) (answerLine (c .before .before .before .before .before .before .before .before .before .before .before .before .before .before .before .args .number) ((c .before .before .before .before .before .before .before .before .before .before .before .before .before .before .before .args .a) .answer) ((c .before .before .before .before .before .before .before .before .before .before .before .before .before .before .before .args .a) .refusal)) (omega (arith, (c .before .before .before .before .before .before .before .before .before .before .before .before .before .before .before .pre), line-length (c .before .before .before .before .before .before .before .before .before .before .before .before .before .before .before .args .number) ((c .before .before .before .before .before .before .before .before .before .before .before .before .before .before .before .args .a) .answer) ((c .before .before .before .before .before .before .before .before .before .before .before .before .before .before .before .args .a) .refusal)))
 
 -- src/lib.rt:74:1
 returns : tie.Need-returns

@@ -1,17 +1,27 @@
-use mathlib.Core.Bool.{true≢false}
+use mathlib.Core.Path.{sym, _∙_}
+use Rattle.listing.proofs.OutputCases.{done-none, done-full, done-else}
 use borrow.Author.Needs.{needs}
 use Rattle.listing.proofs.is_done.Statement.{statement}
 use Rattle.listing.proofs.is_done.Tie as tie
 use Rattle.listing.proofs.is_done.Reads as reads
 use Rattle.listing.proofs.is_done.Lts as lts
+use Rattle.stream.proofs.is_full.Reads as is-full-reads
 
--- src/main.rt:32:9
+-- src/main.rt:86:9
 returns : tie.Need-returns
-returns c = λ e. absurd (true≢false e)
+returns c = done-none ((c .before .before) .args .t) ((c) .if1 .taken)
 
--- src/main.rt:28:1
+-- src/main.rt:89:8
+is-full-requires : tie.Need-is-full-requires
+is-full-requires c κs = search needs
+
+-- src/main.rt:90:9
 returns-2 : tie.Need-returns-2
-returns-2 c = search needs
+returns-2 c = done-full ((c .before .before .before .before .before) .args .t) (sym ((c .before) .is-full .ensures) ∙ (c) .if2 .taken)
+
+-- src/main.rt:82:1
+returns-3 : tie.Need-returns-3
+returns-3 c = done-else ((c .before .before .before .before .before) .args .t) ((c .before .before .before) .if1 .left) (sym ((c .before) .is-full .ensures) ∙ (c) .if2 .left)
 
 pub is-done-spec : {M : Type 1} → statement M
-is-done-spec = tie.close (tie.spec returns returns-2)
+is-done-spec = tie.close (tie.spec returns is-full-requires returns-2 returns-3)

@@ -1,104 +1,85 @@
-use Prim.Native.Nat.{_≤_, _-_}
+use Prim.Native.Nat.{_≤_}
 use mathlib.Core.Path.{_≡_, refl, sym, _∙_}
+use mathlib.Core.Bool.{true, false}
 use native.Mathlib.Omega.{arith}
 use borrow.Author.Needs.{needs}
 use lib.ListN.{length}
-use Rattle.listing.specs.Progress.{Within}
-use Rattle.listing.proofs.Bounds.{within-same}
+use Rattle.stream.specs.Pieces.{mostKept}
+use Rattle.listing.specs.Output.{HeldAfter}
+use Rattle.listing.proofs.OutputCases.{reached-begin, reached-more, ready-same, done-closed, still-open}
 use Rattle.listing.proofs.take_input.Statement.{statement}
 use Rattle.listing.proofs.take_input.Tie as tie
 use Rattle.listing.proofs.take_input.Reads as reads
 use Rattle.listing.proofs.take_input.Lts as lts
-use Rattle.io.proofs.count.Reads as count-reads
-use Rattle.libc.proofs.read.Reads as read-reads
 use Rattle.listing.proofs.is_done.Reads as is-done-reads
-use Rattle.listing.proofs.take_bytes.Reads as take-bytes-reads
+use Rattle.listing.proofs.list_piece.Reads as list-piece-reads
+use Rattle.stream.proofs.begin.Reads as begin-reads
 
 abbrev Inv-loop : tie.InvT-loop
-Inv-loop m list input₀ line₀ out₀ p₀ turns₀ input line out p turns = Within p (length line₀) (length out₀) × (length input ≡ length input₀) × (length line ≡ length line₀) × (length out ≡ length out₀)
+Inv-loop sheet m list input₀ line₀ out₀ t₀ turns₀ input line out t turns = HeldAfter line (t .held) × (t .held .kept ≤ mostKept) × (t .closed ≡ false) × (length input ≡ length input₀) × (length line ≡ length line₀) × (length out ≡ length out₀)
 
 abbrev μ-loop : tie.MeasureT-loop
-μ-loop m list input₀ line₀ out₀ p₀ turns₀ input line out p turns = turns
+μ-loop sheet m list input₀ line₀ out₀ t₀ turns₀ input line out t turns = turns
 
--- src/main.rt:145:5
+-- src/main.rt:110:15
+begin-requires : tie.Need-begin-requires Inv-loop μ-loop
+begin-requires c κs = search needs
+
+-- src/main.rt:115:5
 loop-holds : tie.Need-loop-holds Inv-loop μ-loop
-loop-holds c = (record { kept = omega arith; waiting = omega arith; room = (c .before .before .before .before .pre) .1; few = omega arith }, refl, refl, refl)
+loop-holds c = (reached-begin ((c .before .before .before .before .before .before) .args .line .now) ((c) .begin .result) ((c) .begin .ensures) .0, reached-begin ((c .before .before .before .before .before .before) .args .line .now) ((c) .begin .result) ((c) .begin .ensures) .1, refl, refl, refl, refl)
 
--- src/main.rt:146:13
-read-requires : tie.Need-read-requires Inv-loop μ-loop
-read-requires c κs = search needs
+-- src/main.rt:116:9
+list-piece-requires : tie.Need-list-piece-requires Inv-loop μ-loop
+list-piece-requires c κs = ((c .before .before .before .before .before .before .before .before .before .before .before) .pre .0, ((c .before .before .before .before .before .before .before .before .before .before .before) .pre .1 .0, (ready-same ((c .before .before .before .before .before .before .before .before .before .before .before) .args .input .now) ((c .before .before .before .before .before .before .before .before .before .before .before) .args .line .now) ((c .before .before .before .before .before .before .before .before .before .before .before) .args .out .now) ((c .before .before .before .before) .loop .input) ((c .before .before .before .before) .loop .line) ((c .before .before .before .before) .loop .out) _ ((c .before .before .before .before) .loop .t .held) ((c .before .before .before .before .before .before .before .before .before .before .before) .pre .1 .1) ((c .before .before .before .before) .loop .inv .3) ((c .before .before .before .before) .loop .inv .4) ((c .before .before .before .before) .loop .inv .5) ((c .before .before .before .before) .loop .inv .1), ((c .before .before .before .before) .loop .inv .0, (c .before .before .before .before) .loop .inv .2))))
 
--- src/main.rt:147:13
-count-requires : tie.Need-count-requires Inv-loop μ-loop
-count-requires c κs = search needs
-
--- src/main.rt:149:13
-same-length : tie.Need-same-length Inv-loop μ-loop
-same-length c = (c .before .before .before .before .input .given) ∙ (c .before .before .before .before .before .before .before .before .loop .inv) .1
-
--- src/main.rt:149:13
-same-length-2 : tie.Need-same-length-2 Inv-loop μ-loop
-same-length-2 c = (c .before .before .before .before .before .before .before .before .loop .inv) .2
-
--- src/main.rt:149:13
-same-length-3 : tie.Need-same-length-3 Inv-loop μ-loop
-same-length-3 c = (c .before .before .before .before .before .before .before .before .loop .inv) .3
-
--- src/main.rt:149:13
-returns : tie.Need-returns Inv-loop μ-loop
-returns c = (c .before .before .before .before .before .before .before .before .loop .inv) .0
-
--- src/main.rt:151:9
-take-bytes-requires : tie.Need-take-bytes-requires Inv-loop μ-loop
-take-bytes-requires c κs = ((c .before .before .before .before .before .before .before .before .before .before .before .before .before .before .before .before .pre) .0, (within-same _ _ ((c .before .before .before .before .before .before .before .before .before .before .before .loop .inv) .0) ((c .before .before .before .before .before .before .before .before .before .before .before .loop .inv) .2) ((c .before .before .before .before .before .before .before .before .before .before .before .loop .inv) .3), search needs))
-
--- src/main.rt:152:12
+-- src/main.rt:117:12
 is-done-requires : tie.Need-is-done-requires Inv-loop μ-loop
 is-done-requires c κs = search needs
 
--- src/main.rt:153:13
-same-length-4 : tie.Need-same-length-4 Inv-loop μ-loop
-same-length-4 c = (c .before .before .before .before .before .before .before .before .before .before .before .before .before .before .input .given) ∙ (c .before .before .before .before .before .before .before .before .before .before .before .before .before .before .before .before .before .before .loop .inv) .1
+-- src/main.rt:118:13
+same-length : tie.Need-same-length Inv-loop μ-loop
+same-length c = (c .before .before .before .before .before .before .before) .input .given ∙ (c .before .before .before .before .before .before .before .before .before .before .before .before .before) .loop .inv .3
 
--- src/main.rt:153:13
-same-length-5 : tie.Need-same-length-5 Inv-loop μ-loop
-same-length-5 c = (c .before .before .before .before .before .line .given) ∙ (c .before .before .before .before .before .before .before .before .before .before .before .before .before .before .before .before .before .before .loop .inv) .2
+-- src/main.rt:118:13
+same-length-2 : tie.Need-same-length-2 Inv-loop μ-loop
+same-length-2 c = (c .before .before .before .before .before) .line .given ∙ (c .before .before .before .before .before .before .before .before .before .before .before .before .before) .loop .inv .4
 
--- src/main.rt:153:13
-same-length-6 : tie.Need-same-length-6 Inv-loop μ-loop
-same-length-6 c = (c .before .before .before .out .given) ∙ (c .before .before .before .before .before .before .before .before .before .before .before .before .before .before .before .before .before .before .loop .inv) .3
+-- src/main.rt:118:13
+same-length-3 : tie.Need-same-length-3 Inv-loop μ-loop
+same-length-3 c = (c .before .before .before) .out .given ∙ (c .before .before .before .before .before .before .before .before .before .before .before .before .before) .loop .inv .5
 
--- src/main.rt:153:13
-returns-2 : tie.Need-returns-2 Inv-loop μ-loop
-returns-2 c = within-same _ _ (c .before .before .before .before .before .before .take-bytes .ensures) (sym ((c .before .before .before .before .before .before .before .before .before .before .before .before .before .before .before .before .before .before .loop .inv) .2)) (sym ((c .before .before .before .before .before .before .before .before .before .before .before .before .before .before .before .before .before .before .loop .inv) .3))
+-- src/main.rt:118:13
+returns : tie.Need-returns Inv-loop μ-loop
+returns c = (reached-more ((c .before .before .before .before .before .before .before .before .before .before .before .before .before .before .before .before .before .before .before .before) .args .m) ((c .before .before .before .before .before .before .before .before .before .before .before .before .before .before .before .before .before .before .before .before) .args .list .now) ((c .before .before .before .before .before .before .before .before .before .before .before .before .before) .loop .t .held) ((c .before .before .before .before .before .before .before .before .before .before .before .before .before) .loop .line) ((c .before .before .before .before .before .before .before .before .before .before .before .before .before) .loop .out) ((c .before .before .before .before .before .before .before .before) .list-piece .result) ((c .before .before .before .before .before .before .before .before) .list-piece .last .1 .1 .1 .0) ((c .before .before .before .before .before .before .before .before) .list-piece .last .1 .1 .1 .1 .0) ((c .before .before .before .before .before .before .before .before) .list-piece .last .1 .1 .1 .1 .1 .0) ((c .before .before .before .before .before .before .before .before .before .before .before .before .before) .loop .inv .0) ((c .before .before .before .before .before .before .before .before) .list-piece .ensures), (c .before .before .before .before .before .before .before .before) .list-piece .ensures .within, sym ((c .before) .is-done .ensures) ∙ (c) .if1 .taken)
 
--- src/main.rt:155:9
+-- src/main.rt:120:9
 sub-turns : tie.Need-sub-turns Inv-loop μ-loop
 sub-turns c = omega arith
 
--- src/main.rt:145:5
+-- src/main.rt:115:5
 loop-less : tie.Need-loop-less Inv-loop μ-loop
 loop-less c = omega arith
 
--- src/main.rt:145:5
+-- src/main.rt:115:5
 loop-again : tie.Need-loop-again Inv-loop μ-loop
-loop-again c = (within-same _ _ (c .before .before .before .before .before .before .take-bytes .ensures) (sym ((c .before .before .before .before .before .before .before .before .before .before .before .before .before .before .before .before .before .before .loop .inv) .2)) (sym ((c .before .before .before .before .before .before .before .before .before .before .before .before .before .before .before .before .before .before .loop .inv) .3)), (c .before .before .before .before .before .before .before .before .before .before .before .before .before .before .input .given) ∙ (c .before .before .before .before .before .before .before .before .before .before .before .before .before .before .before .before .before .before .loop .inv) .1, (c .before .before .before .before .before .line .given) ∙ (c .before .before .before .before .before .before .before .before .before .before .before .before .before .before .before .before .before .before .loop .inv) .2, (c .before .before .before .out .given) ∙ (c .before .before .before .before .before .before .before .before .before .before .before .before .before .before .before .before .before .before .loop .inv) .3)
+loop-again c = (reached-more ((c .before .before .before .before .before .before .before .before .before .before .before .before .before .before .before .before .before .before .before .before) .args .m) ((c .before .before .before .before .before .before .before .before .before .before .before .before .before .before .before .before .before .before .before .before) .args .list .now) ((c .before .before .before .before .before .before .before .before .before .before .before .before .before) .loop .t .held) ((c .before .before .before .before .before .before .before .before .before .before .before .before .before) .loop .line) ((c .before .before .before .before .before .before .before .before .before .before .before .before .before) .loop .out) ((c .before .before .before .before .before .before .before .before) .list-piece .result) ((c .before .before .before .before .before .before .before .before) .list-piece .last .1 .1 .1 .0) ((c .before .before .before .before .before .before .before .before) .list-piece .last .1 .1 .1 .1 .0) ((c .before .before .before .before .before .before .before .before) .list-piece .last .1 .1 .1 .1 .1 .0) ((c .before .before .before .before .before .before .before .before .before .before .before .before .before) .loop .inv .0) ((c .before .before .before .before .before .before .before .before) .list-piece .ensures), (c .before .before .before .before .before .before .before .before) .list-piece .ensures .within, still-open ((c .before .before .before .before .before .before .before .before) .list-piece .result) ((c .before) .is-done .result) ((c .before) .is-done .ensures) ((c) .if1 .left), (c .before .before .before .before .before .before .before) .input .given ∙ (c .before .before .before .before .before .before .before .before .before .before .before .before .before) .loop .inv .3, (c .before .before .before .before .before) .line .given ∙ (c .before .before .before .before .before .before .before .before .before .before .before .before .before) .loop .inv .4, (c .before .before .before) .out .given ∙ (c .before .before .before .before .before .before .before .before .before .before .before .before .before) .loop .inv .5)
 
--- src/main.rt:133:1
-same-length-7 : tie.Need-same-length-7 Inv-loop μ-loop
-same-length-7 c = (c .before .loop .inv) .1
+-- src/main.rt:96:1
+same-length-4 : tie.Need-same-length-4 Inv-loop μ-loop
+same-length-4 c = (c .before .before) .loop .inv .3
 
--- src/main.rt:133:1
-same-length-8 : tie.Need-same-length-8 Inv-loop μ-loop
-same-length-8 c = (c .before .loop .inv) .2
+-- src/main.rt:96:1
+same-length-5 : tie.Need-same-length-5 Inv-loop μ-loop
+same-length-5 c = (c .before .before) .loop .inv .4
 
--- src/main.rt:133:1
-same-length-9 : tie.Need-same-length-9 Inv-loop μ-loop
-same-length-9 c = (c .before .loop .inv) .3
+-- src/main.rt:96:1
+same-length-6 : tie.Need-same-length-6 Inv-loop μ-loop
+same-length-6 c = (c .before .before) .loop .inv .5
 
--- src/main.rt:133:1
-returns-3 : tie.Need-returns-3 Inv-loop μ-loop
-returns-3 c = (c .before .loop .inv) .0
+-- src/main.rt:96:1
+returns-2 : tie.Need-returns-2 Inv-loop μ-loop
+returns-2 c = ((c .before .before) .loop .inv .0, (c .before .before) .loop .inv .1, done-closed (record { held = (c .before .before) .loop .t .held; count = (c .before .before) .loop .t .count; closed = true }) refl)
 
 pub take-input-spec : {M : Type 1} → statement M
 take-input-spec =
@@ -106,23 +87,18 @@ take-input-spec =
     (tie.spec
     Inv-loop
     μ-loop
+    begin-requires
     loop-holds
-    read-requires
-    count-requires
+    list-piece-requires
+    is-done-requires
     same-length
     same-length-2
     same-length-3
     returns
-    take-bytes-requires
-    is-done-requires
-    same-length-4
-    same-length-5
-    same-length-6
-    returns-2
     sub-turns
     loop-less
     loop-again
-    same-length-7
-    same-length-8
-    same-length-9
-    returns-3)
+    same-length-4
+    same-length-5
+    same-length-6
+    returns-2)

@@ -1,0 +1,27 @@
+use Rattle.stream.specs.Listing.{header}
+use borrow.Author.Needs.{needs}
+use Rattle.stream.proofs.write_header.Statement.{statement}
+use Rattle.stream.proofs.write_header.Tie as tie
+use Rattle.stream.proofs.write_header.Reads as reads
+use Rattle.stream.proofs.write_header.Lts as lts
+use Rattle.stream.proofs.copy.Reads as copy-reads
+
+-- src/lib.rt:72:10
+slice-aggregate-copy : tie.Need-slice-aggregate-copy
+slice-aggregate-copy c = search needs
+
+-- src/lib.rt:72:5
+copy-requires : tie.Need-copy-requires
+copy-requires c κs = search needs
+
+-- src/lib.rt:68:1
+same-length : tie.Need-same-length
+same-length c = search needs
+
+-- src/lib.rt:68:1
+returns : tie.Need-returns
+unfolding header
+returns c = (c .before .before) .copy .ensures
+
+pub write-header-spec : {M : Type 1} → statement M
+write-header-spec = tie.close (tie.spec slice-aggregate-copy copy-requires same-length returns)
