@@ -1,0 +1,2 @@
+-- The laws of specs/Stretches.antt.
+use Prim.Native.Nat.{ℕ}

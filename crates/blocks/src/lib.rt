@@ -1,0 +1,3 @@
+// Least weights within one copy, for one guess of the state where its storing half ends (a block).
+pub mod gather;
+pub mod numbers;
