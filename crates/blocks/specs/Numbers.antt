@@ -1,8 +1,6 @@
 -- The numbers of a block, one for each pair of states, and what the loops over them do: they lower numbers to candidates and mark what
 -- they lower. The laws stand in specs/Numbers/Laws.antt.
 --
--- none                    == the number that says "no way": 2 ^ 62
--- cell b s t              == the number of the pair (s, t) in the block b; none where s or t is no state of any machine
 -- total b                 == the sum of the numbers
 -- marked d                == how many pairs are marked in d, which has a set of states for each row
 -- Marked d s t            == the pair (s, t) is marked
@@ -15,20 +13,12 @@
 use Prim.Native.Nat.{ℕ, zero, _+_, _*_, _≤_, _<_}
 use mathlib.Core.Path.{_≡_}
 use mathlib.Core.Logic.{_⊎_}
-use mathlib.Core.Bool.{cond}
 use mathlib.Core.List.{List, [], _∷_}
 use lib.ListN.{length, getD}
-use lib.Dec.{ltb}
 use lib.Count.{ones}
 use Rattle.stateset.specs.Set.{In}
+use Rattle.pieces.specs.Blocks.{cell}
 pub mod Laws
-
-abbrev pub none : ℕ
-none = 4611686018427387904
-
--- row s of a block has its 64 numbers from s * 64 on
-unfoldable pub cell : List ℕ → ℕ → ℕ → ℕ
-cell b s t = cond (ltb s 64) (cond (ltb t 64) (getD b (s * 64 + t) 0) none) none
 
 unfoldable pub total : List ℕ → ℕ
 total [] = zero

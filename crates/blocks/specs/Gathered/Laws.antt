@@ -3,7 +3,7 @@
 -- adding-none, adding-then   == no candidate; two lots of candidates one after the other
 -- adding-as                  == the same candidates in other words
 -- pick-shut, pick-keeps, pick-lowers, pick-adds == one candidate: not allowed, not less, less, for a new state
--- reach-start, reach-more, reach-none == the loop over the transitions of one state by one letter
+-- reach-none, reach-more, reach-past == the loop over the transitions of one state by one letter
 -- far-none, far-reach        == one state, which has no number, or has one
 -- from-start, from-more, from-end == the loop over the states of a set
 -- near-none, near-pick, stay-start, stay-more, stay-end == the same where the state stays
@@ -20,8 +20,8 @@ use lib.Dec.{eqb}
 use borrow.Author.Tests.{eqb-false}
 use Rattle.stateset.specs.Set.{width, In, has, digit, added, SetIs}
 use Rattle.stateset.specs.Set.Laws.{in?, in-lt, has-in, empty-in}
-use Rattle.blocks.specs.Numbers.{none, cell}
-use Rattle.blocks.specs.Numbers.Laws.{Left, Rest, left-start, left-more, left-end}
+use Rattle.pieces.specs.Blocks.{nothing, cell}
+use Rattle.blocks.specs.Numbers.Laws.{Left, Rest, Taken, left-start, left-more, left-end}
 use Rattle.blocks.specs.Gathered.{Adding, Pick, Reach, Far, From, Near, Stay}
 
 pub adding-none : {C : ℕ → ℕ → Type 0} (p : List ℕ) (got : ℕ) → got < 2 ^ width → ((t v : ℕ) → C t v → ⊥) → Adding C p got p got
@@ -156,47 +156,55 @@ module _ (list : List ℕ) (may v : ℕ) where
               let z : t′ ≡ t = sym (c .enters) ∙ ap (λ (i : ℕ). getD list (i * 3 + 2) 0) e ∙ sym is in
               inr (record { state = z; allowed = subst (λ (i : ℕ). In may i) z (c .allowed); value = c .value })
 
+  -- the loop's end, also where there is nothing to do
+  pub reach-past : {lo hi k : ℕ} {p p′ : List ℕ} {got got′ : ℕ} → (k ≡ lo) ⊎ (k ≤ hi) → hi ≤ k → Adding (Reach list lo k may v) p got p′ got′ → Adding (Reach list lo hi may v) p got p′ got′
+  reach-past {lo} {hi} {k} (inl e) le f =
+      adding-as (λ t v′ (c : Reach list lo k may v t v′). absurd (omega (arith, c .from-on, c .below))) (λ t v′ (c : Reach list lo hi may v t v′). absurd (omega (arith, c .from-on, c .below))) f
+  reach-past {lo} {hi} {k} {p} {p′} {got} {got′} (inr l) le f = let e : k ≡ hi = omega arith in subst (λ (i : ℕ). Adding (Reach list lo i may v) p got p′ got′) e f
+
 -- One state
 
 module _ (list index : List ℕ) (base may v w : ℕ) where
-  pub far-none : (p : List ℕ) (got : ℕ) → got < 2 ^ width → none ≤ v → Adding (Far list index base may v w) p got p got
+  pub far-none : (p : List ℕ) (got : ℕ) → got < 2 ^ width → nothing ≤ v → Adding (Far list index base may v w) p got p got
   far-none p got h le = adding-none p got h (λ t v′ (c : Far list index base may v w t v′). omega (arith, c .known))
 
-  pub far-reach : {p p′ : List ℕ} {got got′ : ℕ} → v < none → Adding (Reach list (getD index base 0) (getD index (base + 1) 0) may (v + w)) p got p′ got′
+  pub far-reach : {lo hi : ℕ} {p p′ : List ℕ} {got got′ : ℕ} → v < nothing → lo ≡ getD index base 0 → hi ≡ getD index (base + 1) 0 → Adding (Reach list lo hi may (v + w)) p got p′ got′
       → Adding (Far list index base may v w) p got p′ got′
-  far-reach l f = adding-as (λ t v′ c. record { known = l; reach = c }) (λ t v′ c. c .reach) f
+  far-reach {lo} {hi} {p} {p′} {got} {got′} l e k f =
+      adding-as (λ t v′ c. record { known = l; reach = c }) (λ t v′ c. c .reach)
+      (subst (λ (i : ℕ). Adding (Reach list i (getD index (base + 1) 0) may (v + w)) p got p′ got′) e (subst (λ (i : ℕ). Adding (Reach list lo i may (v + w)) p got p′ got′) k f))
 
 -- The states of a set
 
 module _ (list index : List ℕ) (stride x w may : ℕ) (b : List ℕ) (s : ℕ) where
-  pub from-start : (set : ℕ) (p : List ℕ) → Adding (From list index stride x w may b s (Left set set)) p 0 p 0
-  from-start set p = adding-none p 0 (omega arith) (λ t v c. left-start set (c .source) (c .holds))
+  pub from-start : (set : ℕ) (p : List ℕ) (got : ℕ) → got ≡ 0 → Adding (From list index stride x w may b s (Left set set)) p 0 p got
+  from-start set p got e = rw e (adding-none p 0 (omega arith) (λ t v c. left-start set (c .source) (c .holds)))
 
-  pub from-more : {set rest rest′ u q n base : ℕ} {p p₁ p₂ : List ℕ} {got got₁ got₂ : ℕ} → Rest set rest → SetIs rest′ u (λ z. In rest z × (z ≡ q → ⊥)) → In rest q
+  pub from-more : {set rest rest′ q n base : ℕ} {p p₁ p₂ : List ℕ} {got got₁ got₂ : ℕ} → Rest set rest → Taken rest q rest′
       → n ≡ cell b s q → base ≡ q * stride + x
       → Adding (From list index stride x w may b s (Left set rest)) p got p₁ got₁ → Adding (Far list index base may n w) p₁ got₁ p₂ got₂
       → Adding (From list index stride x w may b s (Left set rest′)) p got p₂ got₂
-  from-more {set} {rest} {rest′} {u} {q} {n} {base} r is m number place f g = adding-then left right either f g
+  from-more {set} {rest} {rest′} {q} {n} {base} r k number place f g = adding-then left right either f g
     where
       left : (t v : ℕ) → From list index stride x w may b s (Left set rest) t v → From list index stride x w may b s (Left set rest′) t v
-      left t v c = record { source = c .source; holds = left-more r is m (c .source) .1 (inl (c .holds)); far = c .far }
+      left t v c = record { source = c .source; holds = left-more r k (c .source) .1 (inl (c .holds)); far = c .far }
 
       right : (t v : ℕ) → Far list index base may n w t v → From list index stride x w may b s (Left set rest′) t v
       right t v c =
           record {
             source = q;
-            holds = left-more r is m q .1 (inr refl);
+            holds = left-more r k q .1 (inr refl);
             far = subst (λ (i : ℕ). Far list index i may (cell b s q) w t v) place (subst (λ (i : ℕ). Far list index base may i w t v) number c);
           }
 
       either : (t v : ℕ) → From list index stride x w may b s (Left set rest′) t v → From list index stride x w may b s (Left set rest) t v ⊎ Far list index base may n w t v
-      either t v c = on (left-more r is m (c .source) .0 (c .holds))
+      either t v c = on (left-more r k (c .source) .0 (c .holds))
         where
           on : Left set rest (c .source) ⊎ (c .source ≡ q) → From list index stride x w may b s (Left set rest) t v ⊎ Far list index base may n w t v
           on (inl l) = inl (record { source = c .source; holds = l; far = c .far })
           on (inr e) =
               inr (subst (λ (i : ℕ). Far list index i may n w t v) (sym place) (subst (λ (i : ℕ). Far list index (q * stride + x) may i w t v) (sym number)
-                (subst (λ (i : ℕ). Far list index (i * stride + x) may (cell b s i) w t v) e (c .far))))
+              (subst (λ (i : ℕ). Far list index (i * stride + x) may (cell b s i) w t v) e (c .far))))
 
   pub from-end : (set rest : ℕ) {p p′ : List ℕ} {got got′ : ℕ} → rest ≡ 0 → Adding (From list index stride x w may b s (Left set rest)) p got p′ got′
       → Adding (From list index stride x w may b s (In set)) p got p′ got′
@@ -207,36 +215,36 @@ module _ (list index : List ℕ) (stride x w may : ℕ) (b : List ℕ) (s : ℕ)
 -- The states of a set, where the state stays
 
 module _ (may t v : ℕ) where
-  pub near-none : (p : List ℕ) (got : ℕ) → got < 2 ^ width → none ≤ v → Adding (Near may t v) p got p got
+  pub near-none : (p : List ℕ) (got : ℕ) → got < 2 ^ width → nothing ≤ v → Adding (Near may t v) p got p got
   near-none p got h le = adding-none p got h (λ t′ v′ (c : Near may t v t′ v′). omega (arith, c .known))
 
-  pub near-pick : {p p′ : List ℕ} {got got′ : ℕ} → v < none → Adding (Pick may t (v + 1)) p got p′ got′ → Adding (Near may t v) p got p′ got′
+  pub near-pick : {p p′ : List ℕ} {got got′ : ℕ} → v < nothing → Adding (Pick may t (v + 1)) p got p′ got′ → Adding (Near may t v) p got p′ got′
   near-pick l f = adding-as (λ t′ v′ c. record { known = l; pick = c }) (λ t′ v′ c. c .pick) f
 
 module _ (b : List ℕ) (s : ℕ) where
-  pub stay-start : (set : ℕ) (p : List ℕ) → Adding (Stay b s (Left set set)) p 0 p 0
-  stay-start set p = adding-none p 0 (omega arith) (λ t v c. left-start set t (c .holds))
+  pub stay-start : (set : ℕ) (p : List ℕ) (got : ℕ) → got ≡ 0 → Adding (Stay b s (Left set set)) p 0 p got
+  stay-start set p got e = rw e (adding-none p 0 (omega arith) (λ t v c. left-start set t (c .holds)))
 
-  pub stay-more : {set rest rest′ u q n : ℕ} {p p₁ p₂ : List ℕ} {got got₁ got₂ : ℕ} → Rest set rest → SetIs rest′ u (λ z. In rest z × (z ≡ q → ⊥)) → In rest q → n ≡ cell b s q
+  pub stay-more : {set rest rest′ q n : ℕ} {p p₁ p₂ : List ℕ} {got got₁ got₂ : ℕ} → Rest set rest → Taken rest q rest′ → n ≡ cell b s q
       → Adding (Stay b s (Left set rest)) p got p₁ got₁ → Adding (Near set q n) p₁ got₁ p₂ got₂ → Adding (Stay b s (Left set rest′)) p got p₂ got₂
-  stay-more {set} {rest} {rest′} {u} {q} {n} r is m number f g = adding-then left right either f g
+  stay-more {set} {rest} {rest′} {q} {n} r k number f g = adding-then left right either f g
     where
       left : (t v : ℕ) → Stay b s (Left set rest) t v → Stay b s (Left set rest′) t v
-      left t v c = record { holds = left-more r is m t .1 (inl (c .holds)); known = c .known; value = c .value }
+      left t v c = record { holds = left-more r k t .1 (inl (c .holds)); known = c .known; value = c .value }
 
       right : (t v : ℕ) → Near set q n t v → Stay b s (Left set rest′) t v
       right t v c =
           let e : cell b s t ≡ n = ap (cell b s) (c .pick .state) ∙ sym number in
-          record { holds = left-more r is m t .1 (inr (c .pick .state)); known = omega (arith, c .known); value = omega (arith, c .pick .value) }
+          record { holds = left-more r k t .1 (inr (c .pick .state)); known = omega (arith, c .known); value = omega (arith, c .pick .value) }
 
       either : (t v : ℕ) → Stay b s (Left set rest′) t v → Stay b s (Left set rest) t v ⊎ Near set q n t v
-      either t v c = on (left-more r is m t .0 (c .holds))
+      either t v c = on (left-more r k t .0 (c .holds))
         where
           on : Left set rest t ⊎ (t ≡ q) → Stay b s (Left set rest) t v ⊎ Near set q n t v
           on (inl l) = inl (record { holds = l; known = c .known; value = c .value })
           on (inr e) =
               let z : cell b s t ≡ n = ap (cell b s) e ∙ sym number in
-              inr (record { known = omega (arith, c .known); pick = record { state = e; allowed = r .part q m; value = omega (arith, c .value) } })
+              inr (record { known = omega (arith, c .known); pick = record { state = e; allowed = r .part q (k .member); value = omega (arith, c .value) } })
 
   pub stay-end : (set rest : ℕ) {p p′ : List ℕ} {got got′ : ℕ} → rest ≡ 0 → Adding (Stay b s (Left set rest)) p got p′ got′ → Adding (Stay b s (In set)) p got p′ got′
   stay-end set rest e f =

@@ -1,44 +1,34 @@
 -- The laws of specs/Numbers.antt.
 --
--- cell-is, cell-past         == where the number of a pair stands; that there is none past the last state
 -- cell-set-same, cell-set-other == the numbers after one is replaced
 -- total-set, marked-set      == the sum, and the number of marks, after one element is replaced
+-- sized-after                == the lengths stay
 -- steps-none, steps-then     == nothing lowered; one step after the other
 -- lowers-none, lowers-then   == no candidate; two lots of candidates one after the other
 -- lowers-as                  == the same candidates in other words
 -- lower-not, lower-is        == one candidate, which is not less, or is
 -- Left set rest, Rest set rest == a loop over a set: the members that are not left to do; what is left is a part of the set
+-- lowest-inside, Taken, taken == the member that a loop takes: it is a state; what is left without it
 -- rest-start, rest-more, left-start, left-more, left-end == the loop begins, takes a member, ends
 -- put-start, put-more, put-end == the loop over the states of a row
--- spread-start, spread-more, spread-none == the loop over transitions
+-- spread-start, spread-more, spread-past == the loop over transitions
+-- enter-not, enter-is        == one transition, which is not allowed, or is
 use Prim.Native.Nat.{ℕ, zero, suc, _+_, _*_, _^_, _≤_, _<_}
 use mathlib.Core.Path.{_≡_, refl, sym, ap, _∙_, subst}
 use mathlib.Core.Logic.{_⊎_, inl, inr, _↔_}
-use mathlib.Core.Bool.{cond}
 use mathlib.Core.List.{List, [], _∷_}
 use native.Mathlib.Omega.{arith}
 use native.Mathlib.Decide.{ℕ-discrete, decLt}
 use lib.ListN.{length, getD, set, length-set}
 use lib.Seq.{getD-set-same, getD-set-other}
-use lib.Dec.{ltb}
 use lib.Count.{ones}
-use borrow.Author.Tests.{lt-ltb, le-ltb}
-use Rattle.stateset.specs.Set.{width, In, added, SetIs}
-use Rattle.stateset.specs.Set.Laws.{in?, ones-add, add-member, added-state, empty-in}
-use Rattle.blocks.specs.Numbers.{none, cell, total, marked, Marked, Sized, Steps, Lowers, One, Put, Enter, Spread}
-
-pub cell-is : (b : List ℕ) (s t : ℕ) → s < 64 → t < 64 → cell b s t ≡ getD b (s * 64 + t) 0
-unfolding cell
-cell-is b s t h k = simp (lt-ltb s 64 h, lt-ltb t 64 k)
-
-pub cell-past : (b : List ℕ) (s t : ℕ) → (64 ≤ s) ⊎ (64 ≤ t) → cell b s t ≡ none
-unfolding cell
-cell-past b s t (inl h) = simp (le-ltb s 64 h)
-cell-past b s t (inr h) = on (decLt s 64)
-  where
-    on : Dec (s < 64) → cell b s t ≡ none
-    on (yes l) = simp (lt-ltb s 64 l, le-ltb t 64 h)
-    on (no f) = simp (le-ltb s 64 (omega arith))
+use mathlib.Core.Bool.{true, false}
+use borrow.Author.Tests.{eqb-false}
+use Rattle.stateset.specs.Set.{width, In, has, digit, added, removed, lowestOf, SetIs, Lowest}
+use Rattle.stateset.specs.Set.Laws.{in?, has-in, in-lt, lowest-removed, drop-lowest, ones-add, add-member, added-state, empty-in}
+use Rattle.pieces.specs.Blocks.{cell}
+use Rattle.pieces.specs.Blocks.Laws.{cell-inside, cell-past}
+use Rattle.blocks.specs.Numbers.{total, marked, Marked, Sized, Steps, Lowers, One, Put, Enter, Spread}
 
 -- two pairs of states with one number are one
 place-same : (s t s′ t′ : ℕ) → t < 64 → t′ < 64 → s′ * 64 + t′ ≡ s * 64 + t → (s′ ≡ s) × (t′ ≡ t)
@@ -46,14 +36,14 @@ place-same s t s′ t′ h k e = (omega arith, omega arith)
 
 module _ (b : List ℕ) (s t v : ℕ) (row : s < 64) (column : t < 64) where
   pub cell-set-same : s * 64 + t < length b → cell (set b (s * 64 + t) v) s t ≡ v
-  cell-set-same l = cell-is (set b (s * 64 + t) v) s t row column ∙ getD-set-same b (s * 64 + t) v 0 l
+  cell-set-same l = cell-inside (set b (s * 64 + t) v) s t row column ∙ getD-set-same b (s * 64 + t) v 0 l
 
   pub cell-set-other : (s′ t′ : ℕ) → ((s′ ≡ s) × (t′ ≡ t) → ⊥) → cell (set b (s * 64 + t) v) s′ t′ ≡ cell b s′ t′
   cell-set-other s′ t′ other = on (decLt s′ 64) (decLt t′ 64)
     where
       on : Dec (s′ < 64) → Dec (t′ < 64) → cell (set b (s * 64 + t) v) s′ t′ ≡ cell b s′ t′
       on (yes h) (yes k) =
-          cell-is (set b (s * 64 + t) v) s′ t′ h k ∙ getD-set-other b (s * 64 + t) (s′ * 64 + t′) v 0 (λ e. other (place-same s t s′ t′ column k e)) ∙ sym (cell-is b s′ t′ h k)
+          cell-inside (set b (s * 64 + t) v) s′ t′ h k ∙ getD-set-other b (s * 64 + t) (s′ * 64 + t′) v 0 (λ e. other (place-same s t s′ t′ column k e)) ∙ sym (cell-inside b s′ t′ h k)
       on (no f) k = cell-past (set b (s * 64 + t) v) s′ t′ (inl (omega arith)) ∙ sym (cell-past b s′ t′ (inl (omega arith)))
       on (yes h) (no f) = cell-past (set b (s * 64 + t) v) s′ t′ (inr (omega arith)) ∙ sym (cell-past b s′ t′ (inr (omega arith)))
 
@@ -106,6 +96,9 @@ steps-then {b} {d} {b₁} {d₁} {b₂} {d₂} f g =
     on s t (inr x) y = inr (g .stays s t x)
     on s t (inl x) (inr y) = inr y
 
+pub sized-after : {b d b′ d′ : List ℕ} → Sized b d → Steps b d b′ d′ → Sized b′ d′
+sized-after z f = record { numbers = f .size ∙ z .numbers; rows = f .rows ∙ z .rows }
+
 -- Candidates
 
 pub lowers-none : {C : ℕ → ℕ → ℕ → Type 0} (b d : List ℕ) → ((s t v : ℕ) → C s t v → ⊥) → Lowers C b d b d
@@ -143,7 +136,7 @@ module _ (b d : List ℕ) (s t v : ℕ) (row : s < 64) (column : t < 64) where
       on : (s′ t′ v′ : ℕ) → One s t v s′ t′ v′ → cell b s′ t′ ≤ v′
       on s′ t′ v′ c =
           let e : cell b s′ t′ ≡ cell b s t = ap (λ (x : ℕ). cell b x t′) (c .row) ∙ ap (cell b s) (c .column) in
-          let k = cell-is b s t row column in
+          let k = cell-inside b s t row column in
           omega (arith, c .value)
 
   module _ (sized : Sized b d) (less : v < getD b (s * 64 + t) 0) {r : ℕ} (is : SetIs r (added (getD d s 0) t) (λ p. In (getD d s 0) p ⊎ ((p ≡ t) × (p < width)))) where
@@ -165,11 +158,11 @@ module _ (b d : List ℕ) (s t v : ℕ) (row : s < 64) (column : t < 64) where
           stays = λ s′ t′ m. stays s′ t′ m (ℕ-discrete s′ s);
           changed = λ s′ t′. changed s′ t′ (ℕ-discrete s′ s) (ℕ-discrete t′ t);
           falls =
-            let x = total-set b (s * 64 + t) v fits in
-            let y = marked-set d s r row-fits in
-            let z = added-more (getD d s 0) t column in
-            let w = ap ones (is .value) in
-            omega arith;
+              let x = total-set b (s * 64 + t) v fits in
+              let y = marked-set d s r row-fits in
+              let z = added-more (getD d s 0) t column in
+              let w = ap ones (is .value) in
+              omega arith;
         }
       where
         marks-here : (s′ t′ : ℕ) → s′ ≡ s → In r t′ → Marked (set d s r) s′ t′
@@ -180,7 +173,7 @@ module _ (b d : List ℕ) (s t v : ℕ) (row : s < 64) (column : t < 64) where
             let x : cell (set b (s * 64 + t) v) s′ t′ ≡ cell (set b (s * 64 + t) v) s t = ap (λ (i : ℕ). cell (set b (s * 64 + t) v) i t′) e ∙ ap (cell (set b (s * 64 + t) v) s) k in
             let y : cell b s′ t′ ≡ cell b s t = ap (λ (i : ℕ). cell b i t′) e ∙ ap (cell b s) k in
             let z = cell-set-same b s t v row column fits in
-            let w = cell-is b s t row column in
+            let w = cell-inside b s t row column in
             omega arith
         down s′ t′ (no f) k = let x = cell-set-other b s t v row column s′ t′ (λ z. f (z .0)) in omega arith
         down s′ t′ (yes e) (no f) = let x = cell-set-other b s t v row column s′ t′ (λ z. f (z .1)) in omega arith
@@ -210,6 +203,19 @@ module _ (b d : List ℕ) (s t v : ℕ) (row : s < 64) (column : t < 64) where
 
 -- A loop over a set
 
+pub lowest-inside : (x q : ℕ) → x < 2 ^ width → (x ≡ 0 → ⊥) → Lowest x q → q < 64
+lowest-inside x q h some low = in-lt {w = width} {x = x} {q = q} h (low .member (omega arith))
+
+pub record Taken (rest q rest′ : ℕ) : Type 0 where
+  pub member : In rest q
+  pub is : SetIs rest′ (removed rest q) (λ p. In rest p × (p ≡ q → ⊥))
+  pub fewer : ones rest′ < ones rest
+
+pub taken : {x q r : ℕ} → x < 2 ^ width → (x ≡ 0 → ⊥) → Lowest x q → SetIs r (removed x (lowestOf x)) (λ p. In x p × (p ≡ lowestOf x → ⊥)) → Taken x q r
+taken {x} {q} {r} h some low s =
+    let z = lowest-removed low s in
+    record { member = low .member (omega arith); is = z; fewer = drop-lowest x q r h (omega arith) low (z .value) }
+
 abbrev pub Left : ℕ → ℕ → ℕ → Type 0
 Left set rest t = In set t × (In rest t → ⊥)
 
@@ -220,25 +226,25 @@ pub record Rest (set rest : ℕ) : Type 0 where
 pub rest-start : (set : ℕ) → set < 2 ^ width → Rest set set
 rest-start set h = record { fits = h; part = λ t m. m }
 
-module _ {set rest rest′ v q : ℕ} (r : Rest set rest) (is : SetIs rest′ v (λ p. In rest p × (p ≡ q → ⊥))) where
+module _ {set rest rest′ q : ℕ} (r : Rest set rest) (k : Taken rest q rest′) where
   pub rest-more : Rest set rest′
-  rest-more = record { fits = is .fits; part = λ t m. r .part t (is .members t .0 m .0) }
+  rest-more = record { fits = k .is .fits; part = λ t m. r .part t (k .is .members t .0 m .0) }
 
   -- what is done then was done before, or is the member that was taken
-  pub left-more : In rest q → (t : ℕ) → Left set rest′ t ↔ (Left set rest t ⊎ (t ≡ q))
-  left-more m t = (λ l. there l (in? rest t), back)
+  pub left-more : (t : ℕ) → Left set rest′ t ↔ (Left set rest t ⊎ (t ≡ q))
+  left-more t = (λ l. there l (in? rest t), back)
     where
       there : Left set rest′ t → Dec (In rest t) → Left set rest t ⊎ (t ≡ q)
       there l (no f) = inl (l .0, f)
-      there l (yes k) = here (ℕ-discrete t q)
+      there l (yes m) = here (ℕ-discrete t q)
         where
           here : Dec (t ≡ q) → Left set rest t ⊎ (t ≡ q)
           here (yes e) = inr e
-          here (no f) = absurd (l .1 (is .members t .1 (k, f)))
+          here (no f) = absurd (l .1 (k .is .members t .1 (m, f)))
 
       back : Left set rest t ⊎ (t ≡ q) → Left set rest′ t
-      back (inl l) = (l .0, λ k. l .1 (is .members t .0 k .0))
-      back (inr e) = (r .part t (subst (λ (x : ℕ). In rest x) (sym e) m), λ k. is .members t .0 k .1 e)
+      back (inl l) = (l .0, λ m. l .1 (k .is .members t .0 m .0))
+      back (inr e) = (r .part t (subst (λ (x : ℕ). In rest x) (sym e) (k .member)), λ m. k .is .members t .0 m .1 e)
 
 pub left-start : (set t : ℕ) → Left set set t → ⊥
 left-start set t l = l .1 (l .0)
@@ -252,18 +258,18 @@ module _ (s : ℕ) (p : List ℕ) where
   pub put-start : (set : ℕ) (b d : List ℕ) → Lowers (Put s (Left set set) p) b d b d
   put-start set b d = lowers-none b d (λ s′ t v c. left-start set t (c .holds))
 
-  pub put-more : {set rest rest′ v q w : ℕ} {b d b₁ d₁ b₂ d₂ : List ℕ} → Rest set rest → SetIs rest′ v (λ x. In rest x × (x ≡ q → ⊥)) → In rest q → w ≡ getD p q 0
+  pub put-more : {set rest rest′ q w : ℕ} {b d b₁ d₁ b₂ d₂ : List ℕ} → Rest set rest → Taken rest q rest′ → w ≡ getD p q 0
       → Lowers (Put s (Left set rest) p) b d b₁ d₁ → Lowers (One s q w) b₁ d₁ b₂ d₂ → Lowers (Put s (Left set rest′) p) b d b₂ d₂
-  put-more {set} {rest} {rest′} {v} {q} {w} r is m value f g = lowers-then left right either f g
+  put-more {set} {rest} {rest′} {q} {w} r k value f g = lowers-then left right either f g
     where
       left : (s′ t v′ : ℕ) → Put s (Left set rest) p s′ t v′ → Put s (Left set rest′) p s′ t v′
-      left s′ t v′ c = record { row = c .row; holds = left-more r is m t .1 (inl (c .holds)); value = c .value }
+      left s′ t v′ c = record { row = c .row; holds = left-more r k t .1 (inl (c .holds)); value = c .value }
 
       right : (s′ t v′ : ℕ) → One s q w s′ t v′ → Put s (Left set rest′) p s′ t v′
-      right s′ t v′ c = record { row = c .row; holds = left-more r is m t .1 (inr (c .column)); value = c .value ∙ value ∙ ap (λ (i : ℕ). getD p i 0) (sym (c .column)) }
+      right s′ t v′ c = record { row = c .row; holds = left-more r k t .1 (inr (c .column)); value = c .value ∙ value ∙ ap (λ (i : ℕ). getD p i 0) (sym (c .column)) }
 
       either : (s′ t v′ : ℕ) → Put s (Left set rest′) p s′ t v′ → Put s (Left set rest) p s′ t v′ ⊎ One s q w s′ t v′
-      either s′ t v′ c = on (left-more r is m t .0 (c .holds))
+      either s′ t v′ c = on (left-more r k t .0 (c .holds))
         where
           on : Left set rest t ⊎ (t ≡ q) → Put s (Left set rest) p s′ t v′ ⊎ One s q w s′ t v′
           on (inl l) = inl (record { row = c .row; holds = l; value = c .value })
@@ -279,9 +285,6 @@ module _ (s : ℕ) (p : List ℕ) where
 module _ (list : List ℕ) (may got : ℕ) (p : List ℕ) where
   pub spread-start : (lo : ℕ) (b d : List ℕ) → Lowers (Spread list lo lo may got p) b d b d
   spread-start lo b d = lowers-none b d (λ s t v (c : Spread list lo lo may got p s t v). omega (arith, c .from-on, c .below))
-
-  pub spread-none : (lo hi : ℕ) (b d : List ℕ) → hi ≤ lo → Lowers (Spread list lo hi may got p) b d b d
-  spread-none lo hi b d le = lowers-none b d (λ s t v (c : Spread list lo hi may got p s t v). omega (arith, c .from-on, c .below))
 
   pub spread-more : {lo k s : ℕ} {b d b₁ d₁ b₂ d₂ : List ℕ} → lo ≤ k → s ≡ getD list (k * 3 + 2) 0 → Lowers (Spread list lo k may got p) b d b₁ d₁
       → Lowers (Enter may got p s) b₁ d₁ b₂ d₂ → Lowers (Spread list lo (k + 1) may got p) b d b₂ d₂
@@ -312,3 +315,19 @@ module _ (list : List ℕ) (may got : ℕ) (p : List ℕ) where
               let e : c .number ≡ k = omega (arith, c .below) in
               let z : s′ ≡ s = sym (c .enters) ∙ ap (λ (i : ℕ). getD list (i * 3 + 2) 0) e ∙ sym is in
               inr (record { allowed = subst (λ (x : ℕ). In may x) z (c .allowed); put = record { row = z; holds = c .gathered; value = c .value } })
+
+  -- the loop's end, also where there is nothing to do
+  pub spread-past : {lo hi k : ℕ} {b d b′ d′ : List ℕ} → (k ≡ lo) ⊎ (k ≤ hi) → hi ≤ k → Lowers (Spread list lo k may got p) b d b′ d′ → Lowers (Spread list lo hi may got p) b d b′ d′
+  spread-past {lo} {hi} {k} (inl e) le f =
+      lowers-as (λ s t v (c : Spread list lo k may got p s t v). absurd (omega (arith, c .from-on, c .below)))
+      (λ s t v (c : Spread list lo hi may got p s t v). absurd (omega (arith, c .from-on, c .below))) f
+  spread-past {lo} {hi} {k} {b} {d} {b′} {d′} (inr l) le f = let e : k ≡ hi = omega arith in subst (λ (i : ℕ). Lowers (Spread list lo i may got p) b d b′ d′) e f
+
+-- one transition
+
+module _ (may got : ℕ) (p : List ℕ) (s : ℕ) where
+  pub enter-not : (b d : List ℕ) → has may s ≡ false → Lowers (Enter may got p s) b d b d
+  enter-not b d e = lowers-none b d (λ s′ t v c. eqb-false (digit may s) 1 e (c .allowed))
+
+  pub enter-is : {b d b′ d′ : List ℕ} → has may s ≡ true → Lowers (Put s (In got) p) b d b′ d′ → Lowers (Enter may got p s) b d b′ d′
+  enter-is e f = lowers-as (λ s′ t v c. record { allowed = has-in may s .0 e; put = c }) (λ s′ t v c. c .put) f

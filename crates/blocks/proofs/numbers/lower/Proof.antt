@@ -1,3 +1,5 @@
+use native.Mathlib.Omega.{arith}
+use Rattle.blocks.specs.Numbers.Laws.{lower-not, lower-is}
 use borrow.Author.Needs.{needs}
 use Rattle.blocks.proofs.numbers.lower.Statement.{statement}
 use Rattle.blocks.proofs.numbers.lower.Tie as tie
@@ -23,7 +25,7 @@ element-copy-out-if1 c = search needs
 
 -- src/numbers.rt:16:9
 returns : tie.Need-returns
-returns c = ?
+returns c = lower-not _ _ _ _ _ ((c .before .before) .pre .1 .0) ((c .before .before) .pre .1 .1) (c .if1 .taken)
 
 -- src/numbers.rt:18:5
 mul-b : tie.Need-mul-b
@@ -55,7 +57,7 @@ element-write-d c = search needs
 
 -- src/numbers.rt:9:1
 returns-2 : tie.Need-returns-2
-returns-2 c = ?
+returns-2 c = lower-is _ _ _ _ _ ((c .before .before .before .before) .pre .1 .0) ((c .before .before .before .before) .pre .1 .1) ((c .before .before .before .before) .pre .0) (omega (arith, (c .before .before) .if1 .left)) (c .add .ensures)
 
 pub lower-spec : {M : Type 1} → statement M
 lower-spec =
