@@ -1,3 +1,4 @@
 // Least weights within one copy, for one guess of the state where its storing half ends (a block).
 pub mod gather;
+pub mod index;
 pub mod numbers;
