@@ -1,5 +1,7 @@
 pub mod Blocks
+pub mod Bound
 pub mod Pairs
 pub mod Pieces
 pub mod Rounds
+pub mod Tight
 pub mod Written
