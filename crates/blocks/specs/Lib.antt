@@ -1,3 +1,4 @@
 pub mod Numbers
 pub mod Gathered
 pub mod Stretches
+pub mod Works
