@@ -2,3 +2,4 @@
 pub mod gather;
 pub mod index;
 pub mod numbers;
+pub mod row;

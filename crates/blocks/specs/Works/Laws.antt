@@ -4,20 +4,26 @@
 -- match-listed, listed-match == a candidate of From is a matching transition, and the other way round
 -- so-start            == the row after its matching halves have moved alone
 -- so-more             == the row after the transitions of one letter
+-- ready-stride .. group-past == what the functions ask of the index: its ranges, and where the transitions of a letter end
+-- held-from           == the members that are in both sets, as one set
+-- moved-none, moved-letter == the ways through `moved`
+-- row-leaves, row-done == which transitions a row goes through, and the row's end
+-- storable-held, storable-free == the ways through `storable`
 -- on-none, on-then    == no transition; one lot of transitions after the other
 -- so-done             == the row after its last transition
 use Prim.Native.Nat.{ℕ, zero, suc, _+_, _*_, _≤_, _<_}
 use mathlib.Core.Path.{_≡_, refl, sym, ap, _∙_, subst}
 use mathlib.Core.Logic.{_⊎_, inl, inr, _↔_}
-use mathlib.Core.Bool.{Bool, true}
+use mathlib.Core.Bool.{Bool, true, false}
 use mathlib.Core.List.{List}
 use native.Mathlib.Omega.{arith}
 use native.Mathlib.Decide.{decLt, ℕ-discrete}
-use lib.ListN.{getD}
+use lib.ListN.{length, getD}
+use borrow.Author.Tests.{eqb-false}
 use Rattle.graphs.specs.Working.{Working}
 use Rattle.graphs.specs.Working.Laws.{working-lowers, working-looked}
-use Rattle.stateset.specs.Set.{In}
-use Rattle.stateset.specs.Set.Laws.{in?, empty-in}
+use Rattle.stateset.specs.Set.{width, digit, In, has, SetIs}
+use Rattle.stateset.specs.Set.Laws.{in?, has-in, empty-in}
 use Rattle.fsbm.specs.Machine.{wellFormed, buffering, matching, transitionAt}
 use Rattle.fsbm.specs.Rules.{rules, matching-below}
 use Rattle.fsbm.specs.Published.{Listed, fsbmOf}
@@ -28,8 +34,9 @@ use Rattle.pieces.specs.Blocks.{nothing, cell, costOf, Node, outside, inside, B
 use Rattle.blocks.specs.Numbers.{Marked, Steps, Lowers, Put, Spread}
 use Rattle.blocks.specs.Numbers.Laws.{steps-none, steps-then}
 use Rattle.blocks.specs.Gathered.{Adding, Reach, Far, From, Stay}
+use Rattle.blocks.specs.Gathered.Laws.{adding-as}
 use Rattle.blocks.specs.Stretches.{Stretches}
-use Rattle.blocks.specs.Stretches.Laws.{stretch, row-stretch}
+use Rattle.blocks.specs.Stretches.Laws.{key-fits, stretch, row-stretch}
 use Rattle.blocks.specs.Works.{Kind, Ready, Storable, Works, Waiting, Busy, Early, Looked, RowSo, RowOn, RowDone, Moves, by-none, by-letter}
 
 pub block-inside : (b : List ℕ) (u : Pair) → blockOf b (inside u) ≡ cell b (u .storing) (u .matching)
@@ -328,3 +335,87 @@ on-none m list s set k b d = record { steps = steps-none b d; on = λ b₀ d₀ 
 
 pub on-then : {m : Machine} {list : List ℕ} {s set k k₁ k₂ : ℕ} {b d b₁ d₁ b₂ d₂ : List ℕ} → RowOn m list s set k b d k₁ b₁ d₁ → RowOn m list s set k₁ b₁ d₁ k₂ b₂ d₂ → RowOn m list s set k b d k₂ b₂ d₂
 on-then f g = record { steps = steps-then (f .steps) (g .steps); on = λ b₀ d₀ so. g .on b₀ d₀ (f .on b₀ d₀ so) }
+
+-- What the functions ask of the index
+
+module _ {m : Machine} {list index : List ℕ} {h : ℕ} (r : Ready m list index h) where
+  pub ready-stride : m .letters + 1 ≤ 251
+  ready-stride = let z = sorts r .letters-fit in omega arith
+
+  pub ready-safe : (y : ℕ) → getD index y 0 * 3 ≤ length list
+  ready-safe y = let z = r .starts .within y in let k = sorts r .list-fits in omega arith
+
+  pub ready-state : (s : ℕ) → s < m .states → s < 64
+  ready-state s here = let z = sorts r .states-fit in omega arith
+
+  pub ready-room : (k : ℕ) → k < m .transitions → k * 3 + 3 ≤ length list
+  ready-room k lt = let z = sorts r .list-fits in omega arith
+
+  pub ready-letter : (k : ℕ) → k < m .transitions → transitionAt list k .letter < m .letters + 1
+  ready-letter k lt = let z = sorts r .letter-below k lt in omega arith
+
+  module _ (s : ℕ) (here : s < m .states) where
+    pub row-fits : (s * (m .letters + 1) ≤ 15813) × (s * (m .letters + 1) + (m .letters + 1) < 16065)
+    row-fits = let z = key-fits s (m .letters + 1) (m .letters) (ready-state s here) ready-stride (omega arith) in (z .0, omega (arith, z .1))
+
+    pub group-fits : (k : ℕ) → k < m .transitions → s * (m .letters + 1) + transitionAt list k .letter < 16064
+    group-fits k lt = key-fits s (m .letters + 1) (transitionAt list k .letter) (ready-state s here) ready-stride (ready-letter k lt) .1
+
+    pub group-past : (k : ℕ) → k < m .transitions → transitionAt list k .from ≡ s → k < getD index (s * (m .letters + 1) + transitionAt list k .letter + 1) 0
+    group-past k lt from = stretch m list (sorts r) index (r .starts) s (transitionAt list k .letter) k here (sorts r .letter-below k lt) .1 (lt, from, refl) .1
+
+    pub row-leaves : (lo end : ℕ) → lo ≡ getD index (s * (m .letters + 1)) 0 → end ≡ getD index (s * (m .letters + 1) + (m .letters + 1)) 0
+        → (k : ℕ) → lo ≤ k → k < end → (k < m .transitions) × (transitionAt list k .from ≡ s)
+    row-leaves lo end e f k le lt =
+        let z : getD index (s * (m .letters + 1)) 0 ≡ getD index (s * (m .letters + 1) + 0) 0 = ap (λ (i : ℕ). getD index i 0) (let y : s * (m .letters + 1) ≡ s * (m .letters + 1) + 0 = omega arith in y) in
+        row-stretch m list (sorts r) index (r .starts) s k here .0 (omega arith, omega arith)
+
+    pub row-done : {set lo end k : ℕ} {b d b₁ d₁ b₂ d₂ : List ℕ} → lo ≡ getD index (s * (m .letters + 1)) 0 → end ≡ getD index (s * (m .letters + 1) + (m .letters + 1)) 0 → end ≤ k
+        → RowSo m list s set (getD index (s * (m .letters + 1) + 0) 0) b d b₁ d₁ → RowOn m list s set lo b₁ d₁ k b₂ d₂ → RowDone m list s set b d b₂ d₂
+    row-done {set} {lo} {end} {k} {b} {d} {b₁} {d₁} e f le so g =
+        let z : getD index (s * (m .letters + 1) + 0) 0 ≡ lo = ap (λ (i : ℕ). getD index i 0) (let y : s * (m .letters + 1) + 0 ≡ s * (m .letters + 1) = omega arith in y) ∙ sym e in
+        so-done r s set here (omega arith) (g .on b d (subst (λ (i : ℕ). RowSo m list s set i b d b₁ d₁) z so))
+
+-- The members that are in both sets
+
+module _ {list index : List ℕ} {stride x w h : ℕ} {b : List ℕ} {s : ℕ} (set : ℕ) {held v : ℕ} (is : SetIs held v (λ q. In set q × In h q)) where
+  pub held-from : {p p′ : List ℕ} {got got′ : ℕ} → Adding (From list index stride x w h b s (In held)) p got p′ got′ → Adding (From list index stride x w h b s (λ q. In set q × In h q)) p got p′ got′
+  held-from f =
+      adding-as (λ t n c. record { source = c .source; holds = is .members (c .source) .0 (c .holds); far = c .far })
+      (λ t n c. record { source = c .source; holds = is .members (c .source) .1 (c .holds); far = c .far }) f
+
+module _ {list index : List ℕ} {stride x h : ℕ} {b : List ℕ} {s set : ℕ} where
+  pub moved-none : {p p′ : List ℕ} {got : ℕ} → x ≡ 0 → Adding (Stay b s (In set)) p 0 p′ got → Adding (Moves list index stride x h b s set) p 0 p′ got
+  moved-none e f = adding-as (λ t v c. by-none e c) back f
+    where
+      back : (t v : ℕ) → Moves list index stride x h b s set t v → Stay b s (In set) t v
+      back t v (by-none z c) = c
+      back t v (by-letter z c) = absurd (omega arith)
+
+  pub moved-letter : {p p′ : List ℕ} {got : ℕ} → (x ≡ 0 → ⊥) → Adding (From list index stride x (halves * (unit + 1)) h b s (λ q. In set q × In h q)) p 0 p′ got
+      → Adding (Moves list index stride x h b s set) p 0 p′ got
+  moved-letter e f = adding-as (λ t v c. by-letter (omega arith) c) back f
+    where
+      back : (t v : ℕ) → Moves list index stride x h b s set t v → From list index stride x (halves * (unit + 1)) h b s (λ q. In set q × In h q) t v
+      back t v (by-none z c) = absurd (e z)
+      back t v (by-letter z c) = c
+
+-- The states that a storing move may enter
+
+module _ (m : Machine) (g h s : ℕ) (buffers : Kind (buffering (m .marks)) g) (matches : Kind (matching (m .marks)) h) {all u free v : ℕ}
+    (whole : SetIs all u (λ q. (q < 64) × (q < width))) (is : SetIs free v (λ q. In all q × (In g q → ⊥))) where
+  pub storable-held : {held w : ℕ} → has h s ≡ true → SetIs held w (λ q. In free q × (In h q → ⊥)) → Storable m s held
+  storable-held {held} e k =
+      record {
+        only = λ q j. let z = k .members q .0 j in (λ n. is .members q .0 (z .0) .1 (buffers q .1 n), λ n. z .1 (matches q .1 (n .1)));
+        all = λ q l f n.
+            k .members q .1
+            (is .members q .1 (whole .members q .1 (l, l), λ j. f (buffers q .0 j)), λ j. n (matches s .0 (has-in h s .0 e), matches q .0 j));
+      }
+
+  pub storable-free : has h s ≡ false → Storable m s free
+  storable-free e =
+      record {
+        only = λ q j. (λ n. is .members q .0 j .1 (buffers q .1 n), λ n. eqb-false (digit h s) 1 e (matches s .1 (n .0)));
+        all = λ q l f n. is .members q .1 (whole .members q .1 (l, l), λ j. f (buffers q .0 j));
+      }
