@@ -2,3 +2,4 @@ pub mod Numbers
 pub mod Gathered
 pub mod Stretches
 pub mod Works
+pub mod Settling

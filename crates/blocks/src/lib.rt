@@ -1,4 +1,5 @@
 // Least weights within one copy, for one guess of the state where its storing half ends (a block).
+pub mod block;
 pub mod gather;
 pub mod index;
 pub mod numbers;

@@ -2,7 +2,7 @@
 --
 -- cell-set-same, cell-set-other == the numbers after one is replaced
 -- total-set, marked-set      == the sum, and the number of marks, after one element is replaced
--- sized-after                == the lengths stay
+-- sized-after, sized-set     == the lengths stay
 -- steps-none, steps-then     == nothing lowered; one step after the other
 -- lowers-none, lowers-then   == no candidate; two lots of candidates one after the other
 -- lowers-as                  == the same candidates in other words
@@ -98,6 +98,9 @@ steps-then {b} {d} {b₁} {d₁} {b₂} {d₂} f g =
 
 pub sized-after : {b d b′ d′ : List ℕ} → Sized b d → Steps b d b′ d′ → Sized b′ d′
 sized-after z f = record { numbers = f .size ∙ z .numbers; rows = f .rows ∙ z .rows }
+
+pub sized-set : {b d : List ℕ} (s x : ℕ) → Sized b d → Sized b (set d s x)
+sized-set {b} {d} s x z = record { numbers = z .numbers; rows = length-set d s x ∙ z .rows }
 
 -- Candidates
 

@@ -345,6 +345,9 @@ module _ {m : Machine} {list index : List ℕ} {h : ℕ} (r : Ready m list index
   pub ready-safe : (y : ℕ) → getD index y 0 * 3 ≤ length list
   ready-safe y = let z = r .starts .within y in let k = sorts r .list-fits in omega arith
 
+  pub ready-states : m .states ≤ 64
+  ready-states = sorts r .states-fit
+
   pub ready-state : (s : ℕ) → s < m .states → s < 64
   ready-state s here = let z = sorts r .states-fit in omega arith
 
