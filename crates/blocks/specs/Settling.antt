@@ -3,6 +3,7 @@
 -- Scanned d k n r            == r is a row below n that has a mark; or r is not below n, and no row from k up to n has one
 -- Cleared n b b′             == b′ is b with `nothing` at the first n places
 -- Past m b                   == past the machine's last state the block says nothing
+-- blankBlock, Blank b        == a block in which nothing stands
 -- Begin g guess v            == the candidate v + 1 at (g, guess), if v is less than `nothing`
 -- Begins guess P D           == a copy that begins in a state g with P: the candidate at (g, guess) is the number of g, and 1 more
 -- WorkOn m list b d b′ d′    == what works for b and its marks works for b′ and its marks
@@ -11,7 +12,7 @@
 use Prim.Native.Nat.{ℕ, _+_, _*_, _≤_, _<_}
 use mathlib.Core.Path.{_≡_}
 use mathlib.Core.List.{List}
-use lib.ListN.{length, getD}
+use lib.ListN.{length, getD, replicate}
 use Rattle.stateset.specs.Set.{In}
 use Rattle.fsbm.specs.declared.machine.Machine.{Machine}
 use Rattle.pieces.specs.Blocks.{nothing, cell, costOf, Settles}
@@ -30,6 +31,13 @@ pub record Cleared (n : ℕ) (b b′ : List ℕ) : Type 0 where
 
 abbrev pub Past : Machine → List ℕ → Type 0
 Past m b = (s t : ℕ) → m .states ≤ s → nothing ≤ cell b s t
+
+unfoldable pub blankBlock : List ℕ
+blankBlock = replicate 4096 nothing
+
+pub record Blank (b : List ℕ) : Type 0 where
+  pub size : length b ≡ 4096
+  pub past : (m : Machine) → Past m b
 
 pub record Begin (g guess v s t v′ : ℕ) : Type 0 where
   pub known : v < nothing

@@ -9,7 +9,7 @@ ghost use Rattle.stateset.specs.Set.{In};
 ghost use Rattle.fsbm.specs.Machine.{buffering};
 ghost use Rattle.blocks.specs.Numbers.{Sized, Lowers};
 ghost use Rattle.blocks.specs.Works.{Kind, Ready};
-ghost use Rattle.blocks.specs.Settling.{Scanned, Cleared, Past, Begin, Begins, Worked, Block};
+ghost use Rattle.blocks.specs.Settling.{Scanned, Cleared, Past, Blank, Begin, Begins, Worked, Block};
 use crate::numbers;
 use crate::row;
 use fsbm::machine::Machine;
@@ -114,6 +114,13 @@ pub fn zeros() -> [u64; 64]
     ensures { λ r. ⌜ length r ≡ 64 ⌝ }
 {
     [0; 64]
+}
+
+// A block in which nothing stands.
+pub fn no_block() -> [u64; 4096]
+    ensures { λ r. ⌜ Blank r ⌝ }
+{
+    [NONE; 4096]
 }
 
 // The block of the guess, for copies that begin in a buffering state of the set; costs has the least weights at which they begin. g has

@@ -8,6 +8,7 @@
 -- take-less           == then the measure of the loop has fallen
 -- work-end, work-done == no row has a mark: the numbers are settled
 -- clear-start, clear-more, clear-end == the loop that clears a block
+-- blank-is            == a block with `nothing` everywhere
 -- begin-not, begin-is == a copy that begins in a state without a number, and in one that has one
 -- begins-start, begins-more, begins-end == the loop over the states where a copy begins
 -- begun-works         == a cleared block with the first numbers of its copies is a block that is computed
@@ -19,7 +20,7 @@ use mathlib.Core.Bool.{true}
 use mathlib.Core.List.{List}
 use native.Mathlib.Omega.{arith}
 use native.Mathlib.Decide.{decLt, ℕ-discrete}
-use lib.ListN.{length, getD, set, length-set}
+use lib.ListN.{length, getD, set, length-set, replicate, length-replicate, getD-replicate}
 use lib.Seq.{getD-set-same, getD-set-other}
 use lib.Count.{ones}
 use Rattle.graphs.specs.Cost.{Route, stop, via, ToGoal, Settled}
@@ -38,7 +39,7 @@ use Rattle.blocks.specs.Numbers.{Marked, Sized, Steps, Lowers, One, tota
 use Rattle.blocks.specs.Numbers.Laws.{Left, Rest, Taken, left-start, left-more, left-end, lowers-none, lowers-then, lowers-as, marked-set}
 use Rattle.blocks.specs.Works.{Kind, Works, Waiting, Busy, RowDone}
 use Rattle.blocks.specs.Works.Laws.{block-inside, block-outside, Edges, works-lowers}
-use Rattle.blocks.specs.Settling.{Scanned, Cleared, Past, Begin, Begins, WorkOn, Worked, Block}
+use Rattle.blocks.specs.Settling.{Scanned, Cleared, Past, blankBlock, Blank, Begin, Begins, WorkOn, Worked, Block}
 
 -- The next row
 
@@ -173,6 +174,18 @@ blank m {b} {b′} past f s t = on (decLt s 64) (decLt t 64) (decLt s (m .states
         omega arith
     on (no k) l i = let z = cell-past b′ s t (inl (omega arith)) in omega arith
     on (yes k) (no l) i = let z = cell-past b′ s t (inr (omega arith)) in omega arith
+
+pub blank-is : (b : List ℕ) → b ≡ blankBlock → Blank b
+unfolding blankBlock
+blank-is b e = rw e (record { size = length-replicate {A = ℕ} 4096 nothing; past = λ m s t le. on s t (decLt s 64) (decLt t 64) })
+  where
+    on : (s t : ℕ) → Dec (s < 64) → Dec (t < 64) → nothing ≤ cell (replicate 4096 nothing) s t
+    on s t (yes k) (yes l) =
+        let z = cell-inside (replicate 4096 nothing) s t k l in
+        let y = getD-replicate 4096 (s * 64 + t) nothing 0 (omega arith) in
+        omega arith
+    on s t (no k) l = let z = cell-past (replicate 4096 nothing) s t (inl (omega arith)) in omega arith
+    on s t (yes k) (no l) = let z = cell-past (replicate 4096 nothing) s t (inr (omega arith)) in omega arith
 
 -- Copies begin
 

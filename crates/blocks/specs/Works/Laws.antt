@@ -9,9 +9,10 @@
 -- moved-none, moved-letter == the ways through `moved`
 -- row-leaves, row-done == which transitions a row goes through, and the row's end
 -- storable-held, storable-free == the ways through `storable`
+-- kind-buffering, kind-matching, ready-of == the sets of states by their marks, as crate images makes them
 -- on-none, on-then    == no transition; one lot of transitions after the other
 -- so-done             == the row after its last transition
-use Prim.Native.Nat.{ℕ, zero, suc, _+_, _*_, _≤_, _<_}
+use Prim.Native.Nat.{ℕ, zero, suc, _+_, _*_, _/_, _%_, _≤_, _<_}
 use mathlib.Core.Path.{_≡_, refl, sym, ap, _∙_, subst}
 use mathlib.Core.Logic.{_⊎_, inl, inr, _↔_}
 use mathlib.Core.Bool.{Bool, true, false}
@@ -19,16 +20,18 @@ use mathlib.Core.List.{List}
 use native.Mathlib.Omega.{arith}
 use native.Mathlib.Decide.{decLt, ℕ-discrete}
 use lib.ListN.{length, getD}
-use borrow.Author.Tests.{eqb-false}
+use borrow.Author.Tests.{eqb-false, eqb-true, eq-eqb}
 use Rattle.graphs.specs.Working.{Working}
 use Rattle.graphs.specs.Working.Laws.{working-lowers, working-looked}
 use Rattle.stateset.specs.Set.{width, digit, In, has, SetIs}
 use Rattle.stateset.specs.Set.Laws.{in?, has-in, empty-in}
-use Rattle.fsbm.specs.Machine.{wellFormed, buffering, matching, transitionAt}
-use Rattle.fsbm.specs.Rules.{rules, matching-below}
+use Rattle.fsbm.specs.Machine.{wellFormed, markOf, buffering, matching, transitionAt}
+use Rattle.fsbm.specs.Rules.{rules, buffering-below, matching-below}
 use Rattle.fsbm.specs.Published.{Listed, fsbmOf}
 use Rattle.fsbm.specs.declared.machine.Machine.{Machine}
 use Rattle.adjacency.specs.Index.Laws.{Sorted, sorted}
+use Rattle.images.specs.Graph.{KindsOf}
+use Rattle.images.specs.declared.Kinds.{Kinds}
 use Rattle.pieces.specs.Pairs.{unit, halves, Pair, both, PairMove, stores-none, matches-none, letter}
 use Rattle.pieces.specs.Blocks.{nothing, cell, costOf, Node, outside, inside, BlockEdge, begins, goes-on, blockOf}
 use Rattle.blocks.specs.Numbers.{Marked, Steps, Lowers, Put, Spread}
@@ -422,3 +425,19 @@ module _ (m : Machine) (g h s : ℕ) (buffers : Kind (buffering (m .marks)) g) (
         only = λ q j. (λ n. is .members q .0 j .1 (buffers q .1 n), λ n. eqb-false (digit h s) 1 e (matches s .1 (n .0)));
         all = λ q l f n. is .members q .1 (whole .members q .1 (l, l), λ j. f (buffers q .0 j));
       }
+
+-- The sets of states by their marks
+
+module _ (m : Machine) (list : List ℕ) (good : wellFormed m list ≡ true) (k : Kinds) (is : KindsOf (m .marks) (m .states) k) where
+  pub kind-buffering : Kind (buffering (m .marks)) (k .buffering)
+  kind-buffering q =
+      (λ i. eq-eqb (markOf (m .marks) q / 4 % 2) 1 (is .buffering .members q .0 i .1),
+        λ e. is .buffering .members q .1 (buffering-below m list (rules m list good) q e, eqb-true (markOf (m .marks) q / 4 % 2) 1 e))
+
+  pub kind-matching : Kind (matching (m .marks)) (k .matching)
+  kind-matching q =
+      (λ i. eq-eqb (markOf (m .marks) q / 8 % 2) 1 (is .matching .members q .0 i .1),
+        λ e. is .matching .members q .1 (matching-below m list (rules m list good) q e, eqb-true (markOf (m .marks) q / 8 % 2) 1 e))
+
+  pub ready-of : (index : List ℕ) → Stretches m list index → Ready m list index (k .matching)
+  ready-of index starts = record { good = good; starts = starts; matches = kind-matching }
