@@ -1,6 +1,7 @@
 -- The turns of the search for the least weights from a start (crate pieces, Rounds). The laws stand in specs/Turns/Laws.antt.
 --
 -- Entered m list ends       == the matching states that some transition from another kind of state enters: storing can end in no others
+-- EnteredBelow, EnteredBy   == the same for the first transitions of a list, and for one of them
 -- RoundsOf m list Fresh Started d == Rounds of a machine and its list, with the numbers of a list
 -- NormalSo ..               == a turn of normal moves, not yet done: the states that were taken from `fresh` are in `started`
 -- NormalTurn m list d fresh d′ started == a turn of normal moves: none waits any more; the states that were lowered are in `started`
@@ -8,19 +9,20 @@
 -- Bound m list set d P z v  == the same, less than `nothing`, for a copy with a guess of P
 -- Guessed m list h guess set d got d′ got′ b == a block and the numbers lowered by it
 -- CopyTurn m list started set d d′ fresh == a turn of copies from the states of the set
+-- firstOf b                 == 0 where b is true, else `nothing`
 -- First initial d           == 0 at the initial states, `nothing` elsewhere
 -- Costs m list d            == the least weights from a start
 use Prim.Native.Nat.{ℕ, _+_, _*_, _^_, _≤_, _<_}
 use mathlib.Core.Path.{_≡_}
 use mathlib.Core.Logic.{_⊎_}
-use mathlib.Core.Bool.{true}
+use mathlib.Core.Bool.{Bool, true, false}
 use mathlib.Core.List.{List}
 use lib.ListN.{length, getD}
 use lib.Count.{ones}
 use Rattle.graphs.specs.Cost.{Route, Settled}
 use Rattle.graphs.specs.Back.{Back}
 use Rattle.stateset.specs.Set.{width, In}
-use Rattle.fsbm.specs.Machine.{buffering, matching}
+use Rattle.fsbm.specs.Machine.{transitionAt, buffering, matching}
 use Rattle.fsbm.specs.Published.{Listed, fsbmOf}
 use Rattle.fsbm.specs.declared.machine.Machine.{Machine}
 use Rattle.pieces.specs.Pairs.{Pair, both, PairMove, Piece}
@@ -35,6 +37,19 @@ pub record Entered (m : Machine) (list : List ℕ) (ends : ℕ) : Type 0 where
   pub fits : ends < 2 ^ width
   pub all : (p a q : ℕ) → Listed list (m .transitions) p a q → matching (m .marks) q ≡ true → (matching (m .marks) p ≡ true → ⊥) → In ends q
   pub only : (q : ℕ) → In ends q → matching (m .marks) q ≡ true
+
+-- those that the first n transitions enter
+pub record EnteredBelow (m : Machine) (list : List ℕ) (n ends : ℕ) : Type 0 where
+  pub fits : ends < 2 ^ width
+  pub all : (k : ℕ) → k < n → matching (m .marks) (transitionAt list k .to) ≡ true → (matching (m .marks) (transitionAt list k .from) ≡ true → ⊥) → In ends (transitionAt list k .to)
+  pub only : (q : ℕ) → In ends q → matching (m .marks) q ≡ true
+
+-- a set with the one that transition k enters, where there is one
+pub record EnteredBy (list : List ℕ) (k h set r : ℕ) : Type 0 where
+  pub fits : r < 2 ^ width
+  pub stays : (q : ℕ) → In set q → In r q
+  pub this : In h (transitionAt list k .to) → (In h (transitionAt list k .from) → ⊥) → In r (transitionAt list k .to)
+  pub only : (q : ℕ) → In r q → In set q ⊎ In h q
 
 abbrev pub RoundsOf : Machine → List ℕ → (ℕ → Type 0) → (ℕ → Type 0) → List ℕ → Type 0
 RoundsOf m list Fresh Started d = Rounds (fsbmOf m list) nothing Fresh Started (costOf d)
@@ -80,6 +95,10 @@ pub record CopyTurn (m : Machine) (list : List ℕ) (set : ℕ) (d d′ : List �
   pub size : length d′ ≡ length d
   pub rounds : (started : ℕ) → ((q : ℕ) → In started q → buffering (m .marks) q ≡ true → In set q) → RoundsOf m list (λ q. ⊥) (In started) d → RoundsOf m list (In fresh) (In fresh) d′
   pub less : 3 * total d′ + 2 * ones fresh ≤ 3 * total d
+
+unfoldable pub firstOf : Bool → ℕ
+firstOf true = 0
+firstOf false = nothing
 
 pub record First (initial : ℕ) (d : List ℕ) : Type 0 where
   pub size : length d ≡ 64

@@ -1,7 +1,7 @@
 -- The laws of specs/Falls.antt.
 --
 -- cost-set-same, cost-set-other == the numbers after one is replaced
--- falls-none, falls-then, falls-as == nothing lowered; one lot after the other; in other words
+-- falls-none, falls-then, falls-as, falls-under == nothing lowered; one lot after the other; in other words; by the numbers themselves
 -- fall-not, fall-is     == one number, which is not less, or is
 -- weigh-none, weigh-letter == the weight of a move by epsilon, and by a letter
 -- step-not, step-is     == one transition, which is not allowed, or is
@@ -106,6 +106,11 @@ falls-as {Made} {Bound} {Made′} there back {d} {d′} f =
     on : (q : ℕ) → (costOf d′ q ≡ costOf d q) ⊎ Made q (costOf d′ q) → (costOf d′ q ≡ costOf d q) ⊎ Made′ q (costOf d′ q)
     on q (inl e) = inl e
     on q (inr c) = inr (there q (costOf d′ q) c)
+
+-- what was lowered bounds each number that is no less
+pub falls-under : {Made Bound : ℕ → ℕ → Type 0} {d d′ : List ℕ} {got got′ : ℕ} → Falls Made Bound d got d′ got′ → Falls Made (λ q v. costOf d′ q ≤ v) d got d′ got′
+falls-under f =
+    record { size = f .size; fits = f .fits; down = f .down; stays = f .stays; changed = f .changed; less = f .less; origin = f .origin; settled = λ q v c. c }
 
 -- One number
 
