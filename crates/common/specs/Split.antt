@@ -2,9 +2,12 @@
 --
 -- Splits m₁ l₁ m₂ l₂ list es a b == es are entries on the product's list; a has the first machine's entries and b the second's: a change of mode
 --                         stays as it is and belongs to the first alone, as does a transition by epsilon; a transition by a letter is one of each
-use Prim.Native.Nat.{ℕ, _/_, _%_, _≤_, _<_}
+-- isLetter list e, lettersIn list es == entry e is a transition by a letter; how many of the entries es are
+use Prim.Native.Nat.{ℕ, _+_, _/_, _%_, _≤_, _<_}
 use mathlib.Core.Path.{_≡_}
+use mathlib.Core.Bool.{Bool, cond, not, _&&_}
 use mathlib.Core.List.{List, [], _∷_}
+use lib.Dec.{ltb, eqb}
 use Rattle.fsbm.specs.Machine.{transitionAt}
 use Rattle.fsbm.specs.Moves.{beginBuffering}
 use Rattle.fsbm.specs.declared.machine.Machine.{Machine}
@@ -22,3 +25,10 @@ pub data Splits (m₁ : Machine) (l₁ : List ℕ) (m₂ : Machine) (l₂ : List
       → Takes m₁ l₁ d (transitionAt list e .from / m₂ .states) (transitionAt list e .letter) (transitionAt list e .to / m₂ .states)
       → Takes m₂ l₂ c (transitionAt list e .from % m₂ .states) (transitionAt list e .letter) (transitionAt list e .to % m₂ .states)
       → Splits m₁ l₁ m₂ l₂ list es a b → Splits m₁ l₁ m₂ l₂ list (e ∷ es) (d ∷ a) (c ∷ b)
+
+abbrev pub isLetter : List ℕ → ℕ → Bool
+isLetter list e = ltb e beginBuffering && not (eqb (transitionAt list e .letter) 0)
+
+unfoldable pub lettersIn : List ℕ → List ℕ → ℕ
+lettersIn list [] = 0
+lettersIn list (e ∷ es) = cond (isLetter list e) 1 0 + lettersIn list es

@@ -1,17 +1,16 @@
 -- The laws of specs/Split.antt.
 --
 -- leads-split          == a written run of the product, taken apart, leads in the first machine and in the second
--- lettersIn list es    == how many of the entries es are transitions by a letter
--- leads-letters        == in a written run they are as many as the letters that it reads
+-- leads-letters        == in a written run there are as many transitions by a letter as it reads letters
 -- split-accepts        == from an initial to a final state the two are accepting runs of what the product's run reads
 use Prim.Native.Nat.{ℕ, zero, suc, _+_, _*_, _/_, _%_, _≤_, _<_}
 use mathlib.Core.Path.{_≡_, refl, sym, ap, _∙_, subst, subst₂}
 use mathlib.Core.Logic.{_⊎_, inl, inr}
-use mathlib.Core.Bool.{Bool, true, cond, _&&_}
+use mathlib.Core.Bool.{Bool, true, cond, not, _&&_}
 use mathlib.Core.List.{List, [], _∷_, _++_, append-assoc}
 use native.Mathlib.Omega.{arith}
 use lib.ListN.{length, length-append}
-use lib.Dec.{ltb}
+use lib.Dec.{ltb, eqb, eqb·suc-zero}
 use borrow.Author.Tests.{lt-ltb}
 use native.Mathlib.Nat.{mod-lt, div-lt-iff-lt-mul, div-add-mod'}
 use Rattle.graphs.specs.Search.Laws.{and-true, not-both}
@@ -26,7 +25,7 @@ use Rattle.product.specs.WellFormed.{initial-joined, final-joined, buffering-jo
 use Rattle.product.specs.Common.{Split, listed-split}
 use Rattle.pieces.specs.Written.{Takes, StoresBy, stored, store, MatchesBy, matched, match, LeadsBy, ended, read, copy}
 use Rattle.pieces.specs.Written.Laws.{takes-listed, written-accepts}
-use Rattle.common.specs.Split.{Splits, nothing-left, change, alone, moves}
+use Rattle.common.specs.Split.{isLetter, lettersIn, Splits, nothing-left, change, alone, moves}
 
 module _ (m₁ : Machine) (l₁ : List ℕ) (m₂ : Machine) (l₂ : List ℕ) (list : List ℕ) where
   -- what was put in front of the rest
@@ -95,13 +94,9 @@ module _ (m₁ : Machine) (l₁ : List ℕ) (m₂ : Machine) (l₂ : List ℕ) (
 
 -- The letters of a written run
 
--- how many letters the entry e reads
-unfoldable pub lettersAt : List ℕ → ℕ → ℕ
-lettersAt list e = cond (ltb e beginBuffering) (length (symbol (transitionAt list e .letter))) 0
-
-unfoldable pub lettersIn : List ℕ → List ℕ → ℕ
-lettersIn list [] = 0
-lettersIn list (e ∷ es) = lettersAt list e + lettersIn list es
+one-letter : (x : ℕ) → cond (not (eqb x 0)) 1 0 ≡ length (symbol x)
+one-letter zero = refl
+one-letter (suc x) = ap (λ (b : Bool). cond (not b) 1 0) (eqb·suc-zero x)
 
 module _ (m : Machine) (list : List ℕ) (few : m .transitions ≤ beginBuffering) where
   letters-append : (es ds : List ℕ) → lettersIn list (es ++ ds) ≡ lettersIn list es + lettersIn list ds
@@ -109,11 +104,10 @@ module _ (m : Machine) (list : List ℕ) (few : m .transitions ≤ beginBufferin
   letters-append [] ds = omega arith
   letters-append (e ∷ es) ds = let l = letters-append es ds in omega arith
 
-  taken-letters : {e p a q : ℕ} → Takes m list e p a q → lettersAt list e ≡ length (symbol a)
-  unfolding lettersAt
-  taken-letters {e} t =
-      ap (λ (b : Bool). cond b (length (symbol (transitionAt list e .letter))) 0) (lt-ltb e beginBuffering (omega (arith, t .listed)))
-      ∙ ap (λ (x : ℕ). length (symbol x)) (t .letter)
+  taken-letters : {e p a q : ℕ} → Takes m list e p a q → cond (isLetter list e) 1 0 ≡ length (symbol a)
+  taken-letters {e} {a = a} t =
+      ap (λ (b : Bool). cond (b && not (eqb (transitionAt list e .letter) 0)) 1 0) (lt-ltb e beginBuffering (omega (arith, t .listed)))
+      ∙ (ap (λ (x : ℕ). cond (not (eqb x 0)) 1 0) (t .letter) ∙ one-letter a)
 
   stores-letters : {s h : ℕ} {x es : List ℕ} → StoresBy m list s x es h → lettersIn list es ≡ length x
   unfolding lettersIn
@@ -126,7 +120,7 @@ module _ (m : Machine) (list : List ℕ) (few : m .transitions ≤ beginBufferin
   matches-letters (match {a = a} {x = x} t from to p) = let l = matches-letters p in let k = taken-letters t in let s = length-append (symbol a) x in omega arith
 
   pub leads-letters : {q f : ℕ} {w es : List ℕ} → LeadsBy m list q w es f → lettersIn list es ≡ length w
-  unfolding lettersIn lettersAt
+  unfolding lettersIn
   leads-letters ended = refl
   leads-letters (read {a = a} {w = w} t none n p) = let l = leads-letters p in let k = taken-letters t in let s = length-append (symbol a) w in omega arith
   leads-letters (copy {x = x} {w = w} {es = es} {ds = ds} {rest = left} g s h d z p) =

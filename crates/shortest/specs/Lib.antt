@@ -1,0 +1,5 @@
+pub mod Copy
+pub mod Find
+pub mod Into
+pub mod Put
+pub mod Write
