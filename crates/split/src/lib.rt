@@ -1,0 +1,2 @@
+// A run of the product is taken apart into runs of its two machines.
+pub mod lookup;
