@@ -5,4 +5,3 @@
 //
 // The functions ask what a public call above them has tested: they are seams between crates.
 pub mod lookup;
-pub mod split;

@@ -1,55 +1,51 @@
 -- The laws of specs/Lookup.antt. Assumes nothing.
 --
--- table-rising     == the list of a well-formed machine is rising
 -- between-start    == a listed triple stands below the count
 -- between-below    == it stands before a transition with a greater number
 -- between-above    == it does not stand before a transition with a number that is not greater
 -- between-end      == where one place is left, it stands there
 use Prim.Native.Nat.{ℕ, _+_, _*_, _-_, _≤_, _<_}
 use mathlib.Core.Path.{_≡_, refl, sym, ap, _∙_, subst}
-use mathlib.Core.Bool.{true}
 use mathlib.Core.List.{List}
 use native.Mathlib.Omega.{arith}
 use native.Mathlib.Decide.{decLt, ℕ-discrete}
-use Rattle.fsbm.specs.Machine.{transitionAt, wellFormed}
+use Rattle.fsbm.specs.Machine.{transitionAt}
 use Rattle.fsbm.specs.Published.{Listed}
 use Rattle.fsbm.specs.declared.machine.Machine.{Machine}
-use Rattle.product.specs.Tables.{order, Table, table}
-use Rattle.split.specs.Lookup.{keyOf, Rising, Numbered, Between}
+use Rattle.product.specs.Tables.{order, Table}
+use Rattle.pieces.specs.Written.{Takes}
+use Rattle.split.specs.Lookup.{keyOf, Between}
 
-pub table-rising : (m : Machine) (list : List ℕ) → wellFormed m list ≡ true → Rising list (m .transitions)
-table-rising m list h = let t = table m list h in record { few = t .transitions-fit; rises = t .rising }
-
-module _ (list : List ℕ) (n p x q : ℕ) where
-  pub between-start : Listed list n p x q → Between list n p x q 0 n
+module _ (m : Machine) (list : List ℕ) (p x q : ℕ) where
+  pub between-start : Listed list (m .transitions) p x q → Between list (m .transitions) p x q 0 (m .transitions)
   between-start d = record { number = d .number; low = omega arith; high = d .listed; within = omega arith; from = d .from; letter = d .letter; to = d .to }
 
-  module _ (r : Rising list n) (lo hi : ℕ) (b : Between list n p x q lo hi) where
+  module _ (r : Table m list) (lo hi : ℕ) (b : Between list (m .transitions) p x q lo hi) where
     key-there : order (transitionAt list (b .number)) ≡ keyOf p x q
     key-there = let f = b .from in let l = b .letter in let t = b .to in omega arith
 
-    pub between-below : (mid : ℕ) → mid < hi → keyOf p x q < order (transitionAt list mid) → Between list n p x q lo mid
+    pub between-below : (mid : ℕ) → mid < hi → keyOf p x q < order (transitionAt list mid) → Between list (m .transitions) p x q lo mid
     between-below mid inside less =
         record { number = b .number; low = b .low; high = at (decLt (b .number) mid) (ℕ-discrete mid (b .number)); within = omega (arith, b .within); from = b .from; letter = b .letter; to = b .to }
       where
         at : Dec (b .number < mid) → Dec (mid ≡ b .number) → b .number < mid
         at (yes l) d = l
         at (no f) (yes e) = let k = key-there in let s = ap (λ (z : ℕ). order (transitionAt list z)) e in absurd (omega arith)
-        at (no f) (no d) = let k = key-there in let h = b .high in let w = b .within in let s = r .rises mid (b .number) (omega arith) (omega arith) in absurd (omega arith)
+        at (no f) (no d) = let k = key-there in let h = b .high in let w = b .within in let s = r .rising mid (b .number) (omega arith) (omega arith) in absurd (omega arith)
 
-    pub between-above : (mid : ℕ) → mid < hi → order (transitionAt list mid) ≤ keyOf p x q → Between list n p x q mid hi
+    pub between-above : (mid : ℕ) → mid < hi → order (transitionAt list mid) ≤ keyOf p x q → Between list (m .transitions) p x q mid hi
     between-above mid inside most =
         record { number = b .number; low = at (decLt (b .number) mid); high = b .high; within = b .within; from = b .from; letter = b .letter; to = b .to }
       where
         at : Dec (b .number < mid) → mid ≤ b .number
-        at (yes l) = let k = key-there in let w = b .within in let s = r .rises (b .number) mid l (omega arith) in absurd (omega arith)
+        at (yes l) = let k = key-there in let w = b .within in let s = r .rising (b .number) mid l (omega arith) in absurd (omega arith)
         at (no f) = omega arith
 
-    pub between-end : hi - lo ≤ 1 → Numbered list n lo p x q
+    pub between-end : hi - lo ≤ 1 → Takes m list lo p x q
     between-end one =
         let here : b .number ≡ lo = let l = b .low in let h = b .high in omega arith in
         record {
-          below = let h = b .high in let w = b .within in omega arith;
+          listed = let h = b .high in let w = b .within in omega arith;
           from = ap (λ (z : ℕ). transitionAt list z .from) (sym here) ∙ b .from;
           letter = ap (λ (z : ℕ). transitionAt list z .letter) (sym here) ∙ b .letter;
           to = ap (λ (z : ℕ). transitionAt list z .to) (sym here) ∙ b .to;

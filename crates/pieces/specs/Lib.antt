@@ -1,0 +1,5 @@
+pub mod Blocks
+pub mod Pairs
+pub mod Pieces
+pub mod Rounds
+pub mod Written
