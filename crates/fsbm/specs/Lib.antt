@@ -1,5 +1,6 @@
 pub mod Accepted
 pub mod Answers
+pub mod Entries
 pub mod Machine
 pub mod Moves
 pub mod Published

@@ -1,15 +1,22 @@
 -- The moves of document 01 and the published definition agree: move by move, and run by run.
 --
 -- published w c          == the published configuration of c: the rest of the word, the state, the buffer as a string, the mode
--- MovesTo m list w c D   == some entry takes c to a configuration whose published one is D
--- move-yields            == an allowed move is a published one
--- yields-move            == a published move from such a configuration is the move of some entry
--- run-path               == a published run is a path of some number of moves
--- path-run               == such a path of n moves from a start to an end is an accepting run of n + 1 entries, each below 65536
+-- Named m list e D D′    == a published move from D to D′ that entry e names
+-- MovesBy m list w c e D == entry e takes c to a configuration whose published one is D
+-- move-yields            == an allowed move is a published one that its entry names
+-- yields-move            == a published move from such a configuration is the move of the entry that names it
+-- run-path, path-run     == a published run is a path of as many moves as it has entries, and a path is a run
+-- entries-below          == the entries of a published run are below 65536
+-- accepting-written      == an accepting run is a written run: a start state and the entries of a published accepting run from it
+-- written-accepting      == a written run of a well-formed machine accepts
+-- accepting-iff-written  == so for such a machine `accepting` holds of a list of numbers exactly if it is a written run of the word
+-- accepting-path         == an accepting run of n + 1 entries is a path of n moves from a start to an end
+-- path-accepting         == the entries of such a path are an accepting run, each below 65536
 -- accepting-published    == a word with an accepting run is in the published language
 -- published-accepting    == a word in the published language of a well-formed machine has an accepting run of entries below 65536
 use Prim.Native.Nat.{ℕ, zero, suc, _-_, _≤_, _<_}
 use mathlib.Core.Path.{_≡_, refl, sym, ap, _∙_, subst, subst₂}
+use mathlib.Core.Logic.{_↔_}
 use mathlib.Core.Bool.{Bool, true, false, cond, not, _&&_, false≢true}
 use mathlib.Core.List.{List, [], _∷_, _++_}
 use native.Mathlib.Omega.{arith}
@@ -24,6 +31,7 @@ use Rattle.fsbm.specs.Machine.{wellFormed, transitionAt, initial, final, buffer
 use Rattle.fsbm.specs.Moves.{wellPlaced, readsLetter, advanced, goes, takes, changes, move, startAt, isNormal, accepts, acceptingFrom, accepting, beginBuffering, beginEmptying, backToNormal}
 use Rattle.fsbm.specs.Moves.Laws.{start-placed, move-stays}
 use Rattle.fsbm.specs.Published.{FSBM, Listed, fsbmOf, Configuration, config, symbol, Yields, normal, buffer, empty, begin-buffering, begin-emptying, back-to-normal, Run, done, InLanguage}
+use Rattle.fsbm.specs.Entries.{entryOf, entriesOf, WrittenRun}
 use Rattle.fsbm.specs.declared.machine.Machine.{Machine}
 use Rattle.fsbm.specs.declared.machine.Transition.{Transition}
 use Rattle.fsbm.specs.declared.config.Config.{Config}
@@ -42,86 +50,89 @@ same-config a b c d = λ i. record { input = a i; state = b i; buffer = c i; mod
 
 -- From moves to the published definition
 
--- a published move from c in mode t to the published configuration of c′
-abbrev Step : Machine → List ℕ → List ℕ → Config → Mode → Config → Type 0
-Step m list w c t c′ = Yields (fsbmOf m list) (config (drop (c .position) w) (c .state) (slice (c .start) (c .end) w) t) (published w c′)
+abbrev pub Named : Machine → List ℕ → ℕ → Configuration → Configuration → Type 0
+Named m list e D D′ = (y : Yields (fsbmOf m list) D D′) × (entryOf m list y ≡ e)
+
+-- a published move from c in mode t to the published configuration of c′, named by e
+abbrev Step : Machine → List ℕ → List ℕ → Config → Mode → ℕ → Config → Type 0
+Step m list w c t e c′ = Named m list e (config (drop (c .position) w) (c .state) (slice (c .start) (c .end) w) t) (published w c′)
 
 module _ (m : Machine) (list w : List ℕ) where
-  goes-step : (c : Config) (t : Mode) (ok : Bool) (next : Config) → (ok ≡ true → Step m list w c t next) → ok ≡ true → Step m list w c t (cond ok next c)
-  goes-step c t true next h e = h e
-  goes-step c t false next h e = absurd (false≢true e)
+  goes-step : (c : Config) (t : Mode) (e : ℕ) (ok : Bool) (next : Config) → (ok ≡ true → Step m list w c t e next) → ok ≡ true → Step m list w c t e (cond ok next c)
+  goes-step c t e true next h z = h z
+  goes-step c t e false next h z = absurd (false≢true z)
 
-  takes-step : (c : Config) (tr : Transition) (t : Mode) → Placed m w c t → Listed list (m .transitions) (tr .from) (tr .letter) (tr .to) → tr .from ≡ c .state
-      → takes (m .marks) w c tr t .allowed ≡ true → Step m list w c t (takes (m .marks) w c tr t .config)
-  unfolding takes
-  takes-step c tr Normal p δ same = goes-step c Normal _ _ step
+  takes-step : (c : Config) (tr : Transition) (t : Mode) → Placed m w c t → (δ : Listed list (m .transitions) (tr .from) (tr .letter) (tr .to)) → tr .from ≡ c .state
+      → takes (m .marks) w c tr t .allowed ≡ true → Step m list w c t (δ .number) (takes (m .marks) w c tr t .config)
+  unfolding takes entryOf
+  takes-step c tr Normal p δ same = goes-step c Normal (δ .number) _ _ step
     where
       step : (not (bothMatching (m .marks) tr) && (not (buffering (m .marks) (tr .from)) && readsLetter w (c .position) (length w) (tr .letter))) ≡ true
-          → Step m list w c Normal (record { position = advanced (c .position) (tr .letter); state = tr .to; mode = Normal; start = c .start; end = c .end })
+          → Step m list w c Normal (δ .number) (record { position = advanced (c .position) (tr .letter); state = tr .to; mode = Normal; start = c .start; end = c .end })
       step h =
           let (apart, r) = and-true (not (bothMatching (m .marks) tr)) (not (buffering (m .marks) (tr .from)) && readsLetter w (c .position) (length w) (tr .letter)) h in
           let (not-from, reads) = and-true (not (buffering (m .marks) (tr .from))) (readsLetter w (c .position) (length w) (tr .letter)) r in
           let none : slice (c .start) (c .end) w ≡ [] = ap (λ (n : ℕ). slice n (c .end) w) (eqb-true (c .start) (c .end) (p .fits)) ∙ slice-empty (c .end) w in
-          subst₂ (Yields (fsbmOf m list))
+          subst₂ (Named m list (δ .number))
           (same-config (sym (reads-drop w (c .position) (tr .letter) reads)) same (sym none) refl)
           (same-config refl refl (sym none) refl)
-          (normal δ (not-and-says (matching (m .marks) (tr .from)) (matching (m .marks) (tr .to)) apart) (not-says (buffering (m .marks) (tr .from)) not-from))
-  takes-step c tr Buffering p δ same = goes-step c Buffering _ _ step
+          (normal δ (not-and-says (matching (m .marks) (tr .from)) (matching (m .marks) (tr .to)) apart) (not-says (buffering (m .marks) (tr .from)) not-from), refl)
+  takes-step c tr Buffering p δ same = goes-step c Buffering (δ .number) _ _ step
     where
       step : (not (bothMatching (m .marks) tr) && (not (buffering (m .marks) (tr .to)) && readsLetter w (c .position) (length w) (tr .letter))) ≡ true
-          → Step m list w c Buffering (record { position = advanced (c .position) (tr .letter); state = tr .to; mode = Buffering; start = c .start; end = advanced (c .end) (tr .letter) })
+          → Step m list w c Buffering (δ .number) (record { position = advanced (c .position) (tr .letter); state = tr .to; mode = Buffering; start = c .start; end = advanced (c .end) (tr .letter) })
       step h =
           let (apart, r) = and-true (not (bothMatching (m .marks) tr)) (not (buffering (m .marks) (tr .to)) && readsLetter w (c .position) (length w) (tr .letter)) h in
           let (not-to, reads) = and-true (not (buffering (m .marks) (tr .to))) (readsLetter w (c .position) (length w) (tr .letter)) r in
           let ends : c .end ≡ c .position = eqb-true (c .end) (c .position) (p .fits) in
           let reads-end : readsLetter w (c .end) (length w) (tr .letter) ≡ true = subst (λ (n : ℕ). readsLetter w n (length w) (tr .letter) ≡ true) (sym ends) reads in
-          subst₂ (Yields (fsbmOf m list))
+          subst₂ (Named m list (δ .number))
           (same-config (sym (reads-drop w (c .position) (tr .letter) reads)) same refl refl)
           (same-config refl refl (sym (slice-grows w (c .start) (c .end) (tr .letter) (p .forward) reads-end)) refl)
-          (buffer δ (not-and-says (matching (m .marks) (tr .from)) (matching (m .marks) (tr .to)) apart) (not-says (buffering (m .marks) (tr .to)) not-to))
-  takes-step c tr Emptying p δ same = goes-step c Emptying _ _ step
+          (buffer δ (not-and-says (matching (m .marks) (tr .from)) (matching (m .marks) (tr .to)) apart) (not-says (buffering (m .marks) (tr .to)) not-to), refl)
+  takes-step c tr Emptying p δ same = goes-step c Emptying (δ .number) _ _ step
     where
       step : (bothMatching (m .marks) tr && (readsLetter w (c .position) (length w) (tr .letter) && readsLetter w (c .start) (c .end) (tr .letter))) ≡ true
-          → Step m list w c Emptying (record { position = advanced (c .position) (tr .letter); state = tr .to; mode = Emptying; start = advanced (c .start) (tr .letter); end = c .end })
+          → Step m list w c Emptying (δ .number) (record { position = advanced (c .position) (tr .letter); state = tr .to; mode = Emptying; start = advanced (c .start) (tr .letter); end = c .end })
       step h =
           let (both, r) = and-true (bothMatching (m .marks) tr) (readsLetter w (c .position) (length w) (tr .letter) && readsLetter w (c .start) (c .end) (tr .letter)) h in
           let (reads, matches) = and-true (readsLetter w (c .position) (length w) (tr .letter)) (readsLetter w (c .start) (c .end) (tr .letter)) r in
           let (from, to) = and-true (matching (m .marks) (tr .from)) (matching (m .marks) (tr .to)) both in
-          subst₂ (Yields (fsbmOf m list))
+          subst₂ (Named m list (δ .number))
           (same-config (sym (reads-drop w (c .position) (tr .letter) reads)) same
           (sym (reads-slice w (c .start) (c .end) (tr .letter) (omega (arith, p .behind, p .in-word)) matches)) refl)
           refl
-          (empty δ from to)
+          (empty δ from to, refl)
 
-  changes-step : (c : Config) (e : ℕ) (t : Mode) → changes (m .marks) c e t .allowed ≡ true → Step m list w c t (changes (m .marks) c e t .config)
-  unfolding changes
-  changes-step c e Normal = goes-step c Normal _ _ step
+  changes-step : (c : Config) (e : ℕ) (t : Mode) → changes (m .marks) c e t .allowed ≡ true → Step m list w c t e (changes (m .marks) c e t .config)
+  unfolding changes entryOf
+  changes-step c e Normal = goes-step c Normal e _ _ step
     where
       step : (eqb e beginBuffering && (buffering (m .marks) (c .state) && eqb (c .start) (c .end))) ≡ true
-          → Step m list w c Normal (record { position = c .position; state = c .state; mode = Buffering; start = c .position; end = c .position })
+          → Step m list w c Normal e (record { position = c .position; state = c .state; mode = Buffering; start = c .position; end = c .position })
       step h =
           let (entry, r) = and-true (eqb e beginBuffering) (buffering (m .marks) (c .state) && eqb (c .start) (c .end)) h in
           let (is, equal) = and-true (buffering (m .marks) (c .state)) (eqb (c .start) (c .end)) r in
           let none : slice (c .start) (c .end) w ≡ [] = ap (λ (n : ℕ). slice n (c .end) w) (eqb-true (c .start) (c .end) equal) ∙ slice-empty (c .end) w in
-          subst₂ (Yields (fsbmOf m list)) (same-config refl refl (sym none) refl) (same-config refl refl (sym (slice-empty (c .position) w)) refl) (begin-buffering is)
-  changes-step c e Buffering = goes-step c Buffering _ _ step
+          subst₂ (Named m list e) (same-config refl refl (sym none) refl) (same-config refl refl (sym (slice-empty (c .position) w)) refl) (begin-buffering is, sym (eqb-true e beginBuffering entry))
+  changes-step c e Buffering = goes-step c Buffering e _ _ step
     where
       step : (eqb e beginEmptying && matching (m .marks) (c .state)) ≡ true
-          → Step m list w c Buffering (record { position = c .position; state = c .state; mode = Emptying; start = c .start; end = c .end })
+          → Step m list w c Buffering e (record { position = c .position; state = c .state; mode = Emptying; start = c .start; end = c .end })
       step h =
           let (entry, is) = and-true (eqb e beginEmptying) (matching (m .marks) (c .state)) h in
-          begin-emptying is
-  changes-step c e Emptying = goes-step c Emptying _ _ step
+          (begin-emptying is, sym (eqb-true e beginEmptying entry))
+  changes-step c e Emptying = goes-step c Emptying e _ _ step
     where
       step : (eqb e backToNormal && (matching (m .marks) (c .state) && eqb (c .start) (c .end))) ≡ true
-          → Step m list w c Emptying (record { position = c .position; state = c .state; mode = Normal; start = c .start; end = c .end })
+          → Step m list w c Emptying e (record { position = c .position; state = c .state; mode = Normal; start = c .start; end = c .end })
       step h =
           let (entry, r) = and-true (eqb e backToNormal) (matching (m .marks) (c .state) && eqb (c .start) (c .end)) h in
           let (is, equal) = and-true (matching (m .marks) (c .state)) (eqb (c .start) (c .end)) r in
           let none : slice (c .start) (c .end) w ≡ [] = ap (λ (n : ℕ). slice n (c .end) w) (eqb-true (c .start) (c .end) equal) ∙ slice-empty (c .end) w in
-          subst₂ (Yields (fsbmOf m list)) (same-config refl refl (sym none) refl) (same-config refl refl (sym none) refl) (back-to-normal is)
+          subst₂ (Named m list e) (same-config refl refl (sym none) refl) (same-config refl refl (sym none) refl) (back-to-normal is, sym (eqb-true e backToNormal entry))
 
-  pub move-yields : (c : Config) (e : ℕ) → move m list w c e .allowed ≡ true → Yields (fsbmOf m list) (published w c) (published w (move m list w c e .config))
+  pub move-yields : (c : Config) (e : ℕ) → move m list w c e .allowed ≡ true → Named m list e (published w c) (published w (move m list w c e .config))
   unfolding move
   move-yields c e =
       cond-elim Good (wellPlaced (m .states) (length w) c) _ (goes false c c)
@@ -135,16 +146,13 @@ module _ (m : Machine) (list w : List ℕ) where
       (λ f h. absurd (false≢true h))
     where
       Good : Move → Type 0
-      Good v = v .allowed ≡ true → Step m list w c (c .mode) (v .config)
+      Good v = v .allowed ≡ true → Step m list w c (c .mode) e (v .config)
 
 -- From the published definition to moves
 
--- some entry takes c to the published configuration D
-pub record MovesTo (m : Machine) (list w : List ℕ) (c : Config) (D : Configuration) : Type 0 where
-  pub entry : ℕ
-  pub small : entry < 65536
-  pub allowed : move m list w c entry .allowed ≡ true
-  pub lands : published w (move m list w c entry .config) ≡ D
+pub record MovesBy (m : Machine) (list w : List ℕ) (c : Config) (e : ℕ) (D : Configuration) : Type 0 where
+  pub allowed : move m list w c e .allowed ≡ true
+  pub lands : published w (move m list w c e .config) ≡ D
 
 module _ (m : Machine) (list w : List ℕ) where
   move-takes : (c : Config) (k : ℕ) → wellPlaced (m .states) (length w) c ≡ true → k < m .transitions → transitionAt list k .from ≡ c .state
@@ -161,12 +169,10 @@ module _ (m : Machine) (list w : List ℕ) where
       let above = le-ltb e (m .transitions) ge in
       rw (p, above)
 
-  moves-by : (c : Config) (e : ℕ) (ok : Bool) (next : Config) {D : Configuration} → e < 65536 → move m list w c e ≡ goes ok next c → ok ≡ true → published w next ≡ D
-      → MovesTo m list w c D
-  moves-by c e ok next small is t lands =
+  moves-by : (c : Config) (e : ℕ) (ok : Bool) (next : Config) {D : Configuration} → move m list w c e ≡ goes ok next c → ok ≡ true → published w next ≡ D
+      → MovesBy m list w c e D
+  moves-by c e ok next is t lands =
       record {
-        entry = e;
-        small = small;
         allowed = ap (λ (v : Move). v .allowed) is ∙ t;
         lands = ap (λ (v : Move). published w (v .config)) is ∙ ap (λ (b : Bool). published w (cond b next c)) t ∙ lands;
       }
@@ -176,15 +182,15 @@ module _ (m : Machine) (list w : List ℕ) where
     at-end : {y z : ℕ} → y ≡ z → (test : List ℕ → ℕ → Bool) → test (m .marks) z ≡ true → test (m .marks) y ≡ true
     at-end e test h = subst (λ (n : ℕ). test (m .marks) n ≡ true) (sym e) h
 
-    yields-moves : {D D′ : Configuration} → Yields (fsbmOf m list) D D′ → (c : Config) → Placed m w c (c .mode) → published w c ≡ D → MovesTo m list w c D′
-    unfolding takes changes
+    yields-moves : {D D′ : Configuration} (y : Yields (fsbmOf m list) D D′) (c : Config) → Placed m w c (c .mode) → published w c ≡ D → MovesBy m list w c (entryOf m list y) D′
+    unfolding takes changes entryOf
     yields-moves (normal {p = p} {x = x} {q = q} {u = u} δ apart not-from) c pl e =
         let tr = transitionAt list (δ .number) in
         let mode : c .mode ≡ Normal = ap (λ (D : Configuration). D .mode) e in
         let state : tr .from ≡ c .state = δ .from ∙ sym (ap (λ (D : Configuration). D .state) e) in
         let input : drop (c .position) w ≡ symbol (tr .letter) ++ u = ap (λ (D : Configuration). D .input) e ∙ ap (λ (y : ℕ). symbol y ++ u) (sym (δ .letter)) in
         let (reads, rest) = drop-reads w (c .position) (tr .letter) u input in
-        moves-by c (δ .number) _ _ (omega (arith, r .transitions-fit, δ .listed))
+        moves-by c (δ .number) _ _
         (move-takes c (δ .number) (unplaced m w c pl) (δ .listed) state ∙ ap (takes (m .marks) w c tr) mode)
         (and-both-true (not (bothMatching (m .marks) tr)) (not (buffering (m .marks) (tr .from)) && readsLetter w (c .position) (length w) (tr .letter))
         (says-not-and (matching (m .marks) (tr .from)) (matching (m .marks) (tr .to)) (λ z. apart (at-end (sym (δ .from)) matching (z .0), at-end (sym (δ .to)) matching (z .1))))
@@ -200,7 +206,7 @@ module _ (m : Machine) (list w : List ℕ) where
         let pb : Placed m w c Buffering = subst (Placed m w c) mode pl in
         let ends : c .end ≡ c .position = eqb-true (c .end) (c .position) (pb .fits) in
         let reads-end : readsLetter w (c .end) (length w) (tr .letter) ≡ true = subst (λ (n : ℕ). readsLetter w n (length w) (tr .letter) ≡ true) (sym ends) reads in
-        moves-by c (δ .number) _ _ (omega (arith, r .transitions-fit, δ .listed))
+        moves-by c (δ .number) _ _
         (move-takes c (δ .number) (unplaced m w c pl) (δ .listed) state ∙ ap (takes (m .marks) w c tr) mode)
         (and-both-true (not (bothMatching (m .marks) tr)) (not (buffering (m .marks) (tr .to)) && readsLetter w (c .position) (length w) (tr .letter))
         (says-not-and (matching (m .marks) (tr .from)) (matching (m .marks) (tr .to)) (λ z. apart (at-end (sym (δ .from)) matching (z .0), at-end (sym (δ .to)) matching (z .1))))
@@ -217,7 +223,7 @@ module _ (m : Machine) (list w : List ℕ) where
         let stored : slice (c .start) (c .end) w ≡ symbol (tr .letter) ++ v = ap (λ (D : Configuration). D .buffer) e ∙ ap (λ (y : ℕ). symbol y ++ v) (sym (δ .letter)) in
         let (reads, rest) = drop-reads w (c .position) (tr .letter) u input in
         let (matches, left) = slice-reads w (c .start) (c .end) (tr .letter) v (omega (arith, pl .behind, pl .in-word)) stored in
-        moves-by c (δ .number) _ _ (omega (arith, r .transitions-fit, δ .listed))
+        moves-by c (δ .number) _ _
         (move-takes c (δ .number) (unplaced m w c pl) (δ .listed) state ∙ ap (takes (m .marks) w c tr) mode)
         (and-both-true (bothMatching (m .marks) tr) (readsLetter w (c .position) (length w) (tr .letter) && readsLetter w (c .start) (c .end) (tr .letter))
         (and-both-true (matching (m .marks) (tr .from)) (matching (m .marks) (tr .to)) (at-end (δ .from) matching from) (at-end (δ .to) matching to))
@@ -227,14 +233,14 @@ module _ (m : Machine) (list w : List ℕ) where
         let mode : c .mode ≡ Normal = ap (λ (D : Configuration). D .mode) e in
         let state : c .state ≡ q = ap (λ (D : Configuration). D .state) e in
         let equal : c .start ≡ c .end = slice-none w (c .start) (c .end) (pl .forward) (omega (arith, pl .behind, pl .in-word)) (ap (λ (D : Configuration). D .buffer) e) in
-        moves-by c beginBuffering _ _ (omega arith)
+        moves-by c beginBuffering _ _
         (move-changes c beginBuffering (unplaced m w c pl) (omega (arith, r .transitions-fit)) ∙ ap (changes (m .marks) c beginBuffering) mode)
         (and-both-true (buffering (m .marks) (c .state)) (eqb (c .start) (c .end)) (at-end state buffering is) (eq-eqb (c .start) (c .end) equal))
         (same-config (ap (λ (D : Configuration). D .input) e) state (slice-empty (c .position) w) refl)
     yields-moves (begin-emptying {q = q} {u = u} {v = v} is) c pl e =
         let mode : c .mode ≡ Buffering = ap (λ (D : Configuration). D .mode) e in
         let state : c .state ≡ q = ap (λ (D : Configuration). D .state) e in
-        moves-by c beginEmptying _ _ (omega arith)
+        moves-by c beginEmptying _ _
         (move-changes c beginEmptying (unplaced m w c pl) (omega (arith, r .transitions-fit)) ∙ ap (changes (m .marks) c beginEmptying) mode)
         (at-end state matching is)
         (same-config (ap (λ (D : Configuration). D .input) e) state (ap (λ (D : Configuration). D .buffer) e) refl)
@@ -242,13 +248,13 @@ module _ (m : Machine) (list w : List ℕ) where
         let mode : c .mode ≡ Emptying = ap (λ (D : Configuration). D .mode) e in
         let state : c .state ≡ q = ap (λ (D : Configuration). D .state) e in
         let equal : c .start ≡ c .end = slice-none w (c .start) (c .end) (pl .forward) (omega (arith, pl .behind, pl .in-word)) (ap (λ (D : Configuration). D .buffer) e) in
-        moves-by c backToNormal _ _ (omega arith)
+        moves-by c backToNormal _ _
         (move-changes c backToNormal (unplaced m w c pl) (omega (arith, r .transitions-fit)) ∙ ap (changes (m .marks) c backToNormal) mode)
         (and-both-true (matching (m .marks) (c .state)) (eqb (c .start) (c .end)) (at-end state matching is) (eq-eqb (c .start) (c .end) equal))
         (same-config (ap (λ (D : Configuration). D .input) e) state (ap (λ (D : Configuration). D .buffer) e) refl)
 
-  pub yields-move : wellFormed m list ≡ true → {D D′ : Configuration} → Yields (fsbmOf m list) D D′ → (c : Config) → wellPlaced (m .states) (length w) c ≡ true → published w c ≡ D
-      → MovesTo m list w c D′
+  pub yields-move : wellFormed m list ≡ true → {D D′ : Configuration} (y : Yields (fsbmOf m list) D D′) (c : Config) → wellPlaced (m .states) (length w) c ≡ true → published w c ≡ D
+      → MovesBy m list w c (entryOf m list y) D′
   yields-move good y c p e = yields-moves (rules m list good) y c (placed m w c p) e
 
 -- Whole runs
@@ -258,9 +264,30 @@ is-normal Normal h = refl
 is-normal Buffering h = absurd (false≢true h)
 is-normal Emptying h = absurd (false≢true h)
 
-pub run-path : {M : FSBM} {D D′ : Configuration} → Run M D D′ → (n : ℕ) × Path Configuration (Yields M) D D′ n
-run-path done = (zero, here)
-run-path (Run.more y r) = let (n, p) = run-path r in (suc n, step y p)
+module _ (m : Machine) (list : List ℕ) where
+  pub run-path : {D D′ : Configuration} (r : Run (fsbmOf m list) D D′) → Path Configuration (Yields (fsbmOf m list)) D D′ (length (entriesOf m list r))
+  unfolding entriesOf
+  run-path done = here
+  run-path (Run.more y r) = step y (run-path r)
+
+  pub path-run : {D D′ : Configuration} {n : ℕ} → Path Configuration (Yields (fsbmOf m list)) D D′ n → (r : Run (fsbmOf m list) D D′) × (length (entriesOf m list r) ≡ n)
+  unfolding entriesOf
+  path-run here = (done, refl)
+  path-run (step y p) = let (r, len) = path-run p in (Run.more y r, ap suc len)
+
+  entry-small : Rules m list → {D D′ : Configuration} (y : Yields (fsbmOf m list) D D′) → entryOf m list y < 65536
+  unfolding entryOf
+  entry-small r (normal δ apart not-from) = omega (arith, r .transitions-fit, δ .listed)
+  entry-small r (buffer δ apart not-to) = omega (arith, r .transitions-fit, δ .listed)
+  entry-small r (empty δ from to) = omega (arith, r .transitions-fit, δ .listed)
+  entry-small r (begin-buffering is) = omega arith
+  entry-small r (begin-emptying is) = omega arith
+  entry-small r (back-to-normal is) = omega arith
+
+  pub entries-below : Rules m list → {D D′ : Configuration} (s : Run (fsbmOf m list) D D′) → AllBelow 65536 (entriesOf m list s)
+  unfolding entriesOf
+  entries-below r done = none
+  entries-below r (Run.more y s) = more (entry-small r y) (entries-below r s)
 
 module _ (m : Machine) (list w : List ℕ) where
   accepts-published : (c : Config) → accepts (m .marks) (length w) c ≡ true → (final (m .marks) (c .state) ≡ true) × (published w c ≡ config [] (c .state) [] Normal)
@@ -287,53 +314,80 @@ module _ (m : Machine) (list w : List ℕ) where
       (ap isNormal (ap (λ (D : Configuration). D .mode) e))
       (and-both-true (eqb (c .start) (c .end)) (eqb (c .position) (length w)) (eq-eqb (c .start) (c .end) start) (eq-eqb (c .position) (length w) place)))
 
+  -- entries that lead to an accepting configuration are those of a published run
   entries-run : (c : Config) (es : List ℕ) → acceptingFrom m list w c es ≡ true
-      → (last : ℕ) × (final (m .marks) last ≡ true) × Run (fsbmOf m list) (published w c) (config [] last [] Normal)
-  unfolding acceptingFrom
+      → (last : ℕ) × (final (m .marks) last ≡ true) × ((s : Run (fsbmOf m list) (published w c) (config [] last [] Normal)) × (entriesOf m list s ≡ es))
+  unfolding acceptingFrom entriesOf
   entries-run c [] h =
       let (f, e) = accepts-published c h in
-      (c .state, f, subst (Run (fsbmOf m list) (published w c)) e done)
+      (c .state, f, subst (λ (D : Configuration). (s : Run (fsbmOf m list) (published w c) D) × (entriesOf m list s ≡ [])) e (done, refl))
   entries-run c (e ∷ es) h =
       let (a, rest) = and-true (move m list w c e .allowed) (acceptingFrom m list w (move m list w c e .config) es) h in
-      let (last, f, run) = entries-run (move m list w c e .config) es rest in
-      (last, f, Run.more (move-yields m list w c e a) run)
+      let (last, f, (s, written)) = entries-run (move m list w c e .config) es rest in
+      let (y, named) = move-yields m list w c e a in
+      (last, f, (Run.more y s, λ i. named i ∷ written i))
 
-  pub accepting-published : (run : List ℕ) → accepting m list w run ≡ true → InLanguage (fsbmOf m list) w
+  pub accepting-written : (run : List ℕ) → accepting m list w run ≡ true → WrittenRun m list w run
   unfolding accepting
-  accepting-published [] h = absurd (false≢true h)
-  accepting-published (q ∷ es) h =
+  accepting-written [] h = absurd (false≢true h)
+  accepting-written (q ∷ es) h =
       let (lt, r) = and-true (ltb q (m .states)) (initial (m .marks) q && acceptingFrom m list w (startAt q) es) h in
       let (i, a) = and-true (initial (m .marks) q) (acceptingFrom m list w (startAt q) es) r in
-      let (last, f, run) = entries-run (startAt q) es a in
-      record { first = q; last = last; first-initial = (ltb-true q (m .states) lt, i); last-final = f; run = run }
+      let (last, f, (s, written)) = entries-run (startAt q) es a in
+      record {
+        accepting-run = record { first = q; last = last; first-initial = (ltb-true q (m .states) lt, i); last-final = f; run = s };
+        written = ap (λ (l : List ℕ). q ∷ l) (sym written);
+      }
 
   module _ (r : Rules m list) where
-    path-entries : {D D′ : Configuration} {n : ℕ} → Path Configuration (Yields (fsbmOf m list)) D D′ n → (c : Config) → Placed m w c (c .mode) → published w c ≡ D
-        → (last : ℕ) → final (m .marks) last ≡ true → D′ ≡ config [] last [] Normal
-        → (es : List ℕ) × (length es ≡ n) × AllBelow 65536 es × (acceptingFrom m list w c es ≡ true)
-    unfolding acceptingFrom
-    path-entries here c pl e last f e′ = ([], refl, none, published-accepts c last pl f (e ∙ e′))
-    path-entries (step y p) c pl e last f e′ =
+    run-entries : {D D′ : Configuration} (s : Run (fsbmOf m list) D D′) (c : Config) → Placed m w c (c .mode) → published w c ≡ D
+        → (last : ℕ) → final (m .marks) last ≡ true → D′ ≡ config [] last [] Normal → acceptingFrom m list w c (entriesOf m list s) ≡ true
+    unfolding acceptingFrom entriesOf
+    run-entries done c pl e last f e′ = published-accepts c last pl f (e ∙ e′)
+    run-entries (Run.more y s) c pl e last f e′ =
         let v = yields-moves m list w r y c pl e in
-        let c′ = move m list w c (v .entry) .config in
-        let (es, len, below, a) = path-entries p c′ (move-stays m list w r c (v .entry) (v .allowed)) (v .lands) last f e′ in
-        (v .entry ∷ es, ap suc len, more (v .small) below, and-both-true (move m list w c (v .entry) .allowed) (acceptingFrom m list w c′ es) (v .allowed) a)
+        let c′ = move m list w c (entryOf m list y) .config in
+        and-both-true (move m list w c (entryOf m list y) .allowed) (acceptingFrom m list w c′ (entriesOf m list s)) (v .allowed)
+        (run-entries s c′ (move-stays m list w r c (entryOf m list y) (v .allowed)) (v .lands) last f e′)
 
-    -- a published path of n moves is a run of n + 1 entries
-    pub path-run : (first last n : ℕ) → fsbmOf m list .I first → fsbmOf m list .F last → Path Configuration (Yields (fsbmOf m list)) (config w first [] Normal) (config [] last [] Normal) n
-        → (run : List ℕ) × (length run ≡ suc n) × AllBelow 65536 run × (accepting m list w run ≡ true)
+    run-accepting : (l : InLanguage (fsbmOf m list) w) → accepting m list w (l .first ∷ entriesOf m list (l .run)) ≡ true
     unfolding accepting
-    path-run first last n (lt, i) f p =
-        let (es, len, below, a) = path-entries p (startAt first) (start-placed m w first lt) refl last f refl in (
-          first ∷ es,
+    run-accepting l =
+        let (lt, i) = l .first-initial in
+        let es = entriesOf m list (l .run) in
+        and-both-true (ltb (l .first) (m .states)) (initial (m .marks) (l .first) && acceptingFrom m list w (startAt (l .first)) es) (lt-ltb (l .first) (m .states) lt)
+        (and-both-true (initial (m .marks) (l .first)) (acceptingFrom m list w (startAt (l .first)) es) i
+        (run-entries (l .run) (startAt (l .first)) (start-placed m w (l .first) lt) refl (l .last) (l .last-final) refl))
+
+    pub path-accepting : (first last n : ℕ) → fsbmOf m list .I first → fsbmOf m list .F last → Path Configuration (Yields (fsbmOf m list)) (config w first [] Normal) (config [] last [] Normal) n
+        → (run : List ℕ) × (length run ≡ suc n) × AllBelow 65536 run × (accepting m list w run ≡ true)
+    path-accepting first last n i f p =
+        let (s, len) = path-run m list p in (
+          first ∷ entriesOf m list s,
           ap suc len,
-          more {x = first} (omega (arith, r .states-fit)) below,
-          and-both-true (ltb first (m .states)) (initial (m .marks) first && acceptingFrom m list w (startAt first) es) (lt-ltb first (m .states) lt)
-              (and-both-true (initial (m .marks) first) (acceptingFrom m list w (startAt first) es) i a),
+          more {x = first} (omega (arith, r .states-fit, i .0)) (entries-below m list r s),
+          run-accepting (record { first = first; last = last; first-initial = i; last-final = f; run = s }),
         )
+
+  pub written-accepting : wellFormed m list ≡ true → (run : List ℕ) → WrittenRun m list w run → accepting m list w run ≡ true
+  written-accepting good run s = ap (accepting m list w) (s .written) ∙ run-accepting (rules m list good) (s .accepting-run)
+
+  pub accepting-iff-written : wellFormed m list ≡ true → (run : List ℕ) → (accepting m list w run ≡ true) ↔ WrittenRun m list w run
+  accepting-iff-written good run = (accepting-written run, written-accepting good run)
+
+  -- what follows for the existence of runs
+
+  pub accepting-path : (run : List ℕ) → accepting m list w run ≡ true
+      → (first last n : ℕ) × (length run ≡ suc n) × fsbmOf m list .I first × fsbmOf m list .F last × Path Configuration (Yields (fsbmOf m list)) (config w first [] Normal) (config [] last [] Normal) n
+  accepting-path run h =
+      let s = accepting-written run h in
+      let l = s .accepting-run in
+      (l .first, l .last, length (entriesOf m list (l .run)), ap length (s .written), l .first-initial, l .last-final, run-path m list (l .run))
+
+  pub accepting-published : (run : List ℕ) → accepting m list w run ≡ true → InLanguage (fsbmOf m list) w
+  accepting-published run h = accepting-written run h .accepting-run
 
   pub published-accepting : wellFormed m list ≡ true → InLanguage (fsbmOf m list) w → (run : List ℕ) × AllBelow 65536 run × (accepting m list w run ≡ true)
   published-accepting good l =
-      let (n, p) = run-path (l .run) in
-      let (run, len, below, a) = path-run (rules m list good) (l .first) (l .last) n (l .first-initial) (l .last-final) p in
+      let (run, len, below, a) = path-accepting (rules m list good) (l .first) (l .last) (length (entriesOf m list (l .run))) (l .first-initial) (l .last-final) (run-path m list (l .run)) in
       (run, below, a)

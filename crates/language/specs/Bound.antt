@@ -29,7 +29,7 @@ use Rattle.fsbm.specs.declared.config.Mode.{Mode}
 use Rattle.fsbm.specs.declared.config.Mode.the-variants.{Normal, Buffering, Emptying}
 use Rattle.graphs.specs.Bools.{false-iff}
 use Rattle.fsbm.specs.Rules.{Rules, rules, buffering-below, matching-below}
-use Rattle.language.specs.Agreement.{run-path, path-run, accepting-published}
+use Rattle.language.specs.Agreement.{run-path, path-accepting, accepting-published}
 
 -- What a move leaves alone
 
@@ -161,9 +161,8 @@ module _ (m : Machine) (list w : List ℕ) where
       → (run : List ℕ) × (length run ≤ runBound m (length w)) × AllBelow 65536 run × (accepting m list w run ≡ true)
   published-short good l =
       let r = rules m list good in
-      let (n, p) = run-path (l .run) in
-      let (k, lt, q) = short-path (key (m .states)) (same-key r) (runBound m (length w)) (key-below r w (l .first) (l .first-initial .0)) p in
-      let (run, len, below, a) = path-run m list w r (l .first) (l .last) k (l .first-initial) (l .last-final) q in
+      let (k, lt, q) = short-path (key (m .states)) (same-key r) (runBound m (length w)) (key-below r w (l .first) (l .first-initial .0)) (run-path m list (l .run)) in
+      let (run, len, below, a) = path-accepting m list w r (l .first) (l .last) k (l .first-initial) (l .last-final) q in
       (run, omega arith, below, a)
 
   pub accepted-iff-published : wellFormed m list ≡ true → (accepted m list w ≡ true) ↔ InLanguage (fsbmOf m list) w

@@ -2,4 +2,5 @@ pub mod Blocks
 pub mod Pairs
 pub mod Pieces
 pub mod Rounds
+pub mod Tight
 pub mod Written

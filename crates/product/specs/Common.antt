@@ -1,7 +1,6 @@
 -- The product accepts exactly the common words: those that both machines accept, each by runs of its own. Everything is said of the
 -- product's list with anything behind it, as a caller's list holds it.
 --
--- run-to-path             == an accepting run of n + 1 entries is a published path of n moves
 -- Split, listed-split     == a transition of the product is one of the first, with the second standing still or moving too
 -- listed-epsilon, listed-letter == and back
 -- Reads r u q             == the second machine goes from r to q by the letters of u
@@ -34,7 +33,7 @@ use Rattle.fsbm.specs.declared.machine.Transition.{Transition}
 use Rattle.fsbm.specs.declared.config.Config.{Config}
 use Rattle.fsbm.specs.declared.config.Mode.{Mode}
 use Rattle.fsbm.specs.declared.config.Mode.the-variants.{Normal, Buffering, Emptying}
-use Rattle.language.specs.Agreement.{published, move-yields, path-run}
+use Rattle.language.specs.Agreement.{accepting-path, path-accepting}
 use Rattle.graphs.specs.Bools.{same-truth}
 use Rattle.language.specs.Bound.{accepted-iff-run}
 use Rattle.fsbm.specs.Rules.{Rules, rules, buffering-below, matching-below}
@@ -44,46 +43,6 @@ use Rattle.product.specs.Rise.{Bounds, bounds}
 use Rattle.product.specs.Steps.{Step, moves-epsilon, moves-letter, joined-to, joined-of}
 use Rattle.product.specs.Tables.{Table, Joinable, joinable, pair-below}
 use Rattle.product.specs.WellFormed.{initial-joined, final-joined, buffering-joined, matching-joined, noTransition, listed-at, joined-well-formed}
-
--- From runs to paths
-
-is-normal : (t : Mode) → isNormal t ≡ true → t ≡ Normal
-is-normal Normal h = refl
-is-normal Buffering h = absurd (false≢true h)
-is-normal Emptying h = absurd (false≢true h)
-
-module _ (m : Machine) (list w : List ℕ) where
-  accepts-at : (c : Config) → accepts (m .marks) (length w) c ≡ true → (final (m .marks) (c .state) ≡ true) × (published w c ≡ config [] (c .state) [] Normal)
-  unfolding accepts
-  accepts-at c h =
-      let (f, r₁) = and-true (final (m .marks) (c .state)) (isNormal (c .mode) && (eqb (c .start) (c .end) && eqb (c .position) (length w))) h in
-      let (n, r₂) = and-true (isNormal (c .mode)) (eqb (c .start) (c .end) && eqb (c .position) (length w)) r₁ in
-      let (s, p) = and-true (eqb (c .start) (c .end)) (eqb (c .position) (length w)) r₂ in
-      let input : drop (c .position) w ≡ [] = ap (λ (n : ℕ). drop n w) (eqb-true (c .position) (length w) p) ∙ drop-length w in
-      let stored : slice (c .start) (c .end) w ≡ [] = ap (λ (n : ℕ). slice n (c .end) w) (eqb-true (c .start) (c .end) s) ∙ slice-empty (c .end) w in
-      let mode = is-normal (c .mode) n in
-      (f, λ i. record { input = input i; state = c .state; buffer = stored i; mode = mode i })
-
-  entries-path : (c : Config) (es : List ℕ) → acceptingFrom m list w c es ≡ true
-      → (last : ℕ) × (final (m .marks) last ≡ true) × Path Configuration (Yields (fsbmOf m list)) (published w c) (config [] last [] Normal) (length es)
-  unfolding acceptingFrom
-  entries-path c [] h =
-      let (f, e) = accepts-at c h in
-      (c .state, f, subst (λ (D : Configuration). Path Configuration (Yields (fsbmOf m list)) (published w c) D 0) e here)
-  entries-path c (e ∷ es) h =
-      let (a, rest) = and-true (move m list w c e .allowed) (acceptingFrom m list w (move m list w c e .config) es) h in
-      let (last, f, p) = entries-path (move m list w c e .config) es rest in
-      (last, f, step (move-yields m list w c e a) p)
-
-  pub run-to-path : (run : List ℕ) → accepting m list w run ≡ true
-      → (first last n : ℕ) × (length run ≡ suc n) × fsbmOf m list .I first × fsbmOf m list .F last × Path Configuration (Yields (fsbmOf m list)) (config w first [] Normal) (config [] last [] Normal) n
-  unfolding accepting
-  run-to-path [] h = absurd (false≢true h)
-  run-to-path (q ∷ es) h =
-      let (lt, r) = and-true (ltb q (m .states)) (initial (m .marks) q && acceptingFrom m list w (startAt q) es) h in
-      let (i, a) = and-true (initial (m .marks) q) (acceptingFrom m list w (startAt q) es) r in
-      let (last, f, p) = entries-path (startAt q) es a in
-      (q, last, length es, refl, (ltb-true q (m .states) lt, i), f, p)
 
 -- an element of a list stands at some place
 place-of : {A : Type 0} {x : A} (l : List A) (d : A) → List·Memᴰ x l → (k : ℕ) × (k < length l) × (getD l k d ≡ x)
@@ -389,7 +348,7 @@ module _ (m₁ : Machine) (l₁ : List ℕ) (m₂ : Machine) (l₂ : List ℕ) (
 
   pub plain-run-length : (w run : List ℕ) → accepting m₂ l₂ w run ≡ true → length run ≡ suc (length w)
   plain-run-length w run a =
-      let (q, last, n, size, i, f, p) = run-to-path m₂ l₂ w run a in
+      let (q, last, n, size, i, f, p) = accepting-path m₂ l₂ w run a in
       let (steps, reads) = path-reads p refl refl in
       size ∙ ap suc steps
 
@@ -398,29 +357,29 @@ module _ (m₁ : Machine) (l₁ : List ℕ) (m₂ : Machine) (l₂ : List ℕ) (
       × ((run₂ : List ℕ) × (length run₂ ≡ suc (length w)) × AllBelow 65536 run₂ × (accepting m₂ l₂ w run₂ ≡ true))
   unfolding joinedMachine
   joined-splits w run a =
-      let (q, last, n, size, i, f, p) = run-to-path J L w run a in
+      let (q, last, n, size, i, f, p) = accepting-path J L w run a in
       let n₂ = m₂ .states in
       let inside : q < m₁ .states * m₂ .states = i .0 in
       let end : last < m₁ .states * m₂ .states = final-below J L joined-rules last f in
       let (i₁, i₂) = and-true (initial (m₁ .marks) (q / n₂)) (initial (m₂ .marks) (q % n₂)) (sym (initial-at q inside) ∙ i .1) in
       let (f₁, f₂) = and-true (final (m₁ .marks) (last / n₂)) (final (m₂ .marks) (last % n₂)) (sym (final-at last end) ∙ f) in
-      let (run₁, size₁, below₁, a₁) = path-run m₁ l₁ w (rules m₁ l₁ (j .good₁)) (q / n₂) (last / n₂) n (first-below q inside, i₁) f₁ (path-first p) in
+      let (run₁, size₁, below₁, a₁) = path-accepting m₁ l₁ w (rules m₁ l₁ (j .good₁)) (q / n₂) (last / n₂) n (first-below q inside, i₁) f₁ (path-first p) in
       let (k, letters, p₂) = path-second p in
-      let (run₂, size₂, below₂, a₂) = path-run m₂ l₂ w (rules m₂ l₂ (j .good₂)) (q % n₂) (last % n₂) k (second-below q inside, i₂) f₂ p₂ in
+      let (run₂, size₂, below₂, a₂) = path-accepting m₂ l₂ w (rules m₂ l₂ (j .good₂)) (q % n₂) (last % n₂) k (second-below q inside, i₂) f₂ p₂ in
       ((run₁, size₁ ∙ sym size, below₁, a₁), (run₂, omega arith, below₂, a₂))
 
   pub splits-join : (w run₁ run₂ : List ℕ) → accepting m₁ l₁ w run₁ ≡ true → accepting m₂ l₂ w run₂ ≡ true
       → (run : List ℕ) × (length run ≡ length run₁) × AllBelow 65536 run × (accepting J L w run ≡ true)
   unfolding joinedMachine
   splits-join w run₁ run₂ a₁ a₂ =
-      let (q₁, last₁, n, size, i₁, f₁, p₁) = run-to-path m₁ l₁ w run₁ a₁ in
-      let (q₂, last₂, k, size₂, i₂, f₂, p₂) = run-to-path m₂ l₂ w run₂ a₂ in
+      let (q₁, last₁, n, size, i₁, f₁, p₁) = accepting-path m₁ l₁ w run₁ a₁ in
+      let (q₂, last₂, k, size₂, i₂, f₂, p₂) = accepting-path m₂ l₂ w run₂ a₂ in
       let (steps, reads) = path-reads p₂ refl refl in
       let (l₂-below, p) = join-path p₁ q₂ last₂ (i₂ .0) refl reads in
       let l₁-below = final-below m₁ l₁ (rules m₁ l₁ (j .good₁)) last₁ f₁ in
       let start = initial-joined j q₁ q₂ (i₁ .0) (i₂ .0) ∙ and-both-true (initial (m₁ .marks) q₁) (initial (m₂ .marks) q₂) (i₁ .1) (i₂ .1) in
       let end = final-joined j last₁ last₂ l₁-below l₂-below ∙ and-both-true (final (m₁ .marks) last₁) (final (m₂ .marks) last₂) f₁ f₂ in
-      let (run, size-run, below, a) = path-run J L w joined-rules (pairState (m₂ .states) q₁ q₂) (pairState (m₂ .states) last₁ last₂) n (pair-below (m₁ .states) (m₂ .states) q₁ q₂ (i₁ .0) (i₂ .0), start) end p in
+      let (run, size-run, below, a) = path-accepting J L w joined-rules (pairState (m₂ .states) q₁ q₂) (pairState (m₂ .states) last₁ last₂) n (pair-below (m₁ .states) (m₂ .states) q₁ q₂ (i₁ .0) (i₂ .0), start) end p in
       (run, size-run ∙ sym size, below, a)
 
   pub joined-accepted : (w : List ℕ) → accepted J L w ≡ (accepted m₁ l₁ w && accepted m₂ l₂ w)

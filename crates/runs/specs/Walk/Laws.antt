@@ -37,7 +37,8 @@ use Rattle.graphs.specs.Bools.{cond-elim}
 use Rattle.fsbm.specs.Rules.{Rules, rules, Placed, placed, unplaced}
 use Rattle.fsbm.specs.Moves.Laws.{advanced-fits, move-placed}
 use Rattle.language.specs.Strings.{slice-none}
-use Rattle.language.specs.Agreement.{published, MovesTo, move-yields, yields-move}
+use Rattle.fsbm.specs.Entries.{entryOf}
+use Rattle.language.specs.Agreement.{published, move-yields, yields-move}
 use Rattle.language.specs.NoWord.{nextMode}
 use Rattle.layers.specs.Costs.{none, at, Go, Best, RowBest}
 use Rattle.layers.specs.Costs.Laws.{Fits, go-fit, go-step}
@@ -270,25 +271,26 @@ module _ (m : Machine) (list w : List ℕ) where
   module _ (good : wellFormed m list ≡ true) (c : Config) (p : wellPlaced (m .states) (length w) c ≡ true) (d : ℕ) (best : Best m list (published w c) (suc d)) (small : suc d < none) where
     -- where an entry leads, there are at least d moves to go
     pub next-least : (e n : ℕ) → move m list w c e .allowed ≡ true → Go m list (published w (move m list w c e .config)) n → d ≤ n
-    next-least e n h g = let l = best .least (suc n) (go-step m list (move-yields m list w c e h) g) in omega arith
+    next-least e n h g = let l = best .least (suc n) (go-step m list (move-yields m list w c e h .0) g) in omega arith
 
     pub change-must : ((k : ℕ) → k < m .transitions → move m list w c k .allowed ≡ true → (g : ℕ) × Best m list (published w (move m list w c k .config)) g × (g ≡ d → ⊥))
         → Entered m list w c d (changeEntry (c .mode))
     change-must bad =
         let (C′, n, n-is, y, go) = go-first (best .realised small) (omega arith) in
+        let e = entryOf m list y in
         let v = yields-move m list w good y c p refl in
-        let go′ : Go m list (published w (move m list w c (v .entry) .config)) n = rw (v .lands) go in
-        on v (subst (Go m list (published w (move m list w c (v .entry) .config))) (omega arith) go′) (decLt (v .entry) (m .transitions))
+        let go′ : Go m list (published w (move m list w c e .config)) n = rw (v .lands) go in
+        on e (v .allowed) (subst (Go m list (published w (move m list w c e .config))) (omega arith) go′) (decLt e (m .transitions))
       where
-        on : {C′ : Configuration} → (v : MovesTo m list w c C′) → Go m list (published w (move m list w c (v .entry) .config)) d → Dec (v .entry < m .transitions) → Entered m list w c d (changeEntry (c .mode))
-        on v go (yes lt) =
-            let (g, b, differs) = bad (v .entry) lt (v .allowed) in
-            let a = b .least d go in
-            let l = next-least (v .entry) g (v .allowed) (b .realised (omega arith)) in
+        on : (e : ℕ) → move m list w c e .allowed ≡ true → Go m list (published w (move m list w c e .config)) d → Dec (e < m .transitions) → Entered m list w c d (changeEntry (c .mode))
+        on e a go (yes lt) =
+            let (g, b, differs) = bad e lt a in
+            let least = b .least d go in
+            let l = next-least e g a (b .realised (omega arith)) in
             absurd (differs (omega arith))
-        on v go (no ge) =
-            let e = change-is c (v .entry) (omega arith) (v .allowed) .entry in
-            subst (Entered m list w c d) e (record { allowed = v .allowed; best = record { realised = λ l. go; least = λ n g. next-least (v .entry) n (v .allowed) g } })
+        on e a go (no ge) =
+            let is = change-is c e (omega arith) a .entry in
+            subst (Entered m list w c d) is (record { allowed = a; best = record { realised = λ l. go; least = λ n g. next-least e n a g } })
 
   -- the buffer of a configuration with a way to acceptance, in emptying mode
   pub go-second : (c : Config) (n : ℕ) → Placed m w c (c .mode) → c .mode ≡ Emptying → Go m list (published w c) n → (endOf c ≤ length w) × (slice (c .start) (c .end) w ≡ slice (c .position) (endOf c) w)
@@ -328,7 +330,7 @@ module _ (m : Machine) (list w : List ℕ) where
   entries-go c [] h = accepts-go c h
   entries-go c (e ∷ es) h =
       let (a, rest) = and-true (move m list w c e .allowed) (acceptingFrom m list w (move m list w c e .config) es) h in
-      go-step m list (move-yields m list w c e a) (entries-go (move m list w c e .config) es rest)
+      go-step m list (move-yields m list w c e a .0) (entries-go (move m list w c e .config) es rest)
 
   path-none : {C E : Configuration} {n : ℕ} → Path Configuration (Yields (fsbmOf m list)) C E n → n ≡ 0 → C ≡ E
   path-none here e = refl
