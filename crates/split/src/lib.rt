@@ -5,3 +5,4 @@
 //
 // The functions ask what a public call above them has tested: they are seams between crates.
 pub mod lookup;
+pub mod split;
