@@ -1,0 +1,8 @@
+// Writes a shortest word of a machine and its run, from the least weights.
+//
+// into     lists of the transitions that enter each state
+// find     a transition, or a move of a pair, along which a number is reached exactly
+//
+// The functions ask what a public call above them has tested: they are seams between crates.
+
+pub mod into;
