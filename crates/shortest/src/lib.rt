@@ -5,4 +5,5 @@
 //
 // The functions ask what a public call above them has tested: they are seams between crates.
 
+pub mod find;
 pub mod into;

@@ -1,0 +1,31 @@
+use mathlib.Core.Path.{sym}
+use Rattle.pieces.specs.Blocks.Laws.{cell-inside}
+use borrow.Author.Needs.{needs}
+use Rattle.shortest.proofs.find.number.Statement.{statement}
+use Rattle.shortest.proofs.find.number.Tie as tie
+use Rattle.shortest.proofs.find.number.Reads as reads
+use Rattle.shortest.proofs.find.number.Lts as lts
+
+-- src/find.rt:55:7
+mul-result : tie.Need-mul-result
+mul-result c = search needs
+
+-- src/find.rt:55:7
+add-result : tie.Need-add-result
+add-result c = search needs
+
+-- src/find.rt:55:5
+mul-result-2 : tie.Need-mul-result-2
+mul-result-2 c = search needs
+
+-- src/find.rt:55:5
+element-copy-out-result : tie.Need-element-copy-out-result
+element-copy-out-result c = search needs
+
+-- src/find.rt:51:1
+returns : tie.Need-returns
+returns c = sym (cell-inside _ _ _ ((c .before) .pre .0) ((c .before) .pre .1))
+
+pub number-spec : {M : Type 1} → statement M
+number-spec =
+    tie.close (tie.spec mul-result add-result mul-result-2 element-copy-out-result returns)

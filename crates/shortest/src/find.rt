@@ -1,0 +1,130 @@
+// Transitions, and moves of a pair, along which a number is reached exactly: its end's number is its start's number and its weight.
+// Each finder goes through the transitions that enter a state.
+ghost use Prim.Native.Nat.{ℕ, _+_, _<_};
+ghost use mathlib.Core.Path.{_≡_};
+ghost use mathlib.Core.Bool.{Bool, true};
+ghost use lib.Dec.{eqb};
+ghost use Rattle.fsbm.specs.Machine.{wellFormed, transitionAt};
+ghost use Rattle.pieces.specs.Pairs.{weigh, halves, unit};
+ghost use Rattle.pieces.specs.Blocks.{costOf, cell};
+ghost use Rattle.shortest.specs.Into.{Into};
+ghost use Rattle.shortest.specs.Find.{Finds, Tried, normalTest, NormalFits, storeTest, StoreFits, matchTest, MatchFits, LetterStep, LetterFits, Backs};
+use fsbm::machine;
+use fsbm::machine::Machine;
+
+// The weight of a move of both halves by a letter.
+pub const PAIR: u64 = 8589934594;
+
+// The moves of a pair's two halves, each by its transition; the number of transitions says that the half stands still.
+pub struct Back {
+    pub storing: usize,
+    pub matching: usize,
+}
+
+fn wide(x: u16) -> usize
+    ensures { λ r. ⌜ r ≡ x ⌝ }
+{
+    x as usize
+}
+
+// The weight of a move by a letter, or by epsilon.
+fn weight(letter: u16) -> u64
+    ensures { λ r. ⌜ r ≡ weigh letter ⌝ }
+{
+    if letter == 0 {
+        return 1;
+    }
+    4294967297
+}
+
+// Whether v and w make the number that is wanted.
+fn makes(v: u64, w: u64, want: u64) -> bool
+    ensures { λ r. ⌜ r ≡ eqb (v + w) want ⌝ }
+{
+    if want < w {
+        return false;
+    }
+    v == want - w
+}
+
+// The number of the pair (s, t) in a block.
+pub fn number(b: &[u64; 4096], s: usize, t: usize) -> u64
+    requires { ⌜ (s < 64) × (t < 64) ⌝ }
+    ensures { λ r. ⌜ r ≡ cell (now (b .entry)) s t ⌝ }
+{
+    b[s * 64 + t]
+}
+
+// The number of a state.
+pub fn cost(d: &[u64; 64], q: usize) -> u64
+    requires { ⌜ q < 64 ⌝ }
+    ensures { λ r. ⌜ r ≡ costOf (now (d .entry)) q ⌝ }
+{
+    d[q]
+}
+
+// Whether transition k is taken in normal mode and its weight and the number where it begins make the number that is wanted.
+fn normal_fits(marks: &[u8; 64], list: &[u16], d: &[u64; 64], want: u64, k: usize) -> bool
+    requires { ⌜ transitionAt (now list) k .from < 64 ⌝ }
+    ensures { λ r. ⌜ r ≡ normalTest (now (marks .entry)) (now (list .entry)) (now (d .entry)) want k ⌝ }
+{
+    let t = machine::transition_at(list, k);
+    if machine::both_matching(marks, t) {
+        return false;
+    }
+    let p = t.from as usize;
+    if machine::is_buffering(marks, p) {
+        return false;
+    }
+    makes(cost(d, p), weight(t.letter), want)
+}
+
+// The same of a transition by epsilon in buffering mode, for a pair whose matching half is in t.
+fn store_fits(marks: &[u8; 64], list: &[u16], b: &[u64; 4096], t: usize, want: u64, k: usize) -> bool
+    requires { ⌜ (transitionAt (now list) k .from < 64) × (t < 64) ⌝ }
+    ensures { λ r. ⌜ r ≡ storeTest (now (marks .entry)) (now (list .entry)) (now (b .entry)) t want k ⌝ }
+{
+    let u = machine::transition_at(list, k);
+    if machine::both_matching(marks, u) {
+        return false;
+    }
+    if machine::is_buffering(marks, u.to as usize) {
+        return false;
+    }
+    if u.letter != 0 {
+        return false;
+    }
+    makes(number(b, u.from as usize, t), 1, want)
+}
+
+// The same of a transition by x in emptying mode, with the weight w, for a pair whose storing half is in s.
+fn match_fits(marks: &[u8; 64], list: &[u16], b: &[u64; 4096], s: usize, x: u16, w: u64, want: u64, k: usize) -> bool
+    requires { ⌜ (transitionAt (now list) k .from < 64) × (s < 64) ⌝ }
+    ensures { λ r. ⌜ r ≡ matchTest (now (marks .entry)) (now (list .entry)) (now (b .entry)) s x w want k ⌝ }
+{
+    let u = machine::transition_at(list, k);
+    if !machine::both_matching(marks, u) {
+        return false;
+    }
+    if u.letter != x {
+        return false;
+    }
+    makes(number(b, s, u.from as usize), w, want)
+}
+
+// A transition into q in normal mode whose weight and the number where it begins make the number of q; the number of transitions where
+// there is none.
+pub fn find_normal(m: Machine, list: &[u16], links: &[u16; 4064], d: &[u64; 64], q: usize) -> usize
+    requires { ⌜ (wellFormed m (now list) ≡ true) × Into m (now list) (now links) × (q < 64) ⌝ }
+    ensures { λ r. ⌜ Finds (m .transitions) (NormalFits m (now (list .entry)) (now (d .entry)) q) r ⌝ }
+{
+    let want = cost(d, q);
+    let mut k = wide(links[q]);
+    while k < m.transitions {
+        if normal_fits(&m.marks, list, d, want, k) {
+            return k;
+        }
+        k = wide(links[64 + k]);
+    }
+    k
+}
