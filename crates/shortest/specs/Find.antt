@@ -4,10 +4,10 @@
 -- Tried Q r              == r says whether Q holds
 -- normalTest, storeTest, matchTest == transition k is taken in its mode, and its weight and the number where it begins make `want`
 -- NormalFits m list d q k == transition k enters q in normal mode along which the number of q is reached
--- StoreFits m list b s t k == transition k enters s by epsilon in buffering mode: the number of (s, t) is reached along it
+-- StoreFits m list b s t want k == transition k enters s by epsilon in buffering mode, and makes `want`, the other half in t
 -- MatchFits m list b s t x w want k == transition k enters t by x in emptying mode, and makes `want` with the weight w, the other half in s
 -- LetterStep, LetterFits == transition k enters s by a letter in buffering mode, and some transition enters t by the same letter in emptying
---                           mode: the number of (s, t) is reached along both
+--                           mode, so that both make `want`
 -- Backs m list b s t k j == k and j are the transitions of the two halves along which the number of (s, t) is reached
 use Prim.Native.Nat.{ℕ, _+_, _*_, _≤_, _<_}
 use mathlib.Core.Path.{_≡_}
@@ -50,29 +50,32 @@ matchTest marks list b s x w want k =
 abbrev pub NormalFits : Machine → List ℕ → List ℕ → ℕ → ℕ → Type 0
 NormalFits m list d q k = Enters list q k × (normalTest (m .marks) list d (costOf d q) k ≡ true)
 
-abbrev pub StoreFits : Machine → List ℕ → List ℕ → ℕ → ℕ → ℕ → Type 0
-StoreFits m list b s t k = Enters list s k × (storeTest (m .marks) list b t (cell b s t) k ≡ true)
+abbrev pub StoreFits : Machine → List ℕ → List ℕ → ℕ → ℕ → ℕ → ℕ → Type 0
+StoreFits m list b s t want k = Enters list s k × (storeTest (m .marks) list b t want k ≡ true)
 
 abbrev pub MatchFits : Machine → List ℕ → List ℕ → ℕ → ℕ → ℕ → ℕ → ℕ → ℕ → Type 0
 MatchFits m list b s t x w want k = Enters list t k × (matchTest (m .marks) list b s x w want k ≡ true)
 
-pub record LetterStep (m : Machine) (list b : List ℕ) (t want k : ℕ) : Type 0 where
+-- what the first half of a move by a letter needs of the marks
+pub record Storing (m : Machine) (list : List ℕ) (k : ℕ) : Type 0 where
   pub letter : transitionAt list k .letter ≡ 0 → ⊥
   pub apart : bothMatching (m .marks) (transitionAt list k) ≡ false
   pub free : buffering (m .marks) (transitionAt list k .to) ≡ false
+
+pub record LetterStep (m : Machine) (list b : List ℕ) (t want k : ℕ) : Type 0 where
+  pub storing : Storing m list k
   pub partner : ℕ
   pub partner-below : partner < m .transitions
   pub partner-fits : MatchFits m list b (transitionAt list k .from) t (transitionAt list k .letter) pairUnit want partner
 
-abbrev pub LetterFits : Machine → List ℕ → List ℕ → ℕ → ℕ → ℕ → Type 0
-LetterFits m list b s t k = Enters list s k × LetterStep m list b t (cell b s t) k
+abbrev pub LetterFits : Machine → List ℕ → List ℕ → ℕ → ℕ → ℕ → ℕ → Type 0
+LetterFits m list b s t want k = Enters list s k × LetterStep m list b t want k
 
 -- the storing half moves by epsilon, the matching half does, both move by a letter, or no such move makes the number
 pub data Backs (m : Machine) (list b : List ℕ) (s t : ℕ) : ℕ → ℕ → Type 0 where
-  by-storing : {k j : ℕ} → k < m .transitions → m .transitions ≤ j → StoreFits m list b s t k → Backs m list b s t k j
+  by-storing : {k j : ℕ} → k < m .transitions → m .transitions ≤ j → StoreFits m list b s t (cell b s t) k → Backs m list b s t k j
   by-matching : {k j : ℕ} → m .transitions ≤ k → j < m .transitions → MatchFits m list b s t 0 1 (cell b s t) j → Backs m list b s t k j
-  by-both : {k j : ℕ} → k < m .transitions → j < m .transitions → Enters list s k → (transitionAt list k .letter ≡ 0 → ⊥) → bothMatching (m .marks) (transitionAt list k) ≡ false
-      → buffering (m .marks) (transitionAt list k .to) ≡ false → MatchFits m list b (transitionAt list k .from) t (transitionAt list k .letter) pairUnit (cell b s t) j
-      → Backs m list b s t k j
-  by-none : {k j : ℕ} → ((i : ℕ) → i < m .transitions → StoreFits m list b s t i → ⊥) → ((i : ℕ) → i < m .transitions → MatchFits m list b s t 0 1 (cell b s t) i → ⊥)
-      → ((i : ℕ) → i < m .transitions → LetterFits m list b s t i → ⊥) → Backs m list b s t k j
+  by-both : {k j : ℕ} → k < m .transitions → j < m .transitions → Enters list s k → Storing m list k
+      → MatchFits m list b (transitionAt list k .from) t (transitionAt list k .letter) pairUnit (cell b s t) j → Backs m list b s t k j
+  by-none : {k j : ℕ} → ((i : ℕ) → i < m .transitions → StoreFits m list b s t (cell b s t) i → ⊥) → ((i : ℕ) → i < m .transitions → MatchFits m list b s t 0 1 (cell b s t) i → ⊥)
+      → ((i : ℕ) → i < m .transitions → LetterFits m list b s t (cell b s t) i → ⊥) → Backs m list b s t k j

@@ -16,7 +16,7 @@ use fsbm::machine::Machine;
 pub const PAIR: u64 = 8589934594;
 
 // The moves of a pair's two halves, each by its transition; the number of transitions says that the half stands still.
-pub struct Back {
+pub struct Halves {
     pub storing: usize,
     pub matching: usize,
 }
@@ -80,7 +80,14 @@ fn normal_fits(marks: &[u8; 64], list: &[u16], d: &[u64; 64], want: u64, k: usiz
 }
 
 // The same of a transition by epsilon in buffering mode, for a pair whose matching half is in t.
-fn store_fits(marks: &[u8; 64], list: &[u16], b: &[u64; 4096], t: usize, want: u64, k: usize) -> bool
+fn store_fits(
+    marks: &[u8; 64],
+    list: &[u16],
+    b: &[u64; 4096],
+    t: usize,
+    want: u64,
+    k: usize,
+) -> bool
     requires { ⌜ (transitionAt (now list) k .from < 64) × (t < 64) ⌝ }
     ensures { λ r. ⌜ r ≡ storeTest (now (marks .entry)) (now (list .entry)) (now (b .entry)) t want k ⌝ }
 {
@@ -98,7 +105,16 @@ fn store_fits(marks: &[u8; 64], list: &[u16], b: &[u64; 4096], t: usize, want: u
 }
 
 // The same of a transition by x in emptying mode, with the weight w, for a pair whose storing half is in s.
-fn match_fits(marks: &[u8; 64], list: &[u16], b: &[u64; 4096], s: usize, x: u16, w: u64, want: u64, k: usize) -> bool
+fn match_fits(
+    marks: &[u8; 64],
+    list: &[u16],
+    b: &[u64; 4096],
+    s: usize,
+    x: u16,
+    w: u64,
+    want: u64,
+    k: usize,
+) -> bool
     requires { ⌜ (transitionAt (now list) k .from < 64) × (s < 64) ⌝ }
     ensures { λ r. ⌜ r ≡ matchTest (now (marks .entry)) (now (list .entry)) (now (b .entry)) s x w want k ⌝ }
 {
@@ -127,4 +143,149 @@ pub fn find_normal(m: Machine, list: &[u16], links: &[u16; 4064], d: &[u64; 64],
         k = wide(links[64 + k]);
     }
     k
+}
+
+// A transition into s by epsilon in buffering mode, the matching half in t.
+fn find_store(
+    m: Machine,
+    list: &[u16],
+    links: &[u16; 4064],
+    b: &[u64; 4096],
+    s: usize,
+    t: usize,
+    want: u64,
+) -> usize
+    requires { ⌜ (wellFormed m (now list) ≡ true) × Into m (now list) (now links) × (s < 64) × (t < 64) ⌝ }
+    ensures { λ r. ⌜ Finds (m .transitions) (StoreFits m (now (list .entry)) (now (b .entry)) s t want) r ⌝ }
+{
+    let mut k = wide(links[s]);
+    while k < m.transitions {
+        if store_fits(&m.marks, list, b, t, want, k) {
+            return k;
+        }
+        k = wide(links[64 + k]);
+    }
+    k
+}
+
+// A transition into t by x in emptying mode, with the weight w, the storing half in s.
+fn find_match(
+    m: Machine,
+    list: &[u16],
+    links: &[u16; 4064],
+    b: &[u64; 4096],
+    s: usize,
+    t: usize,
+    x: u16,
+    w: u64,
+    want: u64,
+) -> usize
+    requires { ⌜ (wellFormed m (now list) ≡ true) × Into m (now list) (now links) × (s < 64) × (t < 64) ⌝ }
+    ensures { λ r. ⌜ Finds (m .transitions) (MatchFits m (now (list .entry)) (now (b .entry)) s t x w want) r ⌝ }
+{
+    let mut k = wide(links[t]);
+    while k < m.transitions {
+        if match_fits(&m.marks, list, b, s, x, w, want, k) {
+            return k;
+        }
+        k = wide(links[64 + k]);
+    }
+    k
+}
+
+// Whether transition k is taken by a letter in buffering mode, and a transition into t by this letter in emptying mode, so that both
+// make the number that is wanted.
+fn letter_fits(
+    m: Machine,
+    list: &[u16],
+    links: &[u16; 4064],
+    b: &[u64; 4096],
+    t: usize,
+    want: u64,
+    k: usize,
+) -> bool
+    requires { ⌜ (wellFormed m (now list) ≡ true) × Into m (now list) (now links) × (t < 64) × (k < m .transitions) ⌝ }
+    ensures { λ r. ⌜ Tried (LetterStep m (now (list .entry)) (now (b .entry)) t want k) r ⌝ }
+{
+    let u = machine::transition_at(list, k);
+    if u.letter == 0 {
+        return false;
+    }
+    if machine::both_matching(&m.marks, u) {
+        return false;
+    }
+    if machine::is_buffering(&m.marks, u.to as usize) {
+        return false;
+    }
+    let j = find_match(m, list, links, b, u.from as usize, t, u.letter, PAIR, want);
+    if m.transitions <= j {
+        return false;
+    }
+    true
+}
+
+// A transition into s by a letter in buffering mode that has such a partner.
+fn find_letter(
+    m: Machine,
+    list: &[u16],
+    links: &[u16; 4064],
+    b: &[u64; 4096],
+    s: usize,
+    t: usize,
+    want: u64,
+) -> usize
+    requires { ⌜ (wellFormed m (now list) ≡ true) × Into m (now list) (now links) × (s < 64) × (t < 64) ⌝ }
+    ensures { λ r. ⌜ Finds (m .transitions) (LetterFits m (now (list .entry)) (now (b .entry)) s t want) r ⌝ }
+{
+    let mut k = wide(links[s]);
+    while k < m.transitions {
+        if letter_fits(m, list, links, b, t, want, k) {
+            return k;
+        }
+        k = wide(links[64 + k]);
+    }
+    k
+}
+
+// One move of the pair back from (s, t) along which its number is reached.
+pub fn back(
+    m: Machine,
+    list: &[u16],
+    links: &[u16; 4064],
+    b: &[u64; 4096],
+    s: usize,
+    t: usize,
+) -> Halves
+    requires { ⌜ (wellFormed m (now list) ≡ true) × Into m (now list) (now links) × (s < 64) × (t < 64) ⌝ }
+    ensures { λ r. ⌜ Backs m (now (list .entry)) (now (b .entry)) s t (r .storing) (r .matching) ⌝ }
+{
+    let n = m.transitions;
+    let want = number(b, s, t);
+    let k = find_store(m, list, links, b, s, t, want);
+    if k < n {
+        return Halves {
+            storing: k,
+            matching: n,
+        };
+    }
+    let j = find_match(m, list, links, b, s, t, 0, 1, want);
+    if j < n {
+        return Halves {
+            storing: n,
+            matching: j,
+        };
+    }
+    let l = find_letter(m, list, links, b, s, t, want);
+    if n <= l {
+        return Halves {
+            storing: n,
+            matching: n,
+        };
+    }
+    let u = machine::transition_at(list, l);
+    let i = find_match(m, list, links, b, u.from as usize, t, u.letter, PAIR, want);
+    Halves {
+        storing: l,
+        matching: i,
+    }
 }

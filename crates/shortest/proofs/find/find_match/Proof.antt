@@ -1,0 +1,93 @@
+use Prim.Native.Nat.{ℕ, _+_, _-_}
+use mathlib.Core.Path.{_≡_, refl, sym, ap, _∙_, subst}
+use mathlib.Core.Bool.{Bool, true}
+use native.Mathlib.Omega.{arith}
+use borrow.Author.Needs.{needs}
+use Rattle.graphs.specs.Search.Laws.{not-both}
+use Rattle.product.specs.Tables.{table}
+use Rattle.shortest.specs.Find.{storeTest, matchTest}
+use Rattle.shortest.specs.Find.Laws.{Finding, finding-start, finding-next, finding-found, finding-none}
+use Rattle.shortest.proofs.find.find_match.Statement.{statement}
+use Rattle.shortest.proofs.find.find_match.Tie as tie
+use Rattle.shortest.proofs.find.find_match.Reads as reads
+use Rattle.shortest.proofs.find.find_match.Lts as lts
+use Rattle.shortest.proofs.find.match_fits.Reads as match-fits-reads
+use Rattle.shortest.proofs.find.wide.Reads as wide-reads
+
+abbrev Inv-loop : tie.InvT-loop
+Inv-loop list links b s t x w want m k₀ k = Finding (m .transitions) list t (λ j. matchTest (m .marks) list b s x w want j ≡ true) k
+
+abbrev μ-loop : tie.MeasureT-loop
+μ-loop list links b s t x w want m k₀ k = m .transitions - k
+
+-- src/find.rt:152:22
+mul-wide : tie.Need-mul-wide Inv-loop μ-loop
+mul-wide c = search needs
+
+-- src/find.rt:152:22
+element-copy-out-wide : tie.Need-element-copy-out-wide Inv-loop μ-loop
+element-copy-out-wide c = omega (arith, (c .before) .pre .3)
+
+-- src/find.rt:152:9
+wide-requires : tie.Need-wide-requires Inv-loop μ-loop
+wide-requires c κs = search needs
+
+-- src/find.rt:153:5
+loop-holds : tie.Need-loop-holds Inv-loop μ-loop
+loop-holds c = subst (λ (k : ℕ). Finding ((c .before .before .before) .args .t1 .transitions) ((c .before .before .before) .args .list .now) ((c .before .before .before) .args .t) (λ j. matchTest ((c .before .before .before) .args .t1 .marks) ((c .before .before .before) .args .list .now) ((c .before .before .before) .args .b .now) ((c .before .before .before) .args .s) ((c .before .before .before) .args .x) ((c .before .before .before) .args .w) ((c .before .before .before) .args .want) j ≡ true) k) (sym ((c) .wide .ensures)) (finding-start _ _ _ _ _ ((c .before .before .before) .pre .1 .first ((c .before .before .before) .args .t) ((c .before .before .before) .pre .3)))
+
+-- src/find.rt:154:12
+match-fits-requires : tie.Need-match-fits-requires Inv-loop μ-loop
+match-fits-requires c κs = let T = table _ _ ((c .before .before .before .before .before .before .before) .pre .0) in (omega (arith, T .from-below ((c .before .before .before) .loop .k) ((c .before .before) .loop-test .taken), T .states-fit), (c .before .before .before .before .before .before .before) .pre .2)
+
+-- src/find.rt:155:13
+returns : tie.Need-returns Inv-loop μ-loop
+returns c = finding-found _ _ _ _ _ ((c .before .before .before .before .before) .loop .inv) ((c .before .before .before .before) .loop-test .taken) (sym ((c .before) .match-fits .ensures) ∙ (c) .if1 .taken)
+
+-- src/find.rt:157:24
+add-wide : tie.Need-add-wide Inv-loop μ-loop
+add-wide c = omega (arith, (c .before .before .before .before) .loop-test .taken, table _ _ ((c .before .before .before .before .before .before .before .before .before) .pre .0) .transitions-fit)
+
+-- src/find.rt:157:18
+mul-wide-2 : tie.Need-mul-wide-2 Inv-loop μ-loop
+mul-wide-2 c = omega (arith, (c .before .before .before .before) .loop-test .taken, table _ _ ((c .before .before .before .before .before .before .before .before .before) .pre .0) .transitions-fit)
+
+-- src/find.rt:157:18
+element-copy-out-wide-2 : tie.Need-element-copy-out-wide-2 Inv-loop μ-loop
+element-copy-out-wide-2 c = omega (arith, (c .before .before .before .before) .loop-test .taken, table _ _ ((c .before .before .before .before .before .before .before .before .before) .pre .0) .transitions-fit)
+
+-- src/find.rt:157:9
+wide-requires-2 : tie.Need-wide-requires-2 Inv-loop μ-loop
+wide-requires-2 c κs = search needs
+
+-- src/find.rt:153:5
+loop-less : tie.Need-loop-less Inv-loop μ-loop
+loop-less c = omega (arith, (c) .wide2 .ensures, (c .before .before .before .before .before .before .before .before .before .before .before) .pre .1 .link ((c .before .before .before .before .before .before .before) .loop .k) (omega arith) ((c .before .before .before .before .before .before) .loop-test .taken) .on, (c .before .before .before .before .before .before) .loop-test .taken)
+
+-- src/find.rt:153:5
+loop-again : tie.Need-loop-again Inv-loop μ-loop
+loop-again c = subst (λ (k : ℕ). Finding ((c .before .before .before .before .before .before .before .before .before .before .before) .args .t1 .transitions) ((c .before .before .before .before .before .before .before .before .before .before .before) .args .list .now) ((c .before .before .before .before .before .before .before .before .before .before .before) .args .t) (λ j. matchTest ((c .before .before .before .before .before .before .before .before .before .before .before) .args .t1 .marks) ((c .before .before .before .before .before .before .before .before .before .before .before) .args .list .now) ((c .before .before .before .before .before .before .before .before .before .before .before) .args .b .now) ((c .before .before .before .before .before .before .before .before .before .before .before) .args .s) ((c .before .before .before .before .before .before .before .before .before .before .before) .args .x) ((c .before .before .before .before .before .before .before .before .before .before .before) .args .w) ((c .before .before .before .before .before .before .before .before .before .before .before) .args .want) j ≡ true) k) (sym ((c) .wide2 .ensures)) (finding-next _ _ _ _ _ ((c .before .before .before .before .before .before .before) .loop .inv) _ ((c .before .before .before .before .before .before) .loop-test .taken) (λ h. not-both ((c .before .before .before) .match-fits .ensures ∙ h) ((c .before .before) .if1 .left)) ((c .before .before .before .before .before .before .before .before .before .before .before) .pre .1 .link ((c .before .before .before .before .before .before .before) .loop .k) (omega arith) ((c .before .before .before .before .before .before) .loop-test .taken)))
+
+-- src/find.rt:148:1
+returns-2 : tie.Need-returns-2 Inv-loop μ-loop
+returns-2 c = finding-none _ _ _ _ _ ((c .before) .loop .inv) ((c) .loop-test .left)
+
+pub find-match-spec : {M : Type 1} → statement M
+find-match-spec =
+    tie.close
+    (tie.spec
+    Inv-loop
+    μ-loop
+    mul-wide
+    element-copy-out-wide
+    wide-requires
+    loop-holds
+    match-fits-requires
+    returns
+    add-wide
+    mul-wide-2
+    element-copy-out-wide-2
+    wide-requires-2
+    loop-less
+    loop-again
+    returns-2)
