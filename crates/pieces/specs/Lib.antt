@@ -1,4 +1,5 @@
 pub mod Blocks
+pub mod Bound
 pub mod Pairs
 pub mod Pieces
 pub mod Rounds

@@ -3,10 +3,12 @@
 -- stores-path, matches-path == a half of a copy is a published path of as many moves
 -- leads-path           == pieces of k moves are a published path of k moves
 -- path-leads           == and a published path of k moves, in normal mode at both ends, is pieces of k moves
+-- leads-append         == pieces, then pieces
 use Prim.Native.Nat.{ℕ, zero, suc, _+_}
 use mathlib.Core.Path.{_≡_, refl, sym, ap, _∙_, subst, subst₂}
 use mathlib.Core.List.{List, [], _∷_, _++_, append-assoc, append-nil}
 use native.Mathlib.Omega.{arith}
+use native.Mathlib.Nat.{zero-add, suc-add}
 use Rattle.graphs.specs.Paths.{Path, here, step}
 use Rattle.graphs.specs.Paths.Laws.{append}
 use Rattle.fsbm.specs.Published.{FSBM, Configuration, config, symbol, Yields, normal, buffer, empty, begin-buffering, begin-emptying, back-to-normal}
@@ -121,3 +123,15 @@ module _ {M : FSBM} where
 
   pub path-leads : {q f k : ℕ} {w : List ℕ} → Path Configuration (Yields M) (config w q [] Normal) (config [] f [] Normal) k → Leads M q w f k
   path-leads p = rest-of p refl
+
+  -- Pieces put together
+
+  pub leads-append : {p q f i k : ℕ} {u w : List ℕ} → Leads M p u q i → Leads M q w f k → Leads M p (u ++ w) f (i + k)
+  leads-append {k = k} ended l = rw zero-add l
+  leads-append {f = f} {k = k} {w = w} (read {p = p} {a = a} {k = i} {w = u} δ apart n r) l =
+      subst₂ (λ (y : List ℕ) (n : ℕ). Leads M p y f n) (sym (append-assoc (symbol a) u w)) (sym (suc-add i k)) (read δ apart n (leads-append r l))
+  leads-append {f = f} {k = k} {w = w} (copy {g = p} {i = i} {j = j} {k = n} {x = x} {w = u} g s h m z r) l =
+      let string : x ++ (x ++ (u ++ w)) ≡ (x ++ (x ++ u)) ++ w = ap (λ (y : List ℕ). x ++ y) (sym (append-assoc x u w)) ∙ sym (append-assoc x (x ++ u) w) in
+      subst₂ (λ (y : List ℕ) (n : ℕ). Leads M p y f n) string
+      (let e : suc (i + suc (j + suc (n + k))) ≡ suc (i + suc (j + suc n)) + k = omega arith in e)
+      (copy g s h m z (leads-append r l))

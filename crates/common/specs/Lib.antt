@@ -1,0 +1,4 @@
+pub mod Common
+pub mod Demand
+pub mod Search
+pub mod Split
