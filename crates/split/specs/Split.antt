@@ -1,6 +1,5 @@
 -- A run of the product is taken apart, from its last entry to its first. The laws stand in specs/Split/Laws.antt.
 --
--- Splits m₁ l₁ m₂ l₂ list es a b       == the entries es of the product, taken apart entry by entry: a of the first machine, b of the second
 -- isLetter list e, lettersIn list es   == entry e moves by a letter; how many of the entries do
 -- Joined .., Split ..                  == what split asks, and what it ensures
 -- FirstReady, FirstPart                == what is asked and ensured for the first machine's part of one entry
@@ -18,19 +17,9 @@ use Rattle.fsbm.specs.Moves.{beginBuffering}
 use Rattle.fsbm.specs.Published.{Listed}
 use Rattle.fsbm.specs.declared.machine.Machine.{Machine}
 use Rattle.pieces.specs.Written.{Takes}
-use Rattle.product.specs.Product.{joinedTransitions, joinedCount, joinedMachine, joinFault}
+use Rattle.common.specs.Split.{Splits}
+use Rattle.product.specs.Product.{joinedTransitions, joinedCount, joinFault}
 pub mod Laws
-
-module _ (m₁ : Machine) (l₁ : List ℕ) (m₂ : Machine) (l₂ : List ℕ) (list : List ℕ) where
-  -- an entry that changes the mode stays in the first run; a transition by epsilon is one of the first; a transition by a letter is
-  -- one of each
-  pub data Splits : List ℕ → List ℕ → List ℕ → Type 0 where
-    nothing : Splits [] [] []
-    change : {e : ℕ} {es a b : List ℕ} → beginBuffering ≤ e → Splits es a b → Splits (e ∷ es) (e ∷ a) b
-    alone : {e d P Q : ℕ} {es a b : List ℕ} → Takes (joinedMachine m₁ l₁ m₂ l₂) list e P 0 Q → Takes m₁ l₁ d (P / m₂ .states) 0 (Q / m₂ .states)
-        → Splits es a b → Splits (e ∷ es) (d ∷ a) b
-    moves : {e c d P x Q : ℕ} {es a b : List ℕ} → Takes (joinedMachine m₁ l₁ m₂ l₂) list e P x Q → (x ≡ 0 → ⊥) → Takes m₁ l₁ c (P / m₂ .states) x (Q / m₂ .states)
-        → Takes m₂ l₂ d (P % m₂ .states) x (Q % m₂ .states) → Splits es a b → Splits (e ∷ es) (c ∷ a) (d ∷ b)
 
 abbrev pub isLetter : List ℕ → ℕ → Bool
 isLetter list e = ltb e beginBuffering && not (eqb (transitionAt list e .letter) 0)

@@ -12,7 +12,7 @@ use native.Mathlib.Decide.{decLt, ℕ-discrete}
 use Rattle.fsbm.specs.Machine.{transitionAt}
 use Rattle.fsbm.specs.Published.{Listed}
 use Rattle.fsbm.specs.declared.machine.Machine.{Machine}
-use Rattle.product.specs.Tables.{order, Table}
+use Rattle.product.specs.Tables.{order, TableRules}
 use Rattle.pieces.specs.Written.{Takes}
 use Rattle.split.specs.Lookup.{keyOf, Between}
 
@@ -20,7 +20,7 @@ module _ (m : Machine) (list : List ℕ) (p x q : ℕ) where
   pub between-start : Listed list (m .transitions) p x q → Between list (m .transitions) p x q 0 (m .transitions)
   between-start d = record { number = d .number; low = omega arith; high = d .listed; within = omega arith; from = d .from; letter = d .letter; to = d .to }
 
-  module _ (r : Table m list) (lo hi : ℕ) (b : Between list (m .transitions) p x q lo hi) where
+  module _ (r : TableRules m list) (lo hi : ℕ) (b : Between list (m .transitions) p x q lo hi) where
     key-there : order (transitionAt list (b .number)) ≡ keyOf p x q
     key-there = let f = b .from in let l = b .letter in let t = b .to in omega arith
 

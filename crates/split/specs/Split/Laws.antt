@@ -23,10 +23,11 @@ use Rattle.fsbm.specs.Moves.{beginBuffering}
 use Rattle.fsbm.specs.Published.{Listed}
 use Rattle.fsbm.specs.declared.machine.Machine.{Machine}
 use Rattle.pieces.specs.Written.{Takes}
+use Rattle.common.specs.Split.{Splits, nothing-left, change, alone, moves}
 use Rattle.product.specs.Common.{listed-split}
-use Rattle.product.specs.Product.{joinedTransitions, joinedCount, joinedMachine, joinFault}
+use Rattle.product.specs.Product.{joinedTransitions, joinedCount, joinFault}
 use Rattle.product.specs.Tables.{Joinable, joinable}
-use Rattle.split.specs.Split.{Splits, nothing, change, alone, moves, isLetter, lettersIn, FirstReady, FirstPart, SecondReady, SecondPart, Put, Kept, Joined, Split, Splitting}
+use Rattle.split.specs.Split.{isLetter, lettersIn, FirstReady, FirstPart, SecondReady, SecondPart, Put, Kept, Joined, Split, Splitting}
 
 pub drop-set : (l : List ℕ) (i a : ℕ) → i < length l → drop i (set l i a) ≡ a ∷ drop (suc i) l
 drop-set l i a h =
@@ -92,17 +93,14 @@ by-epsilon t z = record { listed = t .listed; from = t .from; letter = t .letter
 
 module _ (m₁ : Machine) (l₁ : List ℕ) (m₂ : Machine) (l₂ : List ℕ) where
   pub record Apart (list : List ℕ) (e : ℕ) : Type 0 where
-    pub of-product : Takes (joinedMachine m₁ l₁ m₂ l₂) list e (transitionAt list e .from) (transitionAt list e .letter) (transitionAt list e .to)
     pub of-first : Listed l₁ (m₁ .transitions) (transitionAt list e .from / m₂ .states) (transitionAt list e .letter) (transitionAt list e .to / m₂ .states)
     pub of-second : (transitionAt list e .letter ≡ 0 → ⊥) → Listed l₂ (m₂ .transitions) (transitionAt list e .from % m₂ .states) (transitionAt list e .letter) (transitionAt list e .to % m₂ .states)
 
   joined-apart : joinFault m₁ l₁ m₂ l₂ ≡ 0 → (rest : List ℕ) (e : ℕ) → e < joinedCount m₁ l₁ m₂ l₂ → Apart (joinedTransitions m₁ l₁ m₂ l₂ ++ rest) e
-  unfolding joinedMachine
   joined-apart fine rest e lt =
       let list = joinedTransitions m₁ l₁ m₂ l₂ ++ rest in
       let s = listed-split m₁ l₁ m₂ l₂ fine rest {P = transitionAt list e .from} {x = transitionAt list e .letter} {Q = transitionAt list e .to} (record { number = e; listed = lt; from = refl; letter = refl; to = refl }) in
       record {
-        of-product = record { listed = lt; from = refl; letter = refl; to = refl };
         of-first = s .of-first;
         of-second = λ some. at some (s .of-second);
       }
@@ -136,7 +134,7 @@ module _ (m₁ : Machine) (l₁ : List ℕ) (m₂ : Machine) (l₂ : List ℕ) w
           other-size = refl;
           place = rw (drop-length run₀) (omega arith);
           below = λ i l. refl;
-          splits = rw (drop-length run₀, drop-length other₀) nothing;
+          splits = rw (drop-length run₀, drop-length other₀) nothing-left;
         }
 
     module _ (run other : List ℕ) (k′ k p : ℕ) (is : suc k′ ≡ k) (some : 0 < k′) (s : Splitting m₁ l₁ m₂ l₂ list run₀ other₀ run other k p) where
@@ -179,10 +177,6 @@ module _ (m₁ : Machine) (l₁ : List ℕ) (m₂ : Machine) (l₂ : List ℕ) w
           }
 
       module _ (d : ℕ) (first : FirstPart m₁ l₁ list (m₂ .states) (getD run k′ 0) d) (p′ : ℕ) (other′ : List ℕ) where
-        product-takes : getD run k′ 0 < beginBuffering
-            → Takes (joinedMachine m₁ l₁ m₂ l₂) list (getD run k′ 0) (transitionAt list (getD run k′ 0) .from) (transitionAt list (getD run k′ 0) .letter) (transitionAt list (getD run k′ 0) .to)
-        product-takes h = apart (getD run k′ 0) (below h) .of-product
-
         abbrev Front : List ℕ → Type 0
         Front b = Splits m₁ l₁ m₂ l₂ list (drop k′ run₀) (drop k′ (set run k′ d)) b
 
@@ -222,13 +216,13 @@ module _ (m₁ : Machine) (l₁ : List ℕ) (m₂ : Machine) (l₂ : List ℕ) w
                 (change (omega arith) (s .splits))
             at (yes h) =
                 let z = epsilon list (getD run k′ 0) h (kept .none) in
-                alone (by-epsilon (product-takes h) z) (by-epsilon (first .takes h) z) (s .splits)
+                alone h z (by-epsilon (first .takes h) z) (s .splits)
         split-turn (inr put) =
             turned (ap length (put .after) ∙ (length-set other p′ (put .entry) ∙ s .other-size))
             (let e = letters-here in let c = counts (put .letter) in let t = s .place in let q = put .place in omega arith)
             (front (drop p′ other′)
             (subst (λ (u : List ℕ). Splits m₁ l₁ m₂ l₂ list (getD run k′ 0 ∷ drop k run₀) (d ∷ drop k run) u) back
-            (moves (product-takes low) (letter-says list (getD run k′ 0) (put .letter) .1) (first .takes low) (put .takes) (s .splits))))
+            (moves low (letter-says list (getD run k′ 0) (put .letter) .1) (first .takes low) (put .takes) (s .splits))))
           where
             low : getD run k′ 0 < beginBuffering
             low = letter-says list (getD run k′ 0) (put .letter) .0
