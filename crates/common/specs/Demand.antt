@@ -44,6 +44,7 @@ pub record WrittenWord (C : List ℕ → Type 0) (m₁ : Machine) (l₁ : List �
   pub letters : length (take (k .letters) word′) ≡ k .letters
   pub common : C (take (k .letters) word′)
   pub least : (w : List ℕ) → C w → k .letters ≤ length w
+  pub first-bounded : k .first ≤ runBound m₁ (k .letters)
   pub first-entries : length (take (k .first) first′) ≡ k .first
   pub first-accepts : accepting m₁ l₁ (take (k .letters) word′) (take (k .first) first′) ≡ true
   pub first-run : WrittenRun m₁ l₁ (take (k .letters) word′) (take (k .first) first′)

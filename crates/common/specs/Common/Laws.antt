@@ -1,9 +1,10 @@
 -- The laws of specs/Common.antt: leastCommon speaks of words of any length.
 --
 -- common-runs, common-published == a word is common exactly if each machine has an accepting run of it; if it is in both published languages
+-- answer-values        == the number and values of the answer are those that the rules give
 -- common-parts         == exactly if each accepts it
 -- common-joined        == exactly if the product accepts it, with anything behind its list
--- common-letters       == the letters of a common word are numbers that may stand in a table
+-- common-letters       == the letters of a common word are letters of the first machine
 -- least-common         == where it is within the bound some common word has as many letters
 -- no-shorter           == no common word has fewer
 -- any-common           == it is within the bound exactly if there is a common word
@@ -11,7 +12,7 @@
 use Prim.Native.Nat.{ℕ, zero, suc, _+_, _≤_, _<_}
 use mathlib.Core.Path.{_≡_, refl, sym, _∙_}
 use mathlib.Core.Logic.{_↔_, _⊎_, inl, inr}
-use mathlib.Core.Bool.{Bool, true, false, _&&_}
+use mathlib.Core.Bool.{Bool, true, false, cond, _&&_}
 use mathlib.Core.List.{List, [], _∷_, _++_}
 use native.Mathlib.Omega.{arith}
 use native.Mathlib.Decide.{decLe}
@@ -29,20 +30,36 @@ use Rattle.fsbm.specs.declared.machine.Machine.{Machine}
 use Rattle.language.specs.Agreement.{run-path}
 use Rattle.language.specs.Bound.{accepted-iff-run, accepted-iff-published}
 use Rattle.product.specs.Product.{joinedTransitions, joinedMachine, joinFault}
-use Rattle.product.specs.Tables.{Table, table, Joinable, joinable}
+use Rattle.product.specs.Tables.{table, Joinable, joinable}
 use Rattle.product.specs.WellFormed.{joined-well-formed}
 use Rattle.product.specs.Common.{joined-accepted}
 use Rattle.pieces.specs.Pieces.{Stores, stored, store, Leads, ended, read, copy}
 use Rattle.pieces.specs.Pieces.Laws.{path-leads}
 use Rattle.pieces.specs.Bound.{wordBound}
 use Rattle.pieces.specs.Bound.Laws.{short-word}
-use Rattle.common.specs.Common.{isCommon, hasCommon, leastCommon}
+use Rattle.common.specs.declared.Common.{Common}
+use Rattle.common.specs.Common.{isCommon, hasCommon, leastCommon, commonAnswer, commonValues, answerValues}
+
+-- The values of the answer
+
+values-cond : (b : Bool) (x y : Common) → commonValues (cond b x y) ≡ cond b (commonValues x) (commonValues y)
+values-cond true x y = refl
+values-cond false x y = refl
+
+pub answer-values : (m₁ : Machine) (l₁ : List ℕ) (m₂ : Machine) (l₂ : List ℕ) (word first second entries : ℕ)
+    → commonValues (commonAnswer m₁ l₁ m₂ l₂ word first second entries) ≡ answerValues m₁ l₁ m₂ l₂ word first second entries
+unfolding commonAnswer answerValues
+answer-values m₁ l₁ m₂ l₂ word first second entries = simp values-cond
 
 -- The letters of an accepted word
 
 below-append : {n : ℕ} {u v : List ℕ} → AllBelow n u → AllBelow n v → AllBelow n (u ++ v)
 below-append none b = b
 below-append (more h a) b = more h (below-append a b)
+
+below-more : {n k : ℕ} {w : List ℕ} → n ≤ k → AllBelow n w → AllBelow k w
+below-more l none = none
+below-more l (more {x = x} h b) = more {x = x} (omega arith) (below-more l b)
 
 below-symbol : {n : ℕ} (a : ℕ) → a < n → AllBelow n (symbol a)
 below-symbol zero h = none
@@ -58,12 +75,12 @@ module _ (M : FSBM) (n : ℕ) (letters : (p a q : ℕ) → M .δ p a q → a < n
   leads-below (read {p = p} {a = a} {q = q} δ apart outside r) = below-append (below-symbol a (letters p a q δ)) (leads-below r)
   leads-below (copy g s h m z r) = below-append (stores-below s) (below-append (stores-below s) (leads-below r))
 
-accepted-letters : (m : Machine) (list : List ℕ) → wellFormed m list ≡ true → (w : List ℕ) → accepted m list w ≡ true → AllBelow (suc maxLetters) w
+accepted-letters : (m : Machine) (list : List ℕ) → wellFormed m list ≡ true → (w : List ℕ) → accepted m list w ≡ true → AllBelow (suc (m .letters)) w
 accepted-letters m list good w t =
     let l = accepted-iff-published m list w good .0 t in
     let tab = table m list good in
-    leads-below (fsbmOf m list) (suc maxLetters)
-    (λ p a q d. omega (arith, tab .letter-below (d .number) (d .listed), tab .letters-fit, d .letter))
+    leads-below (fsbmOf m list) (suc (m .letters))
+    (λ p a q d. omega (arith, tab .letter-below (d .number) (d .listed), d .letter))
     (path-leads (run-path m list (l .run)))
 
 module _ (m₁ : Machine) (l₁ : List ℕ) (m₂ : Machine) (l₂ : List ℕ) (fine : joinFault m₁ l₁ m₂ l₂ ≡ 0) where
@@ -90,7 +107,7 @@ module _ (m₁ : Machine) (l₁ : List ℕ) (m₂ : Machine) (l₂ : List ℕ) (
   unfolding isCommon
   common-joined rest w = joined-accepted m₁ l₁ m₂ l₂ fine rest w
 
-  pub common-letters : (w : List ℕ) → isCommon m₁ l₁ m₂ l₂ w ≡ true → AllBelow (suc maxLetters) w
+  pub common-letters : (w : List ℕ) → isCommon m₁ l₁ m₂ l₂ w ≡ true → AllBelow (suc (m₁ .letters)) w
   common-letters w t = accepted-letters m₁ l₁ (j .good₁) w (common-parts w .0 t .0)
 
   -- The least number of letters
@@ -108,7 +125,7 @@ module _ (m₁ : Machine) (l₁ : List ℕ) (m₂ : Machine) (l₂ : List ℕ) (
       from : (w : List ℕ) × (length w ≡ n) × (isCommon m₁ l₁ m₂ l₂ w ≡ true) → hasCommon m₁ l₁ m₂ l₂ n ≡ true
       from (w, e, c) =
           existsList-true (suc maxLetters) n (λ w. eqb (length w) n && isCommon m₁ l₁ m₂ l₂ w) .1
-          (w, omega arith, common-letters w c, and-both-true (eqb (length w) n) (isCommon m₁ l₁ m₂ l₂ w) (eq-eqb (length w) n e) c)
+          (w, omega arith, below-more (let few = j .first .letters-fit in omega arith) (common-letters w c), and-both-true (eqb (length w) n) (isCommon m₁ l₁ m₂ l₂ w) (eq-eqb (length w) n e) c)
 
   pub least-common : leastCommon m₁ l₁ m₂ l₂ ≤ wordBound → (w : List ℕ) × (length w ≡ leastCommon m₁ l₁ m₂ l₂) × (isCommon m₁ l₁ m₂ l₂ w ≡ true)
   unfolding leastCommon

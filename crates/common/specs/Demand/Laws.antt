@@ -26,7 +26,7 @@ use Rattle.pieces.specs.Bound.{wordBound}
 use Rattle.common.specs.declared.Lengths.{Lengths}
 use Rattle.common.specs.declared.Common.{Common}
 use Rattle.common.specs.declared.Common.the-variants.{Refused, NoCommonWord, Found}
-use Rattle.common.specs.Common.{isCommon, leastCommon, commonAnswer, lettersOf, firstOf, secondOf, refusalOf, Front, CommonWord}
+use Rattle.common.specs.Common.{isCommon, leastCommon, commonAnswer, commonValues, Front, CommonWord}
 use Rattle.common.specs.Common.Laws.{common-runs, common-published, least-common, no-shorter, any-common, none-common}
 use Rattle.common.specs.Demand.{BothAccept, BothPublished, Shortest, Refuses, WrittenWord, Demand}
 
@@ -42,11 +42,11 @@ chosen some word first second n needed entries =
     (Refused (record { number = 18; needed = n })))
     NoCommonWord
 
-number-of : {r r′ : Common} → r ≡ r′ → refusalOf r .number ≡ refusalOf r′ .number
-number-of e = ap (λ (x : Common). refusalOf x .number) e
+number-of : {r r′ : Common} → r ≡ r′ → commonValues r .refusal ≡ commonValues r′ .refusal
+number-of e = ap (λ (x : Common). commonValues x .refusal) e
 
-needed-of : {r r′ : Common} → r ≡ r′ → refusalOf r .needed ≡ refusalOf r′ .needed
-needed-of e = ap (λ (x : Common). refusalOf x .needed) e
+needed-of : {r r′ : Common} → r ≡ r′ → commonValues r .needed ≡ commonValues r′ .needed
+needed-of e = ap (λ (x : Common). commonValues x .needed) e
 
 module _ (n needed entries : ℕ) where
   none-chosen : (s w f d : Bool) → (chosen s w f d n needed entries ≡ NoCommonWord) ↔ (s ≡ false)
@@ -54,7 +54,7 @@ module _ (n needed entries : ℕ) where
   none-chosen true false f d = (λ e. let z = number-of e in absurd (omega arith), λ e. absurd (not-both refl e))
   none-chosen true true false d = (λ e. let z = number-of e in absurd (omega arith), λ e. absurd (not-both refl e))
   none-chosen true true true false = (λ e. let z = number-of e in absurd (omega arith), λ e. absurd (not-both refl e))
-  none-chosen true true true true = (λ e. let z = ap secondOf e in absurd (omega arith), λ e. absurd (not-both refl e))
+  none-chosen true true true true = (λ e. let z = ap (λ (x : Common). commonValues x .second) e in absurd (omega arith), λ e. absurd (not-both refl e))
 
   module _ (far : n + 1 < needed) where
     word-chosen : (w f d : Bool) → Refuses (chosen true w f d n needed entries) 18 n ↔ (w ≡ false)
@@ -85,7 +85,7 @@ module _ (n needed entries : ℕ) where
   letters-chosen false f d k e = let z = number-of e in absurd (omega arith)
   letters-chosen true false d k e = let z = number-of e in absurd (omega arith)
   letters-chosen true true false k e = let z = number-of e in absurd (omega arith)
-  letters-chosen true true true k e = (sym (ap lettersOf e), sym (ap secondOf e))
+  letters-chosen true true true k e = (sym (ap (λ (x : Common). commonValues x .letters) e), sym (ap (λ (x : Common). commonValues x .second) e))
 
   found-some : (s w f d : Bool) (k : Lengths) → chosen s w f d n needed entries ≡ Found k → s ≡ true
   found-some true w f d k e = refl
@@ -93,7 +93,7 @@ module _ (n needed entries : ℕ) where
 
 -- Nothing found, nothing changed
 
-none-written : (r : Common) → ((k : Lengths) → r ≡ Found k → ⊥) → (lettersOf r ≡ 0) × (firstOf r ≡ 0) × (secondOf r ≡ 0)
+none-written : (r : Common) → ((k : Lengths) → r ≡ Found k → ⊥) → (commonValues r .letters ≡ 0) × (commonValues r .first ≡ 0) × (commonValues r .second ≡ 0)
 none-written (Refused f) h = (refl, refl, refl)
 none-written NoCommonWord h = (refl, refl, refl)
 none-written (Found k) h = absurd (h k refl)
@@ -203,13 +203,16 @@ module _ (m₁ : Machine) (l₁ : List ℕ) (m₂ : Machine) (l₂ : List ℕ) (
         let a₁ = contract .first-accepts k e in
         let a₂ = contract .second-accepts k e in
         record {
-          letters = front-size (contract .of-word) (k .letters) (ap lettersOf e);
+          letters = front-size (contract .of-word) (k .letters) (ap (λ (x : Common). commonValues x .letters) e);
           common = both w .0 (common-runs m₁ l₁ m₂ l₂ fine w .1 ((take (k .first) first′, a₁), (take (k .second) second′, a₂)));
           least = λ v c. let l = no-shorter m₁ l₁ m₂ l₂ fine v (both v .1 c) in omega arith;
-          first-entries = front-size (contract .of-first) (k .first) (ap firstOf e);
+          first-bounded =
+              subst (λ (n : ℕ). n ≤ runBound m₁ (k .letters)) (ap (λ (x : Common). commonValues x .first) e)
+              (subst (λ (n : ℕ). commonValues r .first ≤ runBound m₁ n) (ap (λ (x : Common). commonValues x .letters) e) (contract .bounded));
+          first-entries = front-size (contract .of-first) (k .first) (ap (λ (x : Common). commonValues x .first) e);
           first-accepts = a₁;
           first-run = accepting-written m₁ l₁ w (take (k .first) first′) a₁;
-          second-entries = front-size (contract .of-second) (k .second) (ap secondOf e);
+          second-entries = front-size (contract .of-second) (k .second) (ap (λ (x : Common). commonValues x .second) e);
           second-accepts = a₂;
           second-run = accepting-written m₂ l₂ w (take (k .second) second′) a₂;
         }
