@@ -7,3 +7,4 @@
 
 pub mod find;
 pub mod into;
+pub mod put;
