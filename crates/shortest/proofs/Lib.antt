@@ -1,1 +1,2 @@
+pub mod CopyCases
 pub mod FindCases

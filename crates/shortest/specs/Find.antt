@@ -20,6 +20,7 @@ use Rattle.pieces.specs.Pairs.{weigh, halves, unit}
 use Rattle.pieces.specs.Blocks.{costOf, cell}
 use Rattle.shortest.specs.Into.{Enters}
 pub mod Laws
+pub mod Tests
 
 pub record Finds (n : ℕ) (P : ℕ → Type 0) (r : ℕ) : Type 0 where
   pub found : r < n → P r

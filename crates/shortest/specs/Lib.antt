@@ -1,3 +1,4 @@
+pub mod Copy
 pub mod Find
 pub mod Into
 pub mod Put

@@ -38,7 +38,7 @@ fn weight(letter: u16) -> u64
 }
 
 // Whether v and w make the number that is wanted.
-fn makes(v: u64, w: u64, want: u64) -> bool
+pub fn makes(v: u64, w: u64, want: u64) -> bool
     ensures { λ r. ⌜ r ≡ eqb (v + w) want ⌝ }
 {
     if want < w {

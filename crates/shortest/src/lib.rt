@@ -5,6 +5,7 @@
 //
 // The functions ask what a public call above them has tested: they are seams between crates.
 
+pub mod copy;
 pub mod find;
 pub mod into;
 pub mod put;

@@ -1,6 +1,7 @@
 -- The laws of specs/Put.antt.
 --
 -- drop-set               == the list from a place on, once something is stored at it
+-- some-symbol            == a letter, as a string
 -- put-epsilon, put-letter == the two ways through put
 -- later-set, later-size  == the numbers of later, with one more stored behind them; how many they are
 -- Repeating, repeat-start, repeat-turn, repeat-end == the loop of again
@@ -25,7 +26,7 @@ drop-set l i i′ a is h =
     ∙ (ap (λ (z : ℕ). z ∷ drop (suc i′) (set l i′ a)) (getD-set-same l i′ a 0 (omega arith))
     ∙ (ap (λ (z : List ℕ). a ∷ z) (drop-set-lt (suc i′) l i′ a (omega arith)) ∙ ap (λ (z : ℕ). a ∷ drop z l) is))
 
-some-symbol : (a : ℕ) → (a ≡ 0 → ⊥) → symbol a ≡ a ∷ []
+pub some-symbol : (a : ℕ) → (a ≡ 0 → ⊥) → symbol a ≡ a ∷ []
 some-symbol zero some = absurd (some refl)
 some-symbol (suc a) some = refl
 
