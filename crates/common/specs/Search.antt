@@ -4,16 +4,16 @@
 -- common-leads, leads-common == an accepting run of the first machine on a common word as pieces of the product, and pieces of the product as a common word
 -- fewest               == pieces of the product from an initial to a final state read no fewer letters than a shortest common word has
 -- found                == the least weight at a final state, below top: its letters are leastCommon, and the first run fits in the length stated for it
--- none                 == no number at a final state below top: there is no common word
+-- none                 == no number at a final state below top, which is 2⁵² at least: there is no common word
 use Prim.Native.Nat.{ℕ, suc, _+_, _*_, _/_, _%_, _≤_, _<_}
-use mathlib.Core.Path.{_≡_, refl, sym, ap, _∙_}
+use mathlib.Core.Path.{_≡_, sym, _∙_}
 use mathlib.Core.Bool.{true}
-use mathlib.Core.List.{List, [], _++_}
+use mathlib.Core.List.{List, _++_}
 use native.Mathlib.Omega.{arith}
 use native.Mathlib.Decide.{decLe, decLt}
 use native.Mathlib.Nat.{mul-le-mul}
 use lib.ListN.{length}
-use Rattle.graphs.specs.Cost.{ToGoal, Settled}
+use Rattle.graphs.specs.Cost.{Settled}
 use Rattle.graphs.specs.Cost.Laws.{lower-bound}
 use Rattle.graphs.specs.Back.{Back}
 use Rattle.graphs.specs.Back.Laws.{route-back}
@@ -24,7 +24,7 @@ use Rattle.fsbm.specs.declared.machine.Machine.{Machine}
 use Rattle.language.specs.Agreement.{accepting-path, path-run}
 use Rattle.language.specs.Bound.{accepted-iff-published}
 use Rattle.product.specs.Product.{joinedTransitions, joinedMachine, joinFault}
-use Rattle.product.specs.Tables.{Joinable, joinable}
+use Rattle.product.specs.Tables.{joinable}
 use Rattle.product.specs.WellFormed.{joined-well-formed}
 use Rattle.product.specs.Common.{splits-join}
 use Rattle.pieces.specs.Pieces.{Leads}

@@ -4,13 +4,14 @@
 -- Spot                 == a state in normal mode; or in a copy: the state where storing will end, the storing half's state, the matching half's state
 -- sameSpot u v         == u and v agree (a Bool)
 -- mayRead, mayStore, mayMatch == the marks let transition t be taken in normal mode, in buffering mode, in emptying mode
--- lettersBoth m list h s t k == the spots after both halves of the copy have moved by a letter, the storing half by transition k
+-- readSpots, beginSpots == the spots after a normal move, after a copy has begun
+-- storeSpots, matchSpots, letterSpots, endSpots == in a copy, those after a move of one half, after a letter of both, and after its end
 -- nextSpots m list u   == the spots that follow u
 -- spots m list         == every spot that is reached
 -- noCopyWord m list    == what is reached is closed, and no final state is there in normal mode
 use Prim.Native.Nat.{ℕ, _*_}
 use mathlib.Core.List.{List, [], _∷_, _++_, flatMap}
-use mathlib.Core.Bool.{Bool, true, false, cond, not, _&&_}
+use mathlib.Core.Bool.{Bool, false, cond, not, _&&_}
 use lib.Dec.{eqb}
 use Rattle.graphs.specs.Search.{allIn}
 use Rattle.graphs.specs.Reach.{reach, isClosed}
@@ -40,24 +41,42 @@ unfoldable pub mayMatch : List ℕ → ℕ → ℕ → Transition → Bool
 mayMatch marks s x t = eqb (t .from) s && (eqb (t .letter) x && bothMatching marks t)
 
 module _ (m : Machine) (list : List ℕ) where
-  -- both halves move by the letter of transition k, the storing half by that transition
-  unfoldable pub lettersBoth : ℕ → ℕ → ℕ → ℕ → List Spot
-  unfolding mayStore mayMatch chosen numbers
-  lettersBoth h s t k =
+  -- by a normal move; by beginning a copy, with every guess of where storing will end
+  unfoldable pub readSpots : ℕ → List Spot
+  unfolding mayRead chosen numbers
+  readSpots q = chosen (λ k. mayRead (m .marks) q (transitionAt list k)) (λ k. normally (transitionAt list k .to)) (numbers (m .transitions))
+
+  unfoldable pub beginSpots : ℕ → List Spot
+  unfolding chosen numbers
+  beginSpots q = cond (buffering (m .marks) q) (chosen (matching (m .marks)) (λ h. copying h q h) (numbers (m .states))) []
+
+  -- in a copy: the storing half moves by epsilon, the matching half moves by x while the storing half is in s, both move by a letter, the copy ends
+  unfoldable pub storeSpots : ℕ → ℕ → ℕ → List Spot
+  unfolding mayStore chosen numbers
+  storeSpots h s t = chosen (λ k. mayStore (m .marks) s 0 (transitionAt list k)) (λ k. copying h (transitionAt list k .to) t) (numbers (m .transitions))
+
+  unfoldable pub matchSpots : ℕ → ℕ → ℕ → ℕ → List Spot
+  unfolding mayMatch chosen numbers
+  matchSpots h t x s = chosen (λ k. mayMatch (m .marks) t x (transitionAt list k)) (λ k. copying h s (transitionAt list k .to)) (numbers (m .transitions))
+
+  unfoldable pub bothSpots : ℕ → ℕ → ℕ → ℕ → List Spot
+  unfolding mayStore matchSpots
+  bothSpots h s t k =
       let x = transitionAt list k .letter in
-      let pairs = chosen (λ i. mayMatch (m .marks) t x (transitionAt list i)) (λ i. copying h (transitionAt list k .to) (transitionAt list i .to)) (numbers (m .transitions)) in
-      cond (not (eqb x 0) && mayStore (m .marks) s x (transitionAt list k)) pairs []
+      let moved = matchSpots h t x (transitionAt list k .to) in
+      cond (not (eqb x 0) && mayStore (m .marks) s x (transitionAt list k)) moved []
+
+  unfoldable pub letterSpots : ℕ → ℕ → ℕ → List Spot
+  unfolding bothSpots numbers flatMap
+  letterSpots h s t = flatMap (bothSpots h s t) (numbers (m .transitions))
+
+  unfoldable pub endSpots : ℕ → ℕ → ℕ → List Spot
+  endSpots h s t = cond (eqb s h) (normally t ∷ []) []
 
   unfoldable pub nextSpots : Spot → List Spot
-  unfolding mayRead mayStore mayMatch lettersBoth chosen numbers flatMap
-  nextSpots (normally q) =
-      chosen (λ k. mayRead (m .marks) q (transitionAt list k)) (λ k. normally (transitionAt list k .to)) (numbers (m .transitions))
-      ++ cond (buffering (m .marks) q) (chosen (matching (m .marks)) (λ h. copying h q h) (numbers (m .states))) []
-  nextSpots (copying h s t) =
-      chosen (λ k. mayStore (m .marks) s 0 (transitionAt list k)) (λ k. copying h (transitionAt list k .to) t) (numbers (m .transitions))
-      ++ (chosen (λ k. mayMatch (m .marks) t 0 (transitionAt list k)) (λ k. copying h s (transitionAt list k .to)) (numbers (m .transitions))
-      ++ (flatMap (lettersBoth h s t) (numbers (m .transitions))
-      ++ cond (eqb s h) (normally t ∷ []) []))
+  unfolding readSpots beginSpots storeSpots matchSpots letterSpots endSpots
+  nextSpots (normally q) = readSpots q ++ beginSpots q
+  nextSpots (copying h s t) = storeSpots h s t ++ (matchSpots h t 0 s ++ (letterSpots h s t ++ endSpots h s t))
 
   unfoldable pub spots : List Spot
   unfolding reach nextSpots sameSpot chosen numbers

@@ -2,6 +2,7 @@
 --
 -- common-runs, common-published == a word is common exactly if each machine has an accepting run of it; if it is in both published languages
 -- answer-values        == the number and values of the answer are those that the rules give
+-- answer-fault, answer-none, answer-word, answer-first, answer-second, answer-found == the answer in each case
 -- common-parts         == exactly if each accepts it
 -- common-joined        == exactly if the product accepts it, with anything behind its list
 -- common-letters       == the letters of a common word are letters of the first machine
@@ -13,18 +14,20 @@ use Prim.Native.Nat.{ℕ, zero, suc, _+_, _≤_, _<_}
 use mathlib.Core.Path.{_≡_, refl, sym, _∙_}
 use mathlib.Core.Logic.{_↔_, _⊎_, inl, inr}
 use mathlib.Core.Bool.{Bool, true, false, cond, _&&_}
-use mathlib.Core.List.{List, [], _∷_, _++_}
+use mathlib.Core.List.{List, [], _++_}
 use native.Mathlib.Omega.{arith}
 use native.Mathlib.Decide.{decLe}
 use lib.ListN.{length}
 use lib.Dec.{eqb}
-use borrow.Author.Tests.{eqb-true, eq-eqb}
+use borrow.Author.Tests.{eqb-true, eq-eqb, ne-eqb, le-leb, lt-leb}
 use Rattle.graphs.specs.Search.{AllBelow, none, more}
 use Rattle.graphs.specs.Search.Laws.{and-true, and-both-true, true-or-false, not-both, existsList-true}
+use Rattle.graphs.specs.Search.Loops.{first, second}
 use Rattle.graphs.specs.Least.Laws.{least-bound, least-has, least-first}
-use Rattle.fsbm.specs.Machine.{maxLetters, wellFormed, transitionAt}
+use Rattle.fsbm.specs.Machine.{maxLetters, wellFormed}
 use Rattle.fsbm.specs.Moves.{accepting}
-use Rattle.fsbm.specs.Accepted.{accepted}
+use Rattle.fsbm.specs.Accepted.{runBound, accepted}
+use Rattle.fsbm.specs.Answers.{refusal}
 use Rattle.fsbm.specs.Published.{FSBM, fsbmOf, symbol, InLanguage}
 use Rattle.fsbm.specs.declared.machine.Machine.{Machine}
 use Rattle.language.specs.Agreement.{run-path}
@@ -38,6 +41,7 @@ use Rattle.pieces.specs.Pieces.Laws.{path-leads}
 use Rattle.pieces.specs.Bound.{wordBound}
 use Rattle.pieces.specs.Bound.Laws.{short-word}
 use Rattle.common.specs.declared.Common.{Common}
+use Rattle.common.specs.declared.Common.the-variants.{Refused, NoCommonWord, Found}
 use Rattle.common.specs.Common.{isCommon, hasCommon, leastCommon, commonAnswer, commonValues, answerValues}
 
 -- The values of the answer
@@ -50,6 +54,45 @@ pub answer-values : (m₁ : Machine) (l₁ : List ℕ) (m₂ : Machine) (l₂ : 
     → commonValues (commonAnswer m₁ l₁ m₂ l₂ word first second entries) ≡ answerValues m₁ l₁ m₂ l₂ word first second entries
 unfolding commonAnswer answerValues
 answer-values m₁ l₁ m₂ l₂ word first second entries = simp values-cond
+
+-- The answer in each case
+
+module _ (m₁ : Machine) (l₁ : List ℕ) (m₂ : Machine) (l₂ : List ℕ) (word first-run second-run entries : ℕ) where
+  abbrev n : ℕ
+  n = leastCommon m₁ l₁ m₂ l₂
+
+  abbrev fault : ℕ
+  fault = joinFault m₁ l₁ m₂ l₂
+
+  pub answer-fault : (fault ≡ 0 → ⊥) → Refused (refusal fault) ≡ commonAnswer m₁ l₁ m₂ l₂ word first-run second-run entries
+  unfolding commonAnswer
+  answer-fault h = second _ (ne-eqb fault 0 h) refl
+
+  pub answer-none : fault ≡ 0 → wordBound < n → NoCommonWord ≡ commonAnswer m₁ l₁ m₂ l₂ word first-run second-run entries
+  unfolding commonAnswer
+  answer-none h past = first _ (eq-eqb fault 0 h) (second _ (lt-leb n wordBound past) refl)
+
+  pub answer-word : fault ≡ 0 → n ≤ wordBound → word < n → Refused (record { number = 18; needed = n }) ≡ commonAnswer m₁ l₁ m₂ l₂ word first-run second-run entries
+  unfolding commonAnswer
+  answer-word h within short = first _ (eq-eqb fault 0 h) (first _ (le-leb n wordBound within) (second _ (lt-leb n word short) refl))
+
+  pub answer-first : fault ≡ 0 → n ≤ wordBound → n ≤ word → first-run < runBound m₁ n → Refused (record { number = 17; needed = runBound m₁ n }) ≡ commonAnswer m₁ l₁ m₂ l₂ word first-run second-run entries
+  unfolding commonAnswer
+  answer-first h within fits short = first _ (eq-eqb fault 0 h) (first _ (le-leb n wordBound within) (first _ (le-leb n word fits) (second _ (lt-leb (runBound m₁ n) first-run short) refl)))
+
+  pub answer-second : fault ≡ 0 → n ≤ wordBound → n ≤ word → runBound m₁ n ≤ first-run → second-run < n + 1
+      → Refused (record { number = 17; needed = n + 1 }) ≡ commonAnswer m₁ l₁ m₂ l₂ word first-run second-run entries
+  unfolding commonAnswer
+  answer-second h within fits fits-first short =
+      first _ (eq-eqb fault 0 h)
+      (first _ (le-leb n wordBound within) (first _ (le-leb n word fits) (first _ (le-leb (runBound m₁ n) first-run fits-first) (second _ (lt-leb (n + 1) second-run short) refl))))
+
+  pub answer-found : fault ≡ 0 → n ≤ wordBound → n ≤ word → runBound m₁ n ≤ first-run → n + 1 ≤ second-run
+      → Found (record { letters = n; first = entries; second = n + 1 }) ≡ commonAnswer m₁ l₁ m₂ l₂ word first-run second-run entries
+  unfolding commonAnswer
+  answer-found h within fits fits-first fits-second =
+      first _ (eq-eqb fault 0 h)
+      (first _ (le-leb n wordBound within) (first _ (le-leb n word fits) (first _ (le-leb (runBound m₁ n) first-run fits-first) (first _ (le-leb (n + 1) second-run fits-second) refl))))
 
 -- The letters of an accepted word
 

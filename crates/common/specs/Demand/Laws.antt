@@ -3,25 +3,23 @@
 -- demand-runs          == for acceptance by each machine's own runs
 -- demand-published     == for the published definition
 -- unchanged            == where nothing is found no slice changes
-use Prim.Native.Nat.{ℕ, suc, _+_, _*_, _≤_, _<_}
+use Prim.Native.Nat.{ℕ, _+_, _*_, _≤_, _<_}
 use mathlib.Core.Path.{_≡_, refl, sym, ap, _∙_, subst}
 use mathlib.Core.Logic.{_↔_, _⊎_, inl, inr}
 use mathlib.Core.Bool.{Bool, true, false, cond}
 use mathlib.Core.List.{List, _++_}
 use native.Mathlib.Omega.{arith}
 use native.Mathlib.Nat.{mul-le-mul-right}
-use lib.ListN.{length, take, drop, length-take}
+use lib.ListN.{length, take, drop}
 use lib.Seq.{length-take-le}
-use lib.Dec.{leb, eqb}
+use lib.Dec.{leb}
 use borrow.Author.Tests.{leb-true, leb-false, le-leb, lt-leb, eq-eqb}
 use Rattle.graphs.specs.Search.Laws.{not-both, true-or-false}
-use Rattle.fsbm.specs.Moves.{accepting}
 use Rattle.fsbm.specs.Accepted.{runBound}
 use Rattle.fsbm.specs.declared.machine.Machine.{Machine}
 use Rattle.language.specs.Agreement.{accepting-written}
 use Rattle.product.specs.Product.{joinFault}
 use Rattle.product.specs.Tables.{Joinable, joinable}
-use Rattle.product.specs.Common.{plain-run-length}
 use Rattle.pieces.specs.Bound.{wordBound}
 use Rattle.common.specs.declared.Lengths.{Lengths}
 use Rattle.common.specs.declared.Common.{Common}

@@ -1,18 +1,23 @@
 -- The laws of specs/Split.antt.
 --
 -- leads-split          == a written run of the product, taken apart, leads in the first machine and in the second
+-- lettersIn list es    == how many of the entries es are transitions by a letter
+-- leads-letters        == in a written run they are as many as the letters that it reads
 -- split-accepts        == from an initial to a final state the two are accepting runs of what the product's run reads
 use Prim.Native.Nat.{ℕ, zero, suc, _+_, _*_, _/_, _%_, _≤_, _<_}
 use mathlib.Core.Path.{_≡_, refl, sym, ap, _∙_, subst, subst₂}
 use mathlib.Core.Logic.{_⊎_, inl, inr}
-use mathlib.Core.Bool.{Bool, true, _&&_}
+use mathlib.Core.Bool.{Bool, true, cond, _&&_}
 use mathlib.Core.List.{List, [], _∷_, _++_, append-assoc}
 use native.Mathlib.Omega.{arith}
+use lib.ListN.{length, length-append}
+use lib.Dec.{ltb}
+use borrow.Author.Tests.{lt-ltb}
 use native.Mathlib.Nat.{mod-lt, div-lt-iff-lt-mul, div-add-mod'}
 use Rattle.graphs.specs.Search.Laws.{and-true, not-both}
 use Rattle.fsbm.specs.Machine.{transitionAt, initial, final, buffering, matching}
 use Rattle.fsbm.specs.Moves.{accepting, beginBuffering, beginEmptying, backToNormal}
-use Rattle.fsbm.specs.Published.{FSBM, fsbmOf, symbol}
+use Rattle.fsbm.specs.Published.{fsbmOf, symbol}
 use Rattle.fsbm.specs.Rules.{Rules, rules, buffering-below, matching-below}
 use Rattle.fsbm.specs.declared.machine.Machine.{Machine}
 use Rattle.product.specs.Product.{joinedTransitions, joinedMarks, joinedMachine, joinFault}
@@ -87,6 +92,52 @@ module _ (m₁ : Machine) (l₁ : List ℕ) (m₂ : Machine) (l₂ : List ℕ) (
       let qf = q .first in
       let qs = q .second in
       record { a₁ = p .a₁; b₁ = p .b₁; a₂ = q .a₁; b₂ = q .b₁; a₃ = k₃; b₃ = q .b₂; first = cc; second = cc; storing = p .front; emptying = q .front; later = u₃ }
+
+-- The letters of a written run
+
+-- how many letters the entry e reads
+unfoldable pub lettersAt : List ℕ → ℕ → ℕ
+lettersAt list e = cond (ltb e beginBuffering) (length (symbol (transitionAt list e .letter))) 0
+
+unfoldable pub lettersIn : List ℕ → List ℕ → ℕ
+lettersIn list [] = 0
+lettersIn list (e ∷ es) = lettersAt list e + lettersIn list es
+
+module _ (m : Machine) (list : List ℕ) (few : m .transitions ≤ beginBuffering) where
+  letters-append : (es ds : List ℕ) → lettersIn list (es ++ ds) ≡ lettersIn list es + lettersIn list ds
+  unfolding lettersIn
+  letters-append [] ds = omega arith
+  letters-append (e ∷ es) ds = let l = letters-append es ds in omega arith
+
+  taken-letters : {e p a q : ℕ} → Takes m list e p a q → lettersAt list e ≡ length (symbol a)
+  unfolding lettersAt
+  taken-letters {e} t =
+      ap (λ (b : Bool). cond b (length (symbol (transitionAt list e .letter))) 0) (lt-ltb e beginBuffering (omega (arith, t .listed)))
+      ∙ ap (λ (x : ℕ). length (symbol x)) (t .letter)
+
+  stores-letters : {s h : ℕ} {x es : List ℕ} → StoresBy m list s x es h → lettersIn list es ≡ length x
+  unfolding lettersIn
+  stores-letters stored = refl
+  stores-letters (store {a = a} {x = x} t none n p) = let l = stores-letters p in let k = taken-letters t in let s = length-append (symbol a) x in omega arith
+
+  matches-letters : {t z : ℕ} {x es : List ℕ} → MatchesBy m list t x es z → lettersIn list es ≡ length x
+  unfolding lettersIn
+  matches-letters matched = refl
+  matches-letters (match {a = a} {x = x} t from to p) = let l = matches-letters p in let k = taken-letters t in let s = length-append (symbol a) x in omega arith
+
+  pub leads-letters : {q f : ℕ} {w es : List ℕ} → LeadsBy m list q w es f → lettersIn list es ≡ length w
+  unfolding lettersIn lettersAt
+  leads-letters ended = refl
+  leads-letters (read {a = a} {w = w} t none n p) = let l = leads-letters p in let k = taken-letters t in let s = length-append (symbol a) w in omega arith
+  leads-letters (copy {x = x} {w = w} {es = es} {ds = ds} {rest = left} g s h d z p) =
+      let a = letters-append es (beginEmptying ∷ (ds ++ (backToNormal ∷ left))) in
+      let b = letters-append ds (backToNormal ∷ left) in
+      let i = stores-letters s in
+      let k = matches-letters d in
+      let l = leads-letters p in
+      let outer = length-append x (x ++ w) in
+      let inner = length-append x w in
+      omega arith
 
 -- what the second machine does at a transition from p by x to q, and the entry for it
 abbrev Second : Machine → List ℕ → ℕ → ℕ → ℕ → List ℕ → List ℕ → Type 0
