@@ -8,6 +8,7 @@
 --                           the run, with the two entries that begin it
 -- Walking ..             == the two halves are written from (s, t) to (h, z), and the pairs passed have larger numbers
 -- Going, Gone            == what walk_back asks and ensures
+-- Fits m list d q i r    == all pieces to q along which its number is reached fit before place i of the word and place r of the run
 -- CopyReady, Stepped     == what copy asks; pieces from p to q are written before place i of the word and place r of the run, and the number
 --                           of q is reached along them
 use Prim.Native.Nat.{ℕ, suc, _+_, _*_, _-_, _≤_, _<_}
@@ -19,7 +20,7 @@ use lib.ListN.{length, getD, set, drop}
 use lib.Dec.{eqb}
 use Rattle.graphs.specs.Search.{AllBelow}
 use Rattle.graphs.specs.Counting.{Distinct}
-use Rattle.fsbm.specs.Machine.{transitionAt, buffering, wellFormed}
+use Rattle.fsbm.specs.Machine.{transitionAt, buffering, matching, wellFormed}
 use Rattle.fsbm.specs.Published.{fsbmOf}
 use Rattle.fsbm.specs.declared.machine.Machine.{Machine}
 use Rattle.pieces.specs.Pieces.{Stores, Matches, Leads}
@@ -29,8 +30,10 @@ use Rattle.pieces.specs.Blocks.{nothing, costOf, cell, Settles}
 use Rattle.pieces.specs.Written.{StoresBy, MatchesBy, LeadsBy}
 use Rattle.shortest.specs.Into.{Into}
 use Rattle.shortest.specs.Put.{PutReady, Put, laterList}
+use Rattle.shortest.specs.declared.copy.Place.{Place}
 use Rattle.shortest.specs.declared.copy.Walk.{Walk}
 pub mod Laws
+pub mod Whole
 
 unfoldable pub begunTest : List ℕ → List ℕ → List ℕ → ℕ → ℕ → ℕ → Bool
 begunTest marks d b h s t = eqb t h && (buffering marks s && eqb (costOf d s + 1) (cell b s t))
@@ -114,3 +117,34 @@ pub record Gone (m : Machine) (list d b : List ℕ) (h z : ℕ) (word : List ℕ
   pub arrived : w .matching ≡ h
   pub buffers : buffering (m .marks) (w .storing) ≡ true
   pub begins : costOf d (w .storing) + 1 ≡ cell b (w .storing) h
+
+abbrev pub Fits : Machine → List ℕ → List ℕ → ℕ → ℕ → ℕ → Type 0
+Fits m list d q i r =
+    (p : ℕ) (x : List ℕ) (k : ℕ) → Leads (fsbmOf m list) p x q k → costOf d p + (length x * unit + k) ≡ costOf d q → (length x ≤ i) × (k < r)
+
+pub record CopyReady (m : Machine) (list links d b : List ℕ) (h z : ℕ) (word : List ℕ) (i : ℕ) (run : List ℕ) (r : ℕ) (later : List ℕ) : Type 0 where
+  pub good : wellFormed m list ≡ true
+  pub into : Into m list links
+  pub set : ℕ
+  pub settles : Settles m list h set d b
+  pub turns : matching (m .marks) h ≡ true
+  pub ends : matching (m .marks) z ≡ true
+  pub tight : cell b h z + 2 ≡ costOf d z
+  pub low : costOf d z < nothing
+  pub fits : Fits m list d z i r
+  pub word-fits : i ≤ length word
+  pub run-fits : r ≤ length run
+  pub later-size : length later ≡ 4096
+
+pub record Stepped (m : Machine) (list d : List ℕ) (q : ℕ) (word : List ℕ) (i : ℕ) (run : List ℕ) (r : ℕ) (word′ run′ : List ℕ) (p : Place) : Type 0 where
+  pub read : List ℕ
+  pub entries : List ℕ
+  pub leads : LeadsBy m list (p .state) read entries q
+  pub tight : costOf d (p .state) + (length read * unit + length entries) ≡ costOf d q
+  pub some : 0 < length entries
+  pub word-size : length word′ ≡ length word
+  pub word-is : drop (p .letter) word′ ≡ read ++ drop i word
+  pub word-place : p .letter + length read ≡ i
+  pub run-size : length run′ ≡ length run
+  pub run-is : drop (p .entry) run′ ≡ entries ++ drop r run
+  pub run-place : p .entry + length entries ≡ r

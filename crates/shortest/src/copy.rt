@@ -4,7 +4,7 @@ ghost use mathlib.Core.Path.{_≡_};
 ghost use mathlib.Core.Bool.{true};
 ghost use lib.ListN.{length};
 ghost use Rattle.fsbm.specs.Machine.{wellFormed, transitionAt};
-ghost use Rattle.shortest.specs.Copy.{begunTest, MatchedReady, Matched, StoredReady, Stored, Going, Gone};
+ghost use Rattle.shortest.specs.Copy.{begunTest, MatchedReady, Matched, StoredReady, Stored, Going, Gone, CopyReady, Stepped};
 use crate::find;
 use crate::put;
 use fsbm::machine;
@@ -18,6 +18,13 @@ pub struct Walk {
     pub letter: usize,
     pub entry: usize,
     pub kept: usize,
+}
+
+// How far a run is written, from its end: the state there, the places of the first letter and of the first entry.
+pub struct Place {
+    pub state: usize,
+    pub letter: usize,
+    pub entry: usize,
 }
 
 // Whether a copy with the guess h has just begun at the pair (s, t), and this makes the pair's number.
@@ -105,4 +112,39 @@ fn walk_back(
         w = stored(list, m.transitions, v.storing, later, w);
     }
     w
+}
+
+// Writes a copy with the guess h that ends in z, along which the number of z is reached, before place i of the word and place r of the
+// run, and says where it begins.
+pub fn copy(
+    m: Machine,
+    list: &[u16],
+    links: &[u16; 4064],
+    d: &[u64; 64],
+    b: &[u64; 4096],
+    h: usize,
+    z: usize,
+    word: &mut [u8],
+    i: usize,
+    run: &mut [u16],
+    r: usize,
+    later: &mut [u16; 4096],
+) -> Place
+    requires { ⌜ CopyReady m (now list) (now links) (now d) (now b) h z (now word) i (now run) r (now later) ⌝ }
+    ensures { λ p. ⌜ Stepped m (now (list .entry)) (now (d .entry)) z (now (word .entry)) i (now (run .entry)) r (now (word .exit)) (now (run .exit)) p ⌝ }
+{
+    run[r - 1] = 65535;
+    let w = walk_back(m, list, links, d, b, h, z, word, i, run, r - 1, later);
+    let j = w.letter;
+    let e = w.entry - 1;
+    run[e] = 65534;
+    put::again(word, j, i - j);
+    put::unload(later, w.kept, run, e);
+    let f = e - w.kept - 1;
+    run[f] = 65533;
+    Place {
+        state: w.storing,
+        letter: j - (i - j),
+        entry: f,
+    }
 }
