@@ -1,0 +1,27 @@
+use native.Mathlib.Omega.{arith}
+use Rattle.blocks.specs.Settling.Laws.{begin-not, begin-is}
+use borrow.Author.Needs.{needs}
+use Rattle.blocks.proofs.block.begin.Statement.{statement}
+use Rattle.blocks.proofs.block.begin.Tie as tie
+use Rattle.blocks.proofs.block.begin.Reads as reads
+use Rattle.blocks.proofs.block.begin.Lts as lts
+use Rattle.blocks.proofs.numbers.lower.Reads as lower-reads
+
+-- src/block.rt:93:9
+returns : tie.Need-returns
+returns c = begin-not _ _ _ _ _ (c .if1 .taken)
+
+-- src/block.rt:95:36
+add-lower : tie.Need-add-lower
+add-lower c = search needs
+
+-- src/block.rt:95:5
+lower-requires : tie.Need-lower-requires
+lower-requires c κs = search needs
+
+-- src/block.rt:87:1
+returns-2 : tie.Need-returns-2
+returns-2 c = begin-is (omega (arith, (c .before .before .before) .if1 .left)) (c .lower .ensures)
+
+pub begin-spec : {M : Type 1} → statement M
+begin-spec = tie.close (tie.spec returns add-lower lower-requires returns-2)

@@ -1,0 +1,42 @@
+use native.Mathlib.Omega.{arith}
+use Prim.Native.Nat.{ℕ, _+_, _*_, _≤_, _-_}
+use mathlib.Core.Path.{_≡_, refl, sym, _∙_}
+use lib.ListN.{length}
+use Rattle.blocks.specs.Works.{RowOn}
+use Rattle.blocks.specs.Works.Laws.{on-none, on-then}
+use Rattle.blocks.specs.Numbers.Laws.{sized-after}
+use Rattle.blocks.proofs.row.groups.Statement.{statement}
+use Rattle.blocks.proofs.row.groups.Tie as tie
+use Rattle.blocks.proofs.row.groups.Reads as reads
+use Rattle.blocks.proofs.row.groups.Lts as lts
+use Rattle.blocks.proofs.row.group.Reads as group-reads
+
+abbrev Inv-loop : tie.InvT-loop
+Inv-loop m list index h may b₀ d₀ s set lo end p₀ k₀ b d p k = (length p ≡ 64) × (lo ≤ k) × RowOn m list s set lo b₀ d₀ k b d
+
+abbrev μ-loop : tie.MeasureT-loop
+μ-loop m list index h may b₀ d₀ s set lo end p₀ k₀ b d p k = end - k
+
+-- src/row.rt:127:5
+loop-holds : tie.Need-loop-holds Inv-loop μ-loop
+loop-holds c = ((c .before) .pre .1 .0 .1, omega arith, on-none _ _ _ _ _ _ _)
+
+-- src/row.rt:128:9
+group-requires : tie.Need-group-requires Inv-loop μ-loop
+group-requires c κs = ((c .before .before .before .before .before .before) .pre .0, ((sized-after ((c .before .before .before .before .before .before) .pre .1 .0 .0) ((c .before .before .before .before) .loop .inv .2 .steps), (c .before .before .before .before) .loop .inv .0, (c .before .before .before .before .before .before) .pre .1 .0 .2), (c .before .before .before .before .before .before) .pre .1 .1 _ ((c .before .before .before .before) .loop .inv .1) ((c .before .before .before) .loop-test .taken)))
+
+-- src/row.rt:127:5
+loop-less : tie.Need-loop-less Inv-loop μ-loop
+loop-less c = omega (arith, c .group .ensures .1, (c .before .before .before .before) .loop-test .taken)
+
+-- src/row.rt:127:5
+loop-again : tie.Need-loop-again Inv-loop μ-loop
+loop-again c = (c .group .ensures .0, omega (arith, c .group .ensures .1, (c .before .before .before .before .before) .loop .inv .1), on-then ((c .before .before .before .before .before) .loop .inv .2) (c .group .ensures .2))
+
+-- src/row.rt:107:1
+returns : tie.Need-returns Inv-loop μ-loop
+returns c = ((c .before) .loop .inv .0, c .loop-test .left, (c .before) .loop .inv .2)
+
+pub groups-spec : {M : Type 1} → statement M
+groups-spec =
+    tie.close (tie.spec Inv-loop μ-loop loop-holds group-requires loop-less loop-again returns)

@@ -1,0 +1,33 @@
+use Rattle.blocks.specs.Works.Laws.{held-from, moved-none, moved-letter}
+use borrow.Author.Needs.{needs}
+use Rattle.blocks.proofs.row.moved.Statement.{statement}
+use Rattle.blocks.proofs.row.moved.Tie as tie
+use Rattle.blocks.proofs.row.moved.Reads as reads
+use Rattle.blocks.proofs.row.moved.Lts as lts
+use Rattle.blocks.proofs.gather.gather.Reads as gather-reads
+use Rattle.blocks.proofs.gather.stay.Reads as stay-reads
+use Rattle.stateset.proofs.intersection.Reads as intersection-reads
+
+-- src/row.rt:51:9
+stay-requires : tie.Need-stay-requires
+stay-requires c κs = search needs
+
+-- src/row.rt:51:9
+returns : tie.Need-returns
+returns c = moved-none ((c .before .before) .if1 .taken) (c .stay .ensures)
+
+-- src/row.rt:53:9
+intersection-requires : tie.Need-intersection-requires
+intersection-requires c κs = search needs
+
+-- src/row.rt:54:5
+gather-requires : tie.Need-gather-requires
+gather-requires c κs = search needs
+
+-- src/row.rt:34:1
+returns-2 : tie.Need-returns-2
+returns-2 c = moved-letter ((c .before .before .before) .if1 .left) (held-from _ ((c .before .before) .intersection .ensures) (c .gather .ensures))
+
+pub moved-spec : {M : Type 1} → statement M
+moved-spec =
+    tie.close (tie.spec stay-requires returns intersection-requires gather-requires returns-2)

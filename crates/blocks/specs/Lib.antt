@@ -1,0 +1,5 @@
+pub mod Numbers
+pub mod Gathered
+pub mod Stretches
+pub mod Works
+pub mod Settling

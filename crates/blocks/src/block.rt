@@ -1,0 +1,151 @@
+// A block: for one guess of the state where storing ends and matching begins, the least weights of the copies that have begun, as far as
+// each pair of states.
+//
+// block     the numbers of a block, for copies that begin in a state of a set
+ghost use Prim.Native.Nat.{ℕ, _+_, _*_, _≤_, _<_};
+ghost use mathlib.Core.Path.{_≡_};
+ghost use lib.ListN.{length, getD};
+ghost use Rattle.stateset.specs.Set.{In};
+ghost use Rattle.fsbm.specs.Machine.{buffering};
+ghost use Rattle.blocks.specs.Numbers.{Sized, Lowers};
+ghost use Rattle.blocks.specs.Works.{Kind, Ready};
+ghost use Rattle.blocks.specs.Settling.{Scanned, Cleared, Past, Blank, Begin, Begins, Worked, Block};
+use crate::numbers;
+use crate::row;
+use fsbm::machine::Machine;
+
+// The number that says "no way".
+const NONE: u64 = 4611686018427387904;
+
+// The first row from k on, below n, that has a mark; n or more where there is none.
+fn scan(d: &[u64; 64], k: usize, n: usize) -> usize
+    requires { ⌜ n ≤ 64 ⌝ }
+    ensures { λ r. ⌜ Scanned (now (d .entry)) k n r ⌝ }
+{
+    let mut r = k;
+    while r < n {
+        if d[r] != 0 {
+            return r;
+        }
+        r += 1;
+    }
+    r
+}
+
+// The next row below n, from k on and then from the first on, that has a mark; n or more where there is none.
+fn next_row(d: &[u64; 64], k: usize, n: usize) -> usize
+    requires { ⌜ n ≤ 64 ⌝ }
+    ensures { λ r. ⌜ Scanned (now (d .entry)) 0 n r ⌝ }
+{
+    let r = scan(d, k, n);
+    if r < n {
+        return r;
+    }
+    scan(d, 0, n)
+}
+
+// Lowers the numbers of a block along the moves from its marked pairs, and those that are marked then, until there is none.
+fn work(
+    m: Machine,
+    list: &[u16],
+    index: &[u16; 16065],
+    g: u64,
+    h: u64,
+    b: &mut [u64; 4096],
+    d: &mut [u64; 64],
+    p: &mut [u64; 64],
+)
+    requires { ⌜ Ready m (now list) (now index) h × Kind (buffering (m .marks)) g ⌝ }
+    requires { ⌜ Sized (now b) (now d) × (length (now p) ≡ 64) ⌝ }
+    ensures { λ r. ⌜ Worked m (now (list .entry)) (now (b .entry)) (now (d .entry)) (now (b .exit)) ⌝ }
+{
+    let mut s: usize = 0;
+    loop {
+        s = next_row(&*d, s, m.states);
+        if m.states <= s {
+            return;
+        }
+        let set = d[s];
+        d[s] = 0;
+        row::row(m, list, index, g, h, b, d, s, set, p);
+    }
+}
+
+// Clears the first n numbers.
+fn clear(b: &mut [u64; 4096], n: usize)
+    requires { ⌜ (length (now b) ≡ 4096) × (n ≤ 4096) ⌝ }
+    ensures { λ r. ⌜ Cleared n (now (b .entry)) (now (b .exit)) ⌝ }
+{
+    let mut i: usize = 0;
+    while i < n {
+        b[i] = NONE;
+        i += 1;
+    }
+}
+
+// Lowers the number of (q, guess) to v + 1, if v is less than NONE.
+fn begin(b: &mut [u64; 4096], d: &mut [u64; 64], q: usize, guess: usize, v: u64)
+    requires { ⌜ Sized (now b) (now d) ⌝ }
+    requires { ⌜ (q < 64) × (guess < 64) ⌝ }
+    ensures { λ r. ⌜ Lowers (Begin q guess v) (now (b .entry)) (now (d .entry)) (now (b .exit)) (now (d .exit)) ⌝ }
+{
+    if NONE <= v {
+        return;
+    }
+    numbers::lower(b, d, q, guess, v + 1);
+}
+
+// The same for each state of a set, with its number in costs for v.
+fn begin_all(b: &mut [u64; 4096], d: &mut [u64; 64], set: u64, guess: usize, costs: &[u64; 64])
+    requires { ⌜ Sized (now b) (now d) ⌝ }
+    requires { ⌜ guess < 64 ⌝ }
+    ensures { λ r. ⌜ Lowers (Begins guess (In «set») (now (costs .entry))) (now (b .entry)) (now (d .entry)) (now (b .exit)) (now (d .exit)) ⌝ }
+{
+    let mut rest = set;
+    while rest != 0 {
+        let q = stateset::lowest(rest) as usize;
+        rest = stateset::without_lowest(rest);
+        begin(b, d, q, guess, costs[q]);
+    }
+}
+
+// A number for each state, all 0.
+pub fn zeros() -> [u64; 64]
+    ensures { λ r. ⌜ length r ≡ 64 ⌝ }
+{
+    [0; 64]
+}
+
+// A block in which nothing stands.
+pub fn no_block() -> [u64; 4096]
+    ensures { λ r. ⌜ Blank r ⌝ }
+{
+    [NONE; 4096]
+}
+
+// The block of the guess, for copies that begin in a buffering state of the set; costs has the least weights at which they begin. g has
+// the buffering states, h the matching states.
+// Time: for each row that is taken, as often as its numbers are lowered, its transitions and for each of them a step a state; and at
+// first 64 numbers a state.
+pub fn block(
+    m: Machine,
+    list: &[u16],
+    index: &[u16; 16065],
+    g: u64,
+    h: u64,
+    guess: usize,
+    set: u64,
+    costs: &[u64; 64],
+    b: &mut [u64; 4096],
+)
+    requires { ⌜ Ready m (now list) (now index) h × Kind (buffering (m .marks)) g ⌝ }
+    requires { ⌜ (length (now b) ≡ 4096) × Past m (now b) × (guess < 64) ⌝ }
+    ensures { λ r. ⌜ Block m (now (list .entry)) guess «set» (now (costs .entry)) (now (b .exit)) ⌝ }
+{
+    clear(b, m.states * 64);
+    let held = stateset::intersection(set, g);
+    let mut d = zeros();
+    let mut p = zeros();
+    begin_all(b, &mut d, held, guess, costs);
+    work(m, list, index, g, h, b, &mut d, &mut p);
+}

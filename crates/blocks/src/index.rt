@@ -1,0 +1,61 @@
+// The index of a machine's transitions by state and letter. A state and a letter are one number, the key: state × stride + letter, where
+// the stride is one more than the number of letters. The list rises, so the transitions of a key stand together.
+//
+// index     for each key the number of transitions with a lower key, so that the transitions of a key y have the numbers from index[y] up
+//           to, not including, index[y + 1]
+ghost use Prim.Native.Nat.{ℕ, _+_, _*_, _≤_, _<_};
+ghost use mathlib.Core.Path.{_≡_};
+ghost use mathlib.Core.Bool.{true};
+ghost use lib.ListN.{length};
+ghost use Rattle.fsbm.specs.Machine.{wellFormed};
+ghost use Rattle.blocks.specs.Stretches.{keyOf, noIndex, Found, Stretches};
+use fsbm::machine::Machine;
+
+// The key of transition k.
+fn key(list: &[u16], stride: usize, k: usize) -> usize
+    requires { ⌜ (stride ≤ 251) × (k * 3 + 3 ≤ length (now list)) ⌝ }
+    ensures { λ r. ⌜ r ≡ keyOf (now (list .entry)) stride k ⌝ }
+{
+    list[k * 3] as usize * stride + list[k * 3 + 1] as usize
+}
+
+// The first transition from k on, below n, whose key is at least y; n where there is none.
+fn seek(list: &[u16], stride: usize, k: usize, n: usize, y: usize) -> usize
+    requires { ⌜ (stride ≤ 251) × (k ≤ n) × (n * 3 ≤ length (now list)) ⌝ }
+    ensures { λ r. ⌜ Found (now (list .entry)) stride k n y r ⌝ }
+{
+    let mut r = k;
+    while r < n {
+        if y <= key(list, stride, r) {
+            return r;
+        }
+        r += 1;
+    }
+    r
+}
+
+// A number for each key, all 0.
+fn no_index() -> [u16; 16065]
+    ensures { λ r. ⌜ r ≡ noIndex ⌝ }
+{
+    [0; 16065]
+}
+
+// The index of a well-formed machine's list.
+// Time: the keys and the transitions, each once.
+pub fn index(m: Machine, list: &[u16]) -> [u16; 16065]
+    requires { ⌜ wellFormed m (now list) ≡ true ⌝ }
+    ensures { λ r. ⌜ Stretches m (now (list .entry)) r ⌝ }
+{
+    let stride = m.letters + 1;
+    let keys = m.states * stride;
+    let mut starts = no_index();
+    let mut k: usize = 0;
+    let mut y: usize = 0;
+    while y <= keys {
+        k = seek(list, stride, k, m.transitions, y);
+        starts[y] = k as u16;
+        y += 1;
+    }
+    starts
+}

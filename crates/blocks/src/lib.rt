@@ -1,0 +1,6 @@
+// Least weights within one copy, for one guess of the state where its storing half ends (a block).
+pub mod block;
+pub mod gather;
+pub mod index;
+pub mod numbers;
+pub mod row;

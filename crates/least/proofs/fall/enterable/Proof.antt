@@ -1,0 +1,34 @@
+use mathlib.Core.Path.{_≡_, sym, _∙_}
+use Rattle.least.specs.Falls.Laws.{enterable-held, enterable-all}
+use borrow.Author.Needs.{needs}
+use Rattle.least.proofs.fall.enterable.Statement.{statement}
+use Rattle.least.proofs.fall.enterable.Tie as tie
+use Rattle.least.proofs.fall.enterable.Reads as reads
+use Rattle.least.proofs.fall.enterable.Lts as lts
+use Rattle.stateset.proofs.difference.Reads as difference-reads
+use Rattle.stateset.proofs.full.Reads as full-reads
+use Rattle.stateset.proofs.member.Reads as member-reads
+
+-- src/fall.rt:70:9
+full-requires : tie.Need-full-requires
+full-requires c κs = search needs
+
+-- src/fall.rt:71:8
+member-requires : tie.Need-member-requires
+member-requires c κs = search needs
+
+-- src/fall.rt:72:9
+difference-requires : tie.Need-difference-requires
+difference-requires c κs = search needs
+
+-- src/fall.rt:72:9
+returns : tie.Need-returns
+returns c = enterable-held _ _ ((c .before .before .before) .full .ensures) (sym ((c .before .before) .member .ensures) ∙ (c .before) .if1 .taken) (c .difference .ensures)
+
+-- src/fall.rt:67:1
+returns-2 : tie.Need-returns-2
+returns-2 c = enterable-all _ _ ((c .before .before) .full .ensures) (sym ((c .before) .member .ensures) ∙ c .if1 .left)
+
+pub enterable-spec : {M : Type 1} → statement M
+enterable-spec =
+    tie.close (tie.spec full-requires member-requires difference-requires returns returns-2)

@@ -1,0 +1,18 @@
+use native.Mathlib.Omega.{arith}
+use Rattle.least.specs.Falls.Laws.{weigh-letter}
+use borrow.Author.Needs.{needs}
+use Rattle.least.proofs.fall.weight.Statement.{statement}
+use Rattle.least.proofs.fall.weight.Tie as tie
+use Rattle.least.proofs.fall.weight.Reads as reads
+use Rattle.least.proofs.fall.weight.Lts as lts
+
+-- src/fall.rt:34:9
+returns : tie.Need-returns
+returns c = search needs
+
+-- src/fall.rt:30:1
+returns-2 : tie.Need-returns-2
+returns-2 c = (weigh-letter _ (c .if1 .left), omega arith)
+
+pub weight-spec : {M : Type 1} → statement M
+weight-spec = tie.close (tie.spec returns returns-2)

@@ -1,0 +1,88 @@
+use native.Mathlib.Omega.{arith}
+use mathlib.Core.Path.{_≡_, refl, sym, _∙_}
+use borrow.Author.Needs.{needs}
+use lib.Count.{ones}
+use Rattle.pieces.specs.Blocks.Laws.{cell-inside}
+use Rattle.blocks.specs.Numbers.Laws.{Left, Rest, rest-start, rest-more, lowest-inside, taken}
+use Rattle.least.specs.Falls.{Falls, Ends}
+use Rattle.least.specs.Falls.Laws.{ends-start, ends-more, ends-end}
+use Rattle.least.proofs.turns.end_all.Statement.{statement}
+use Rattle.least.proofs.turns.end_all.Tie as tie
+use Rattle.least.proofs.turns.end_all.Reads as reads
+use Rattle.least.proofs.turns.end_all.Lts as lts
+use Rattle.least.proofs.turns.end.Reads as end-reads
+use Rattle.stateset.proofs.lowest.Reads as lowest-reads
+use Rattle.stateset.proofs.without_lowest.Reads as without-lowest-reads
+
+abbrev Inv-loop : tie.InvT-loop
+Inv-loop b guess h d₀ got all₀ rest₀ d all rest = Rest h rest × Falls (Ends b guess (Left h rest)) (Ends b guess (Left h rest)) d₀ got d all
+
+abbrev μ-loop : tie.MeasureT-loop
+μ-loop b guess h d₀ got all₀ rest₀ d all rest = ones rest
+
+-- src/turns.rt:97:5
+loop-holds : tie.Need-loop-holds Inv-loop μ-loop
+loop-holds c = (rest-start _ (omega (arith, c .fits .h)), ends-start _ _ _ _ _ (omega (arith, c .fits .got)))
+
+-- src/turns.rt:98:17
+lowest-requires : tie.Need-lowest-requires Inv-loop μ-loop
+lowest-requires c κs = search needs
+
+-- src/turns.rt:98:17
+cast-z : tie.Need-cast-z Inv-loop μ-loop
+cast-z c = search needs
+
+-- src/turns.rt:99:9
+without-lowest-requires : tie.Need-without-lowest-requires Inv-loop μ-loop
+without-lowest-requires c κs = search needs
+
+-- src/turns.rt:100:32
+mul-end : tie.Need-mul-end Inv-loop μ-loop
+mul-end c = omega (arith, (c .before .before .before .before .before) .pre .1)
+
+-- src/turns.rt:100:32
+add-end : tie.Need-add-end Inv-loop μ-loop
+add-end c = omega (arith, (c .before .before .before .before .before) .pre .1, lowest-inside _ _ ((c .before .before .before .before) .loop .inv .0 .fits) ((c .before .before .before) .loop-test .taken) ((c .before .before) .lowest .ensures))
+
+-- src/turns.rt:100:30
+mul-end-2 : tie.Need-mul-end-2 Inv-loop μ-loop
+mul-end-2 c = omega (arith, (c .before .before .before .before .before) .pre .1, lowest-inside _ _ ((c .before .before .before .before) .loop .inv .0 .fits) ((c .before .before .before) .loop-test .taken) ((c .before .before) .lowest .ensures))
+
+-- src/turns.rt:100:30
+element-copy-out-end : tie.Need-element-copy-out-end Inv-loop μ-loop
+element-copy-out-end c = omega (arith, (c .before .before .before .before .before) .pre .1, lowest-inside _ _ ((c .before .before .before .before) .loop .inv .0 .fits) ((c .before .before .before) .loop-test .taken) ((c .before .before) .lowest .ensures))
+
+-- src/turns.rt:100:9
+end-requires : tie.Need-end-requires Inv-loop μ-loop
+end-requires c κs = ((c .before .before .before .before .before) .loop .inv .1 .size ∙ (c .before .before .before .before .before .before) .pre .0, lowest-inside _ _ ((c .before .before .before .before .before) .loop .inv .0 .fits) ((c .before .before .before .before) .loop-test .taken) ((c .before .before .before) .lowest .ensures))
+
+-- src/turns.rt:97:5
+loop-less : tie.Need-loop-less Inv-loop μ-loop
+loop-less c = taken ((c .before .before .before .before .before .before) .loop .inv .0 .fits) ((c .before .before .before .before .before) .loop-test .taken) ((c .before .before .before .before) .lowest .ensures) ((c .before .before .before) .without-lowest .ensures) .fewer
+
+-- src/turns.rt:97:5
+loop-again : tie.Need-loop-again Inv-loop μ-loop
+loop-again c = let k = taken ((c .before .before .before .before .before .before) .loop .inv .0 .fits) ((c .before .before .before .before .before) .loop-test .taken) ((c .before .before .before .before) .lowest .ensures) ((c .before .before .before) .without-lowest .ensures) in (rest-more ((c .before .before .before .before .before .before) .loop .inv .0) k, ends-more _ _ ((c .before .before .before .before .before .before) .loop .inv .0) k (sym (cell-inside _ _ _ ((c .before .before .before .before .before .before .before) .pre .1) (lowest-inside _ _ ((c .before .before .before .before .before .before) .loop .inv .0 .fits) ((c .before .before .before .before .before) .loop-test .taken) ((c .before .before .before .before) .lowest .ensures)))) ((c .before .before .before .before .before .before) .loop .inv .1) (c .end .ensures))
+
+-- src/turns.rt:91:1
+returns : tie.Need-returns Inv-loop μ-loop
+returns c = ends-end _ _ _ _ (c .loop-test .left) ((c .before) .loop .inv .1)
+
+pub end-all-spec : {M : Type 1} → statement M
+end-all-spec =
+    tie.close
+    (tie.spec
+    Inv-loop
+    μ-loop
+    loop-holds
+    lowest-requires
+    cast-z
+    without-lowest-requires
+    mul-end
+    add-end
+    mul-end-2
+    element-copy-out-end
+    end-requires
+    loop-less
+    loop-again
+    returns)

@@ -1,0 +1,95 @@
+use native.Mathlib.Omega.{arith}
+use Prim.Native.Nat.{ℕ, _+_, _*_}
+use mathlib.Core.Path.{_≡_, sym, _∙_}
+use borrow.Author.Tests.{not-true, not-false}
+use Rattle.stateset.specs.Set.{width}
+use Rattle.stateset.specs.Set.Laws.{in-lt, has-in}
+use lib.ListN.{getD}
+use Rattle.least.specs.Turns.Laws.{entered-other, entered-inside, entered-is}
+use borrow.Author.Needs.{needs}
+use Rattle.least.proofs.turns.with_entered.Statement.{statement}
+use Rattle.least.proofs.turns.with_entered.Tie as tie
+use Rattle.least.proofs.turns.with_entered.Reads as reads
+use Rattle.least.proofs.turns.with_entered.Lts as lts
+use Rattle.stateset.proofs.add.Reads as add-reads
+use Rattle.stateset.proofs.member.Reads as member-reads
+
+-- src/turns.rt:30:19
+mul-to : tie.Need-mul-to
+mul-to c = search needs
+
+-- src/turns.rt:30:19
+add-to : tie.Need-add-to
+add-to c = search needs
+
+-- src/turns.rt:30:14
+mul-to-2 : tie.Need-mul-to-2
+mul-to-2 c = search needs
+
+-- src/turns.rt:30:14
+shared-slice-read-to : tie.Need-shared-slice-read-to
+shared-slice-read-to c = search needs
+
+-- src/turns.rt:30:14
+cast-to : tie.Need-cast-to
+cast-to c = omega (arith, c .shared-slice-known2 .given ((c .before .before) .args .k * 3 + 2))
+
+-- src/turns.rt:31:9
+member-requires : tie.Need-member-requires
+member-requires c κs = search needs
+
+-- src/turns.rt:32:9
+returns : tie.Need-returns
+returns c = entered-other _ _ _ _ (omega (arith, (c .before .before .before .before) .fits .set)) (sym ((c .before) .member .ensures) ∙ not-true _ (c .if1 .taken))
+
+-- src/turns.rt:34:33
+mul-member : tie.Need-mul-member
+mul-member c = search needs
+
+-- src/turns.rt:34:28
+mul-member-2 : tie.Need-mul-member-2
+mul-member-2 c = search needs
+
+-- src/turns.rt:34:28
+shared-slice-read-member : tie.Need-shared-slice-read-member
+shared-slice-read-member c = search needs
+
+-- src/turns.rt:34:28
+cast-member : tie.Need-cast-member
+cast-member c = omega (arith, c .shared-slice-known3 .given ((c .before .before .before .before .before) .args .k * 3))
+
+-- src/turns.rt:34:8
+member-requires-2 : tie.Need-member-requires-2
+member-requires-2 c κs = search needs
+
+-- src/turns.rt:35:9
+returns-2 : tie.Need-returns-2
+returns-2 c = entered-inside _ _ _ _ (omega (arith, (c .before .before .before .before .before .before .before) .fits .set)) (sym ((c .before) .member2 .ensures) ∙ c .if2 .taken)
+
+-- src/turns.rt:37:5
+add-requires : tie.Need-add-requires
+add-requires c κs = search needs
+
+-- src/turns.rt:26:1
+returns-3 : tie.Need-returns-3
+returns-3 c = entered-is _ _ _ _ (in-lt {w = width} {x = (c .before .before .before .before .before .before .before .before) .args .h} {q = getD ((c .before .before .before .before .before .before .before .before) .args .list .now) ((c .before .before .before .before .before .before .before .before) .args .k * 3 + 2) 0} (omega (arith, (c .before .before .before .before .before .before .before .before) .fits .h)) (has-in _ _ .0 (sym ((c .before .before .before .before .before) .member .ensures) ∙ not-false _ ((c .before .before .before .before) .if1 .left)))) (sym ((c .before .before .before .before .before) .member .ensures) ∙ not-false _ ((c .before .before .before .before) .if1 .left)) (c .add .ensures)
+
+pub with-entered-spec : {M : Type 1} → statement M
+with-entered-spec =
+    tie.close
+    (tie.spec
+    mul-to
+    add-to
+    mul-to-2
+    shared-slice-read-to
+    cast-to
+    member-requires
+    returns
+    mul-member
+    mul-member-2
+    shared-slice-read-member
+    cast-member
+    member-requires-2
+    returns-2
+    add-requires
+    returns-3)

@@ -1,0 +1,2 @@
+pub mod Falls
+pub mod Turns

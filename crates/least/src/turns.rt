@@ -1,0 +1,222 @@
+// Turns of normal moves and of copies, until nothing is lowered any more.
+//
+// ends      the states where storing can end
+// costs     the least weights from a start
+ghost use Prim.Native.Nat.{ℕ, _+_, _*_, _≤_, _<_};
+ghost use mathlib.Core.Path.{_≡_};
+ghost use mathlib.Core.Bool.{true};
+ghost use lib.ListN.{length};
+ghost use Rattle.stateset.specs.Set.{In, has};
+ghost use Rattle.fsbm.specs.Machine.{transitionAt, buffering, matching};
+ghost use Rattle.images.specs.Graph.{KindsOf};
+ghost use Rattle.blocks.specs.Works.{Kind, Ready};
+ghost use Rattle.blocks.specs.Settling.{Past};
+ghost use Rattle.least.specs.Falls.{Falls, End, Ends};
+ghost use Rattle.least.specs.Turns.{Entered, EnteredBelow, EnteredBy, NormalTurn, Guessed, CopyTurn, First, firstOf, Costs};
+use blocks::block;
+use crate::fall;
+use fsbm::machine::Machine;
+use images::Kinds;
+
+// The number that says "no way".
+const NONE: u64 = 4611686018427387904;
+
+// The set with the state that transition k enters, if that is a matching state and transition k does not leave one. h has the matching
+// states.
+fn with_entered(list: &[u16], k: usize, h: u64, set: u64) -> u64
+    requires { ⌜ k * 3 + 3 ≤ length (now list) ⌝ }
+    ensures { λ r. ⌜ EnteredBy (now (list .entry)) k h «set» r ⌝ }
+{
+    let to = list[k * 3 + 2] as usize;
+    if !stateset::member(h, to) {
+        return set;
+    }
+    if stateset::member(h, list[k * 3] as usize) {
+        return set;
+    }
+    stateset::add(set, to)
+}
+
+// The matching states that some transition enters that does not leave a matching state. Time: the transitions, each once.
+pub fn ends(m: Machine, list: &[u16], h: u64) -> u64
+    requires { ⌜ (m .transitions * 3 ≤ length (now list)) × Kind (matching (m .marks)) h ⌝ }
+    ensures { λ r. ⌜ Entered m (now (list .entry)) r ⌝ }
+{
+    let mut set = stateset::empty();
+    let mut k: usize = 0;
+    while k < m.transitions {
+        set = with_entered(list, k, h, set);
+        k += 1;
+    }
+    set
+}
+
+// A turn of normal moves from the fresh states, until no number is lowered any more; the states that were fresh or were lowered.
+fn settle(
+    m: Machine,
+    list: &[u16],
+    index: &[u16; 16065],
+    g: u64,
+    h: u64,
+    d: &mut [u64; 64],
+    fresh: u64,
+) -> u64
+    requires { ⌜ Ready m (now list) (now index) h × Kind (buffering (m .marks)) g ⌝ }
+    requires { ⌜ length (now d) ≡ 64 ⌝ }
+    ensures { λ r. ⌜ NormalTurn m (now (list .entry)) (now (d .entry)) fresh (now (d .exit)) r ⌝ }
+{
+    let mut started = stateset::empty();
+    let mut rest = fresh;
+    while rest != 0 {
+        let q = stateset::lowest(rest) as usize;
+        rest = stateset::without_lowest(rest);
+        started = stateset::add(started, q);
+        rest = fall::normal(m, list, index, g, h, q, d, rest);
+    }
+    started
+}
+
+// Lowers the number of z to v + 2 and adds z to the set, where that is less and v is less than NONE; the set then.
+fn end(d: &mut [u64; 64], got: u64, z: usize, v: u64) -> u64
+    requires { ⌜ (length (now d) ≡ 64) × (z < 64) ⌝ }
+    ensures { λ r. ⌜ Falls (End z v) (End z v) (now (d .entry)) got (now (d .exit)) r ⌝ }
+{
+    if NONE <= v {
+        return got;
+    }
+    fall::fall(d, got, z, v + 2)
+}
+
+// The same for each matching state, with its number in row guess of the block for v. h has the matching states.
+fn end_all(b: &[u64; 4096], guess: usize, h: u64, d: &mut [u64; 64], got: u64) -> u64
+    requires { ⌜ (length (now d) ≡ 64) × (guess < 64) ⌝ }
+    ensures { λ r. ⌜ Falls (Ends (now (b .entry)) guess (In h)) (Ends (now (b .entry)) guess (In h)) (now (d .entry)) got (now (d .exit)) r ⌝ }
+{
+    let mut all = got;
+    let mut rest = h;
+    while rest != 0 {
+        let z = stateset::lowest(rest) as usize;
+        rest = stateset::without_lowest(rest);
+        all = end(d, all, z, b[guess * 64 + z]);
+    }
+    all
+}
+
+// The copies of one guess that begin in a state of the set.
+fn guessed(
+    m: Machine,
+    list: &[u16],
+    index: &[u16; 16065],
+    g: u64,
+    h: u64,
+    guess: usize,
+    set: u64,
+    b: &mut [u64; 4096],
+    d: &mut [u64; 64],
+    got: u64,
+) -> u64
+    requires { ⌜ Ready m (now list) (now index) h × Kind (buffering (m .marks)) g ⌝ }
+    requires { ⌜ (length (now d) ≡ 64) × (length (now b) ≡ 4096) × Past m (now b) × (guess < 64) ⌝ }
+    ensures { λ r. ⌜ Guessed m (now (list .entry)) h guess «set» (now (d .entry)) got (now (d .exit)) r (now (b .exit)) ⌝ }
+{
+    block::block(m, list, index, g, h, guess, set, &*d, b);
+    end_all(&*b, guess, h, d, got)
+}
+
+// A turn of copies that begin in a state of the set, all of them buffering states; the states that were lowered. storing has the states
+// where storing can end.
+fn copies(
+    m: Machine,
+    list: &[u16],
+    index: &[u16; 16065],
+    g: u64,
+    h: u64,
+    storing: u64,
+    set: u64,
+    b: &mut [u64; 4096],
+    d: &mut [u64; 64],
+) -> u64
+    requires { ⌜ Ready m (now list) (now index) h × Kind (buffering (m .marks)) g ⌝ }
+    requires { ⌜ (length (now d) ≡ 64) × (length (now b) ≡ 4096) × Past m (now b) ⌝ }
+    requires { ⌜ Entered m (now list) storing × ((q : ℕ) → In «set» q → buffering (m .marks) q ≡ true) ⌝ }
+    ensures { λ r. ⌜ (length (now (b .exit)) ≡ 4096) × Past m (now (b .exit)) × CopyTurn m (now (list .entry)) «set» (now (d .entry)) (now (d .exit)) r ⌝ }
+{
+    let mut got = stateset::empty();
+    let mut rest = storing;
+    while rest != 0 {
+        let guess = stateset::lowest(rest) as usize;
+        rest = stateset::without_lowest(rest);
+        got = guessed(m, list, index, g, h, guess, set, b, d, got);
+    }
+    got
+}
+
+// The first number of q: 0 where it is initial, else NONE.
+fn first(initial: u64, q: usize) -> u64
+    ensures { λ r. ⌜ r ≡ firstOf (has initial q) ⌝ }
+{
+    if stateset::member(initial, q) {
+        return 0;
+    }
+    NONE
+}
+
+// The first numbers of all states.
+fn start(initial: u64, d: &mut [u64; 64])
+    requires { ⌜ length (now d) ≡ 64 ⌝ }
+    ensures { λ r. ⌜ First initial (now (d .exit)) ⌝ }
+{
+    let mut q: usize = 0;
+    while q < 64 {
+        d[q] = first(initial, q);
+        q += 1;
+    }
+}
+
+// The turns from the first numbers on.
+fn turns(
+    m: Machine,
+    list: &[u16],
+    index: &[u16; 16065],
+    kinds: Kinds,
+    storing: u64,
+    b: &mut [u64; 4096],
+    d: &mut [u64; 64],
+)
+    requires { ⌜ Ready m (now list) (now index) (kinds .matching) × Kind (buffering (m .marks)) (kinds .buffering) × KindsOf (m .marks) (m .states) kinds ⌝ }
+    requires { ⌜ First (kinds .initial) (now d) × (length (now b) ≡ 4096) × Past m (now b) ⌝ }
+    requires { ⌜ Entered m (now list) storing ⌝ }
+    ensures { λ r. ⌜ (length (now (b .exit)) ≡ 4096) × Past m (now (b .exit)) × Costs m (now (list .entry)) (now (d .exit)) ⌝ }
+{
+    let g = kinds.buffering;
+    let h = kinds.matching;
+    let mut fresh = kinds.initial;
+    loop {
+        let started = settle(m, list, index, g, h, d, fresh);
+        let set = stateset::intersection(started, g);
+        if set == 0 {
+            return;
+        }
+        fresh = copies(m, list, index, g, h, storing, set, b, d);
+    }
+}
+
+// The least weight from a start to each state in normal mode, or NONE: letters × 2^32 + moves. index is the index of the list
+// (blocks::index), kinds has its sets of states (images::kinds_of), b is a block in which nothing stands past the last state.
+// Time: the normal moves, as often as a number is lowered; and in each turn of copies a block for each state where storing can end.
+pub fn costs(
+    m: Machine,
+    list: &[u16],
+    index: &[u16; 16065],
+    kinds: Kinds,
+    b: &mut [u64; 4096],
+    d: &mut [u64; 64],
+)
+    requires { ⌜ Ready m (now list) (now index) (kinds .matching) × Kind (buffering (m .marks)) (kinds .buffering) × KindsOf (m .marks) (m .states) kinds ⌝ }
+    requires { ⌜ (length (now d) ≡ 64) × (length (now b) ≡ 4096) × Past m (now b) ⌝ }
+    ensures { λ r. ⌜ (length (now (b .exit)) ≡ 4096) × Past m (now (b .exit)) × Costs m (now (list .entry)) (now (d .exit)) ⌝ }
+{
+    start(kinds.initial, d);
+    let storing = ends(m, list, kinds.matching);
+    turns(m, list, index, kinds, storing, b, d);
+}
