@@ -2,3 +2,4 @@ pub mod Copy
 pub mod Find
 pub mod Into
 pub mod Put
+pub mod Write

@@ -9,3 +9,4 @@ pub mod copy;
 pub mod find;
 pub mod into;
 pub mod put;
+pub mod write;

@@ -1,0 +1,58 @@
+use Rattle.shortest.proofs.write.guess.Statement.{statement}
+use Rattle.shortest.proofs.write.guess.Tie as tie
+use Rattle.shortest.proofs.write.guess.Reads as reads
+use Rattle.shortest.proofs.write.guess.Lts as lts
+use Rattle.shortest.proofs.write.try_guess.Reads as try-guess-reads
+
+abbrev Inv-loop : tie.InvT-loop
+Inv-loop m list index starts ends d b₀ q first k₀ b k = ?
+
+abbrev μ-loop : tie.MeasureT-loop
+μ-loop m list index starts ends d b₀ q first k₀ b k = ?
+
+-- src/write.rt:71:5
+loop-holds : tie.Need-loop-holds Inv-loop μ-loop
+loop-holds c = ?
+
+-- src/write.rt:72:18
+add-h : tie.Need-add-h Inv-loop μ-loop
+add-h c = ?
+
+-- src/write.rt:73:12
+try-guess-requires : tie.Need-try-guess-requires Inv-loop μ-loop
+try-guess-requires c κs = ?
+
+-- src/write.rt:74:13
+returns : tie.Need-returns Inv-loop μ-loop
+returns c = ?
+
+-- src/write.rt:76:9
+add-k : tie.Need-add-k Inv-loop μ-loop
+add-k c = ?
+
+-- src/write.rt:71:5
+loop-less : tie.Need-loop-less Inv-loop μ-loop
+loop-less c = ?
+
+-- src/write.rt:71:5
+loop-again : tie.Need-loop-again Inv-loop μ-loop
+loop-again c = ?
+
+-- src/write.rt:56:1
+returns-2 : tie.Need-returns-2 Inv-loop μ-loop
+returns-2 c = ?
+
+pub guess-spec : {M : Type 1} → statement M
+guess-spec =
+    tie.close
+    (tie.spec
+    Inv-loop
+    μ-loop
+    loop-holds
+    add-h
+    try-guess-requires
+    returns
+    add-k
+    loop-less
+    loop-again
+    returns-2)

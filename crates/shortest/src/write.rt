@@ -1,0 +1,79 @@
+// Writes a shortest word and its run from the least weights, from the end: a move or a copy along which the number of the state is
+// reached, again and again, until an initial state.
+ghost use Prim.Native.Nat.{ℕ, _+_, _≤_, _<_};
+ghost use mathlib.Core.Path.{_≡_};
+ghost use mathlib.Core.Bool.{Bool, true};
+ghost use lib.ListN.{length};
+ghost use Rattle.shortest.specs.Put.{PutReady};
+ghost use Rattle.shortest.specs.Copy.{Stepped};
+ghost use Rattle.shortest.specs.Write.{Read, Searching, TriedGuess, CopyThere, Guessed, StepReady, Aim, Shortest};
+use crate::copy;
+use crate::copy::Place;
+use crate::find;
+use crate::put;
+use blocks::block;
+use fsbm::machine;
+use fsbm::machine::Machine;
+
+// Writes a normal move by transition k before place i of the word and place r of the run.
+fn read(list: &[u16], k: usize, word: &mut [u8], i: usize, run: &mut [u16], r: usize) -> Place
+    requires { ⌜ PutReady (now list) k (now word) i (now run) r ⌝ }
+    ensures { λ p. ⌜ Read (now (list .entry)) k (now (word .entry)) i (now (run .entry)) r (now (word .exit)) (now (run .exit)) p ⌝ }
+{
+    let j = put::put(list, k, word, i, run, r);
+    let t = machine::transition_at(list, k);
+    Place {
+        state: t.from as usize,
+        letter: j,
+        entry: r - 1,
+    }
+}
+
+// Computes the block of the guess h; whether the number of q is reached along a copy with this guess. starts has the buffering states,
+// ends the matching states.
+fn try_guess(
+    m: Machine,
+    list: &[u16],
+    index: &[u16; 16065],
+    starts: u64,
+    ends: u64,
+    d: &[u64; 64],
+    b: &mut [u64; 4096],
+    q: usize,
+    h: usize,
+) -> bool
+    requires { ⌜ Searching m (now list) (now index) starts ends (now d) (now b) q × (h < 64) ⌝ }
+    ensures { λ r. ⌜ TriedGuess m (now (list .entry)) (now (index .entry)) starts ends (now (d .entry)) (now (b .exit)) q h r ⌝ }
+{
+    if !stateset::member(ends, h) {
+        return false;
+    }
+    block::block(m, list, index, starts, ends, h, starts, d, b);
+    find::makes(find::number(b, h, q), 2, find::cost(d, q))
+}
+
+// A guess with a copy along which the number of q is reached, and its block. The guesses are tried from the first on.
+fn guess(
+    m: Machine,
+    list: &[u16],
+    index: &[u16; 16065],
+    starts: u64,
+    ends: u64,
+    d: &[u64; 64],
+    b: &mut [u64; 4096],
+    q: usize,
+    first: usize,
+) -> usize
+    requires { ⌜ Searching m (now list) (now index) starts ends (now d) (now b) q × CopyThere m (now list) (now d) q × (first < 256) ⌝ }
+    ensures { λ h. ⌜ Guessed m (now (list .entry)) (now (index .entry)) starts ends (now (d .entry)) (now (b .exit)) q h ⌝ }
+{
+    let mut k: usize = 0;
+    while k < 64 {
+        let h = (first + k) % 64;
+        if try_guess(m, list, index, starts, ends, d, b, q, h) {
+            return h;
+        }
+        k += 1;
+    }
+    0
+}
