@@ -13,8 +13,8 @@ ghost use Rattle.blocks.specs.Works.{Kind, Ready};
 ghost use Rattle.blocks.specs.Settling.{Past};
 ghost use Rattle.least.specs.Falls.{Falls, End, Ends};
 ghost use Rattle.least.specs.Turns.{Entered, EnteredBelow, EnteredBy, NormalTurn, Guessed, CopyTurn, First, firstOf, Costs};
-use blocks::block;
 use crate::fall;
+use blocks::block;
 use fsbm::machine::Machine;
 use images::Kinds;
 

@@ -5,7 +5,8 @@
 -- Searching ..           == what a search for a guess asks: the machine with its index and sets, the least weights, room for a block, and a number at q
 -- CopyThere m list d q   == the number of q is reached along some copy
 -- TriedGuess, Guessed    == whether the number of q is reached along a copy with the guess h, and the block of h
--- StepReady              == what step asks
+-- StepReady, StepDone    == what step asks and ensures
+-- WriteReady             == what write asks of the machine and of the room to work in
 -- Aim m list d f n e     == f can be reached, n is the fewest letters of a word on the way to f, and n and e are what the number of f says: a word of
 --                           n letters and a run of e entries, the start counted
 -- Writing ..             == the word and the run are written from a place on
@@ -29,7 +30,7 @@ use Rattle.blocks.specs.Works.{Ready, Kind}
 use Rattle.blocks.specs.Settling.{Past, Block}
 use Rattle.shortest.specs.Into.{Into}
 use Rattle.shortest.specs.Put.{Put}
-use Rattle.shortest.specs.Copy.{Fits}
+use Rattle.shortest.specs.Copy.{Fits, Stepped}
 use Rattle.shortest.specs.declared.copy.Place.{Place}
 pub mod Laws
 
@@ -78,6 +79,21 @@ pub record StepReady (m : Machine) (list links index : List ℕ) (starts ends : 
   pub fits : Fits m list d q i r
   pub word-fits : i ≤ length word
   pub run-fits : r ≤ length run
+  pub later-size : length later ≡ 4096
+
+-- a piece is written, and what a further step asks of the room to work in is there
+pub record StepDone (m : Machine) (list index : List ℕ) (starts ends : ℕ) (d b′ : List ℕ) (q : ℕ) (word : List ℕ) (i : ℕ) (run : List ℕ) (r : ℕ) (word′ run′ later′ : List ℕ) (p : Place) : Type 0 where
+  pub stepped : Stepped m list d q word i run r word′ run′ p
+  pub size : length b′ ≡ 4096
+  pub past : Past m b′
+  pub later-size : length later′ ≡ 4096
+
+pub record WriteReady (m : Machine) (list links index : List ℕ) (starts ends : ℕ) (d b : List ℕ) (f : ℕ) (later : List ℕ) : Type 0 where
+  pub ready : Ready m list index ends
+  pub buffers : Kind (buffering (m .marks)) starts
+  pub into : Into m list links
+  pub size : length b ≡ 4096
+  pub past : Past m b
   pub later-size : length later ≡ 4096
 
 pub record Aim (m : Machine) (list d : List ℕ) (f n e : ℕ) : Type 0 where

@@ -131,7 +131,7 @@ pub fn copy(
     later: &mut [u16; 4096],
 ) -> Place
     requires { ⌜ CopyReady m (now list) (now links) (now d) (now b) h z (now word) i (now run) r (now later) ⌝ }
-    ensures { λ p. ⌜ Stepped m (now (list .entry)) (now (d .entry)) z (now (word .entry)) i (now (run .entry)) r (now (word .exit)) (now (run .exit)) p ⌝ }
+    ensures { λ p. ⌜ Stepped m (now (list .entry)) (now (d .entry)) z (now (word .entry)) i (now (run .entry)) r (now (word .exit)) (now (run .exit)) p × (length (now (later .exit)) ≡ 4096) ⌝ }
 {
     run[r - 1] = 65535;
     let w = walk_back(m, list, links, d, b, h, z, word, i, run, r - 1, later);

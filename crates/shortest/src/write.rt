@@ -6,7 +6,7 @@ ghost use mathlib.Core.Bool.{Bool, true};
 ghost use lib.ListN.{length};
 ghost use Rattle.shortest.specs.Put.{PutReady};
 ghost use Rattle.shortest.specs.Copy.{Stepped};
-ghost use Rattle.shortest.specs.Write.{Read, Searching, TriedGuess, CopyThere, Guessed, StepReady, Aim, Shortest};
+ghost use Rattle.shortest.specs.Write.{Read, Searching, TriedGuess, CopyThere, Guessed, StepReady, StepDone, WriteReady, Aim, Shortest};
 use crate::copy;
 use crate::copy::Place;
 use crate::find;
@@ -76,4 +76,89 @@ fn guess(
         k += 1;
     }
     0
+}
+
+fn wide(x: u8) -> usize
+    ensures { λ r. ⌜ (r ≡ x) × (r < 256) ⌝ }
+{
+    x as usize
+}
+
+// Writes the last piece of a run that ends in q before place i of the word and place r of the run, and says where it begins. hints has for
+// each state the guess that is tried first.
+fn step(
+    m: Machine,
+    list: &[u16],
+    links: &[u16; 4064],
+    index: &[u16; 16065],
+    starts: u64,
+    ends: u64,
+    d: &[u64; 64],
+    hints: &[u8; 64],
+    b: &mut [u64; 4096],
+    q: usize,
+    word: &mut [u8],
+    i: usize,
+    run: &mut [u16],
+    r: usize,
+    later: &mut [u16; 4096],
+) -> Place
+    requires { ⌜ StepReady m (now list) (now links) (now index) starts ends (now d) (now b) q (now word) i (now run) r (now later) ⌝ }
+    ensures { λ p. ⌜ StepDone m (now (list .entry)) (now (index .entry)) starts ends (now (d .entry)) (now (b .exit)) q (now (word .entry)) i (now (run .entry)) r (now (word .exit)) (now (run .exit)) (now (later .exit)) p ⌝ }
+{
+    let k = find::find_normal(m, list, links, d, q);
+    if k < m.transitions {
+        return read(list, k, word, i, run, r);
+    }
+    let h = guess(m, list, index, starts, ends, d, b, q, wide(hints[q]));
+    copy::copy(m, list, links, d, b, h, q, word, i, run, r, later)
+}
+
+// Writes a shortest word that leads from an initial state to f, and its run: the word fills its slice, and the run, with its start, its
+// own. links, index, starts and ends are those of the machine, d has its least weights; b and later are room to work in.
+// Time: for each entry the transitions into a state; for each copy a block for each guess that is tried, and for each move of its pair
+// the transitions into two states.
+pub fn write(
+    m: Machine,
+    list: &[u16],
+    links: &[u16; 4064],
+    index: &[u16; 16065],
+    starts: u64,
+    ends: u64,
+    d: &[u64; 64],
+    hints: &[u8; 64],
+    b: &mut [u64; 4096],
+    f: usize,
+    word: &mut [u8],
+    run: &mut [u16],
+    later: &mut [u16; 4096],
+)
+    requires { ⌜ WriteReady m (now list) (now links) (now index) starts ends (now d) (now b) f (now later) × Aim m (now list) (now d) f (length (now word)) (length (now run)) ⌝ }
+    ensures { λ u. ⌜ Shortest m (now (list .entry)) f (now (word .exit)) (now (run .exit)) ⌝ }
+{
+    let mut p = Place {
+        state: f,
+        letter: word.len(),
+        entry: run.len(),
+    };
+    while 0 < find::cost(d, p.state) {
+        p = step(
+            m,
+            list,
+            links,
+            index,
+            starts,
+            ends,
+            d,
+            hints,
+            b,
+            p.state,
+            word,
+            p.letter,
+            run,
+            p.entry,
+            later,
+        );
+    }
+    run[0] = p.state as u16;
 }

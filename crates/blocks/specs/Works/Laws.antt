@@ -430,14 +430,16 @@ module _ (m : Machine) (g h s : ℕ) (buffers : Kind (buffering (m .marks)) g) (
 
 module _ (m : Machine) (list : List ℕ) (good : wellFormed m list ≡ true) (k : Kinds) (is : KindsOf (m .marks) (m .states) k) where
   pub kind-buffering : Kind (buffering (m .marks)) (k .buffering)
-  kind-buffering q =
-      (λ i. eq-eqb (markOf (m .marks) q / 4 % 2) 1 (is .buffering .members q .0 i .1),
-        λ e. is .buffering .members q .1 (buffering-below m list (rules m list good) q e, eqb-true (markOf (m .marks) q / 4 % 2) 1 e))
+  kind-buffering q = (
+    λ i. eq-eqb (markOf (m .marks) q / 4 % 2) 1 (is .buffering .members q .0 i .1),
+    λ e. is .buffering .members q .1 (buffering-below m list (rules m list good) q e, eqb-true (markOf (m .marks) q / 4 % 2) 1 e),
+  )
 
   pub kind-matching : Kind (matching (m .marks)) (k .matching)
-  kind-matching q =
-      (λ i. eq-eqb (markOf (m .marks) q / 8 % 2) 1 (is .matching .members q .0 i .1),
-        λ e. is .matching .members q .1 (matching-below m list (rules m list good) q e, eqb-true (markOf (m .marks) q / 8 % 2) 1 e))
+  kind-matching q = (
+    λ i. eq-eqb (markOf (m .marks) q / 8 % 2) 1 (is .matching .members q .0 i .1),
+    λ e. is .matching .members q .1 (matching-below m list (rules m list good) q e, eqb-true (markOf (m .marks) q / 8 % 2) 1 e),
+  )
 
   pub ready-of : (index : List ℕ) → Stretches m list index → Ready m list index (k .matching)
   ready-of index starts = record { good = good; starts = starts; matches = kind-matching }

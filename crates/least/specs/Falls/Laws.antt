@@ -137,10 +137,10 @@ module _ (d : List ℕ) (got q v : ℕ) (inside : q < 64) where
         stays = λ p m. is .members p .1 (inl m);
         changed = λ p. changed p (ℕ-discrete p q);
         less =
-          let x = total-set d q v (omega arith) in
-          let y = added-more got q inside in
-          let z = ap ones (is .value) in
-          omega arith;
+            let x = total-set d q v (omega arith) in
+            let y = added-more got q inside in
+            let z = ap ones (is .value) in
+            omega arith;
         origin = λ p. from p (ℕ-discrete p q);
         settled = λ p w c. let e = value p (c .state) in omega (arith, c .value);
       }
@@ -213,9 +213,10 @@ module _ (list : List ℕ) (may n : ℕ) where
 
 module _ (h q : ℕ) {all u : ℕ} (whole : SetIs all u (λ p. (p < 64) × (p < width))) where
   pub enterable-held : {rest v : ℕ} → has h q ≡ true → SetIs rest v (λ p. In all p × (In h p → ⊥)) → Enterable h q rest
-  enterable-held e is p =
-      (λ m. let k = is .members p .0 m in (whole .members p .0 (k .0) .0, λ z. k .1 (z .1)),
-        λ z. is .members p .1 (whole .members p .1 (z .0, z .0), λ k. z .1 (has-in h q .0 e, k)))
+  enterable-held e is p = (
+    λ m. let k = is .members p .0 m in (whole .members p .0 (k .0) .0, λ z. k .1 (z .1)),
+    λ z. is .members p .1 (whole .members p .1 (z .0, z .0), λ k. z .1 (has-in h q .0 e, k)),
+  )
 
   pub enterable-all : has h q ≡ false → Enterable h q all
   enterable-all e p = (λ m. (whole .members p .0 m .0, λ z. eqb-false (digit h q) 1 e (z .0)), λ z. whole .members p .1 (z .0, z .0))
@@ -253,8 +254,8 @@ module _ {m : Machine} {list index : List ℕ} {h : ℕ} (r : Ready m list index
             known = omega arith;
             weight = weigh (transitionAt list (c .number) .letter);
             move =
-              moves (record { number = c .number; listed = k .0; from = k .1; letter = refl; to = c .step .enters })
-              (λ z. enter p .0 (c .step .allowed) .1 (r .matches q .1 (z .0), r .matches p .1 (z .1))) (λ z. eqb-false (digit g q) 1 free (buffers q .1 z));
+                moves (record { number = c .number; listed = k .0; from = k .1; letter = refl; to = c .step .enters })
+                (λ z. enter p .0 (c .step .allowed) .1 (r .matches q .1 (z .0), r .matches p .1 (z .1))) (λ z. eqb-false (digit g q) 1 free (buffers q .1 z));
             value = omega (arith, c .step .value);
           }
 

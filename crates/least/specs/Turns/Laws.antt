@@ -67,9 +67,9 @@ module _ (m : Machine) (list : List ℕ) where
         fits = f .fits;
         rounds = λ r. rounds-turn (so .rounds r) (costOf d′) (f .down) (λ p. origin p (f .origin p)) (λ p quiet. normal p quiet (ℕ-discrete p q)) (λ p quiet. inl (copies p quiet));
         less =
-          let x = added-more started q here in
-          let y = ap ones (is .value) in
-          omega (arith, f .less, k .fewer, so .less);
+            let x = added-more started q here in
+            let y = ap ones (is .value) in
+            omega (arith, f .less, k .fewer, so .less);
       }
     where
       origin : (p : ℕ) → (costOf d′ p ≡ costOf d p) ⊎ NormalFrom m list d q p (costOf d′ p) → (costOf d′ p ≡ costOf d p) ⊎ ((x : ℕ) × (w : ℕ) × Piece (fsbmOf m list) x p w × (costOf d′ p ≡ w + costOf d x))
@@ -207,19 +207,19 @@ module _ (m : Machine) (list : List ℕ) (good : wellFormed m list ≡ true) (h 
               let (p, a, δ, from) = stores-enters (kinds-apart m list (rules m list good)) buffers turns route in
               let j = same g quiet (f .changed g) in
               let i = f .settled z (3 + n + costOf d₀ g)
-                  (record {
-                    first = g;
-                    guess = guess;
-                    weight = n;
-                    member = part g k buffers;
-                    buffers = buffers;
-                    holds = left-end ends₀ rest guess e .1 (entered .all p a guess δ turns from);
-                    turns = turns;
-                    ends = ends;
-                    route = route;
-                    value = refl;
-                    small = omega arith;
-                  }) in
+              (record {
+                first = g;
+                guess = guess;
+                weight = n;
+                member = part g k buffers;
+                buffers = buffers;
+                holds = left-end ends₀ rest guess e .1 (entered .all p a guess δ turns from);
+                turns = turns;
+                ends = ends;
+                route = route;
+                value = refl;
+                small = omega arith;
+              }) in
               omega arith
 
 -- The first turn and the last
@@ -234,9 +234,10 @@ module _ (m : Machine) (list : List ℕ) where
       on q (no n) = inr (f .none-elsewhere q n)
 
   pub initial-is : (k : Kinds) → KindsOf (m .marks) (m .states) k → (q : ℕ) → In (k .initial) q ↔ fsbmOf m list .I q
-  initial-is k is q =
-      (λ i. let z = is .initial .members q .0 i in (z .0, eq-eqb (markOf (m .marks) q % 2) 1 (let y = z .1 in omega arith)),
-        λ i. is .initial .members q .1 (i .0, let y = eqb-true (markOf (m .marks) q % 2) 1 (i .1) in omega arith))
+  initial-is k is q = (
+    λ i. let z = is .initial .members q .0 i in (z .0, eq-eqb (markOf (m .marks) q % 2) 1 (let y = z .1 in omega arith)),
+    λ i. is .initial .members q .1 (i .0, let y = eqb-true (markOf (m .marks) q % 2) 1 (i .1) in omega arith),
+  )
 
   module _ (g : ℕ) (buffers : Kind (buffering (m .marks)) g) (started set : ℕ) {v : ℕ} (is : SetIs set v (λ q. In started q × In g q)) where
     pub turns-part : (q : ℕ) → In started q → buffering (m .marks) q ≡ true → In set q
@@ -296,7 +297,7 @@ module _ (m : Machine) (list : List ℕ) where
           let e : j ≡ k = omega arith in
           subst (λ (i : ℕ). In r (transitionAt list i .to)) (sym e)
           (g .this (subst (λ (i : ℕ). In h (transitionAt list i .to)) e (matches (transitionAt list j .to) .1 to))
-            (λ i. from (matches (transitionAt list j .from) .0 (subst (λ (x : ℕ). In h (transitionAt list x .from)) (sym e) i))))
+          (λ i. from (matches (transitionAt list j .from) .0 (subst (λ (x : ℕ). In h (transitionAt list x .from)) (sym e) i))))
 
       kind : (q : ℕ) → In set q ⊎ In h q → matching (m .marks) q ≡ true
       kind q (inl j) = f .only q j
@@ -309,7 +310,7 @@ module _ (m : Machine) (list : List ℕ) where
         all = λ p a q e to from.
             subst (λ (i : ℕ). In set i) (e .to)
             (f .all (e .number) (omega (arith, e .listed)) (subst (λ (i : ℕ). matching (m .marks) i ≡ true) (sym (e .to)) to)
-              (λ j. from (subst (λ (i : ℕ). matching (m .marks) i ≡ true) (e .from) j)));
+            (λ j. from (subst (λ (i : ℕ). matching (m .marks) i ≡ true) (e .from) j)));
         only = f .only;
       }
 

@@ -6,7 +6,7 @@
 -- copy-there              == where no normal move is one, a copy is
 -- tried-not, tried-block  == the ways through try_guess
 -- guess-start, guess-next, guess-found, guess-end == the loop of guess
--- copy-ready              == copy may begin
+-- copy-ready, step-ready  == copy may begin, step may
 -- write-start, write-fits, write-turn, write-end == the loop of write
 use Prim.Native.Nat.{ℕ, zero, suc, _+_, _*_, _-_, _≤_, _<_, _%_}
 use mathlib.Core.Path.{_≡_, refl, sym, ap, _∙_, subst, subst₂}
@@ -45,7 +45,7 @@ use Rattle.shortest.specs.Find.Tests.{normal-says, normal-true}
 use Rattle.shortest.specs.Put.{PutReady, Put}
 use Rattle.shortest.specs.Put.Laws.{some-symbol}
 use Rattle.shortest.specs.Copy.{Fits, CopyReady, Stepped}
-use Rattle.shortest.specs.Write.{Read, Least, Searching, CopyThere, TriedGuess, Guessed, Guessing, StepReady, Aim, Writing, Shortest}
+use Rattle.shortest.specs.Write.{Read, Least, Searching, CopyThere, TriedGuess, Guessed, Guessing, StepReady, WriteReady, Aim, Writing, Shortest}
 use Rattle.shortest.specs.declared.copy.Place.{Place}
 
 pub number-below : (d : List ℕ) (q : ℕ) → costOf d q < nothing → q < 64
@@ -256,8 +256,7 @@ module _ (m : Machine) (list d : List ℕ) (f : ℕ) (word₀ run₀ : List ℕ)
         let lw = length-append (s .read) (drop (p .letter) word) in
         let lr = length-append (s .entries) (drop (p .entry) run) in
         let ew = ap length (s .word-is) in
-        let er = ap length (s .run-is) in
-        (
+        let er = ap length (s .run-is) in (
           record {
             leads = subst₂ (λ (x : List ℕ) (y : List ℕ). LeadsBy m list (p′ .state) x y f) (sym (s .word-is)) (sym (s .run-is)) (by-append (s .leads) (w .leads));
             sum = let t = s .tight in let o = w .sum in omega arith;
@@ -288,3 +287,20 @@ module _ (m : Machine) (list d : List ℕ) (f : ℕ) (word₀ run₀ : List ℕ)
               (subst (λ (y : List ℕ). LeadsBy m list (p .state) word y f) (sym (drop-set-lt 1 run 0 (p .state) (omega arith)))
               (subst₂ (λ (i : ℕ) (r : ℕ). LeadsBy m list (p .state) (drop i word) (drop r run) f) first one (w .leads)));
         }
+
+-- What a step asks, where the run is written from a place on
+
+pub step-ready : (m : Machine) (list links index : List ℕ) (starts ends : ℕ) (d b : List ℕ) (f : ℕ) (later : List ℕ) → WriteReady m list links index starts ends d b f later
+    → (word₀ run₀ : List ℕ) → Aim m list d f (length word₀) (length run₀) → (word run : List ℕ) (p : Place) → Writing m list d f word₀ run₀ word run p → 0 < costOf d (p .state)
+    → (b′ later′ : List ℕ) → length b′ ≡ 4096 → Past m b′ → length later′ ≡ 4096
+    → StepReady m list links index starts ends d b′ (p .state) word (p .letter) run (p .entry) later′
+step-ready m list links index starts ends d b f later r word₀ run₀ a word run p w positive b′ later′ size past later-size =
+    record {
+      searching = record { ready = r .ready; buffers = r .buffers; settled = a .settled; size = size; past = past; low = write-low m list d f word₀ run₀ a word run p w };
+      into = r .into;
+      positive = positive;
+      fits = write-fits m list d f word₀ run₀ a word run p w;
+      word-fits = w .word-fits;
+      run-fits = w .run-fits;
+      later-size = later-size;
+    }

@@ -90,7 +90,7 @@ same-length-2 c = copy-done _ _ _ _ _ _ _ _ _ _ _ _ ((c .before .before .before 
 
 -- src/copy.rt:119:1
 returns : tie.Need-returns
-returns c = copy-done _ _ _ _ _ _ _ _ _ _ _ _ ((c .before .before .before .before .before .before .before .before .before .before .before .before .before .before .before .before .before .before .before .before .before .before) .pre) _ _ _ _ ((c .before .before .before .before .before .before .before .before .before .before .before .before .before .before .before) .walk-back .ensures) _ ((c .before .before .before .before .before .before .before .before) .again .ensures) _ ((c .before .before .before) .unload .ensures)
+returns c = (copy-done _ _ _ _ _ _ _ _ _ _ _ _ ((c .before .before .before .before .before .before .before .before .before .before .before .before .before .before .before .before .before .before .before .before .before .before) .pre) _ _ _ _ ((c .before .before .before .before .before .before .before .before .before .before .before .before .before .before .before) .walk-back .ensures) _ ((c .before .before .before .before .before .before .before .before) .again .ensures) _ ((c .before .before .before) .unload .ensures), (c .before .before .before .before .before .before .before .before .before .before .before .before .before .before .before) .walk-back .ensures .walking .later-size)
 
 pub copy-spec : {M : Type 1} → statement M
 copy-spec =

@@ -1,3 +1,5 @@
+use mathlib.Core.Path.{_≡_, refl, sym, ap, _∙_}
+use Rattle.fsbm.specs.declared.machine.Transition.{Transition}
 use borrow.Author.Needs.{needs}
 use Rattle.shortest.proofs.write.read.Statement.{statement}
 use Rattle.shortest.proofs.write.read.Tie as tie
@@ -32,7 +34,7 @@ same-length-2 c = search needs
 
 -- src/write.rt:19:1
 returns : tie.Need-returns
-returns c = ?
+returns c = record { put = (c .before .before .before .before .before .before) .put .ensures; state = ap (λ (t : Transition). t .from) ((c .before) .transition-at .ensures); entry = refl }
 
 pub read-spec : {M : Type 1} → statement M
 read-spec =
