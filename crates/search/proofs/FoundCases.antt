@@ -15,13 +15,12 @@ use native.Mathlib.Omega.{arith}
 use lib.ListN.{length, getD, drop, length-drop}
 use lib.Seq.{getD-drop, drop-cons}
 use Rattle.fsbm.specs.Machine.{final}
-use Rattle.fsbm.specs.Moves.{accepting, beginBuffering}
+use Rattle.fsbm.specs.Moves.{accepting, beginBuffering, beginEmptying, backToNormal}
 use Rattle.fsbm.specs.Accepted.{runBound}
 use Rattle.fsbm.specs.Published.{fsbmOf}
-use Rattle.fsbm.specs.Rules.{rules}
 use Rattle.fsbm.specs.declared.machine.Machine.{Machine}
 use Rattle.product.specs.Product.{joinedCount, joinedTransitions, joinedMachine, joinFault}
-use Rattle.product.specs.WellFormed.{joined-well-formed}
+use Rattle.product.specs.Tables.{joinable}
 use Rattle.pieces.specs.Pairs.{unit}
 use Rattle.pieces.specs.Bound.{wordBound}
 use Rattle.pieces.specs.Blocks.{nothing, costOf}
@@ -29,7 +28,8 @@ use Rattle.pieces.specs.Written.{StoresBy, stored, store, MatchesBy, matched, m
 use Rattle.common.specs.Common.{leastCommon}
 use Rattle.common.specs.Search.{found, none, fewest}
 use Rattle.common.specs.Split.{Splits}
-use Rattle.common.specs.Split.Laws.{lettersIn, leads-letters, split-accepts}
+use Rattle.common.specs.Split.Laws.{leads-letters, split-accepts}
+use Rattle.split.specs.Split as split
 use Rattle.shortest.specs.Write.{Least, Aim, Shortest}
 use Rattle.search.specs.Best.{Best}
 use Rattle.search.specs.Best.Laws.{best-final, best-nothing}
@@ -95,3 +95,81 @@ module _ (m₁ : Machine) (l₁ : List ℕ) (m₂ : Machine) (l₂ : List ℕ) w
 
     pub final-state : costOf d f < nothing → final (m .marks) f ≡ true
     final-state h = best-final (m .marks) d f b h .1
+
+-- The entries of a written run
+
+abbrev Entry : Machine → ℕ → Type 0
+Entry m e = (beginBuffering ≤ e) ⊎ (e < m .transitions)
+
+data Entries (m : Machine) : List ℕ → Type 0 where
+  nothing-more : Entries m []
+  entry : {e : ℕ} {es : List ℕ} → Entry m e → Entries m es → Entries m (e ∷ es)
+
+entries-append : {m : Machine} {es ds : List ℕ} → Entries m es → Entries m ds → Entries m (es ++ ds)
+entries-append nothing-more k = k
+entries-append (entry h r) k = entry h (entries-append r k)
+
+entries-at : {m : Machine} {es : List ℕ} → Entries m es → (k : ℕ) → k < length es → Entry m (getD es k 0)
+entries-at nothing-more k h = absurd (omega arith)
+entries-at (entry e r) zero h = e
+entries-at (entry {es = es} e r) (suc k) h = entries-at r k (omega arith)
+
+module _ (m : Machine) (list : List ℕ) where
+  stores-entries : {s h : ℕ} {x es : List ℕ} → StoresBy m list s x es h → Entries m es
+  stores-entries stored = nothing-more
+  stores-entries (store t apart outside r) = entry (inr (t .listed)) (stores-entries r)
+
+  matches-entries : {s z : ℕ} {x es : List ℕ} → MatchesBy m list s x es z → Entries m es
+  matches-entries matched = nothing-more
+  matches-entries (match t from to r) = entry (inr (t .listed)) (matches-entries r)
+
+  leads-entries : {q f : ℕ} {w es : List ℕ} → LeadsBy m list q w es f → Entries m es
+  leads-entries ended = nothing-more
+  leads-entries (read t apart outside r) = entry (inr (t .listed)) (leads-entries r)
+  leads-entries (copy g s h d z r) =
+      entry {e = beginBuffering} (inl (omega arith))
+      (entries-append (stores-entries s)
+      (entry {e = beginEmptying} (inl (omega arith)) (entries-append (matches-entries d) (entry {e = backToNormal} (inl (omega arith)) (leads-entries r)))))
+
+-- Taking the run apart
+
+module _ (m₁ : Machine) (l₁ : List ℕ) (m₂ : Machine) (l₂ : List ℕ) (m : Machine) (list : List ℕ) (j : Joined m₁ l₁ m₂ l₂ m list) (f : ℕ) (word run : List ℕ) (written : Shortest m list f word run)
+    (some : 0 < length run) where
+  count-is : m .transitions ≡ joinedCount m₁ l₁ m₂ l₂
+  unfolding joinedMachine
+  count-is = ap (λ (x : Machine). x .transitions) (j .machine)
+
+  few : m .transitions ≤ 4000
+  few = let k = joinable m₁ l₁ m₂ l₂ (j .fine) .few-transitions in let e = count-is in omega arith
+
+  pub to-split : (other : List ℕ) → length other ≡ length word + 1 → split.Joined m₁ l₁ m₂ l₂ list run other
+  to-split other size =
+      record {
+        fine = j .fine;
+        rest = j .rest;
+        list-is = j .transitions;
+        started = some;
+        entries = λ k pos h. at k pos h;
+        letters = let l = leads-letters m list (let z = few in omega arith) (written .leads) in omega arith;
+      }
+    where
+      at : (k : ℕ) → 0 < k → k < length run → (beginBuffering ≤ getD run k 0) ⊎ (getD run k 0 < joinedCount m₁ l₁ m₂ l₂)
+      at zero pos h = absurd (omega arith)
+      at (suc k) pos h =
+          let size = length-drop 1 run in
+          let one : suc k ≡ 1 + k = omega arith in
+          let e : getD (drop 1 run) k 0 ≡ getD run (suc k) 0 = getD-drop 1 run k 0 ∙ ap (λ (i : ℕ). getD run i 0) (sym one) in
+          let n : Entry m (getD run (suc k) 0) = subst (Entry m) e (entries-at (leads-entries m list (written .leads)) k (omega arith)) in
+          subst (λ (c : ℕ). (beginBuffering ≤ getD run (suc k) 0) ⊎ (getD run (suc k) 0 < c)) count-is n
+
+  pub split-runs : final (m .marks) f ≡ true → (run′ other′ : List ℕ) → 0 < length run′ → 0 < length other′ → split.Split m₁ l₁ m₂ l₂ list run run′ other′
+      → (accepting m₁ l₁ word run′ ≡ true) × (accepting m₂ l₂ word other′ ≡ true)
+  split-runs last run′ other′ some₁ some₂ s =
+      let (a₁, a₂) = subst₂ (λ (x : Machine) (y : List ℕ).
+      fsbmOf x y .I (getD run 0 0) → final (x .marks) f ≡ true → LeadsBy x y (getD run 0 0) word (drop 1 run) f → Splits m₁ l₁ m₂ l₂ y (drop 1 run) (drop 1 run′) (drop 1 other′)
+      → (accepting m₁ l₁ word (getD run 0 0 / m₂ .states ∷ drop 1 run′) ≡ true) × (accepting m₂ l₂ word (getD run 0 0 % m₂ .states ∷ drop 1 other′) ≡ true))
+      (sym (j .machine)) (sym (j .transitions))
+      (λ i l r u. split-accepts m₁ l₁ m₂ l₂ (j .fine) (j .rest) i l r u) (written .start) last (written .leads) (s .splits) in
+      let whole₁ : getD run 0 0 / m₂ .states ∷ drop 1 run′ ≡ run′ = ap (λ (x : ℕ). x ∷ drop 1 run′) (sym (s .first-start)) ∙ sym (drop-cons run′ 0 0 some₁) in
+      let whole₂ : getD run 0 0 % m₂ .states ∷ drop 1 other′ ≡ other′ = ap (λ (x : ℕ). x ∷ drop 1 other′) (sym (s .second-start)) ∙ sym (drop-cons other′ 0 0 some₂) in
+      (subst (λ (x : List ℕ). accepting m₁ l₁ word x ≡ true) whole₁ a₁, subst (λ (x : List ℕ). accepting m₂ l₂ word x ≡ true) whole₂ a₂)

@@ -1,1 +1,2 @@
 pub mod SearchCases
+pub mod FoundCases
