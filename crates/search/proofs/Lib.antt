@@ -1,2 +1,3 @@
 pub mod SearchCases
 pub mod FoundCases
+pub mod AnswerCases

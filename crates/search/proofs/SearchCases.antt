@@ -1,9 +1,10 @@
 -- The ways through the search, over plain variables.
 --
 -- join-refuses, join-gives == what `join` leaves where it refuses, and where it does not
+-- joined-good           == the product obeys the rules of a table
 -- fault, none, short-word, short-first, short-second, written == what each answer comes with
 use Prim.Native.Nat.{ℕ, _+_, _*_, _≤_, _<_}
-use mathlib.Core.Path.{_≡_, refl, sym, ap, _∙_, subst}
+use mathlib.Core.Path.{_≡_, refl, sym, ap, _∙_, subst, subst₂}
 use mathlib.Core.Logic.{_⊎_, inl, inr}
 use mathlib.Core.Bool.{Bool, true, false, cond}
 use mathlib.Core.List.{List, _++_}
@@ -13,6 +14,7 @@ use lib.ListN.{length, take, drop}
 use lib.Dec.{leb, eqb}
 use borrow.Author.Tests.{le-leb, eq-eqb, ne-eqb}
 use Rattle.graphs.specs.Search.Loops.{first, second}
+use Rattle.fsbm.specs.Machine.{wellFormed}
 use Rattle.fsbm.specs.Moves.{accepting}
 use Rattle.fsbm.specs.Accepted.{runBound}
 use Rattle.fsbm.specs.Answers.{refusal, noMachine}
@@ -20,6 +22,7 @@ use Rattle.fsbm.specs.declared.machine.Machine.{Machine}
 use Rattle.fsbm.specs.declared.answer.Refusal.{Refusal}
 use Rattle.product.specs.Product.{joinedCount, joinedTransitions, joinedMachine, joinFault, joinRefusal, joinAnswer, joinAfter}
 use Rattle.product.specs.Tables.{joinable}
+use Rattle.product.specs.WellFormed.{joined-well-formed}
 use Rattle.product.specs.declared.Product.{Product}
 use Rattle.pieces.specs.Bound.{wordBound}
 use Rattle.common.specs.declared.Common.the-variants.{Refused, NoCommonWord, Found}
@@ -65,6 +68,10 @@ module _ (m₁ : Machine) (l₁ : List ℕ) (m₂ : Machine) (l₂ : List ℕ) (
           rest = drop (joinedCount m₁ l₁ m₂ l₂ * 3) list;
           transitions = left ∙ ap (λ (b : Bool). cond b (joinedTransitions m₁ l₁ m₂ l₂ ++ drop (joinedCount m₁ l₁ m₂ l₂ * 3) list) list) none;
         }
+
+pub joined-good : {m₁ : Machine} {l₁ : List ℕ} {m₂ : Machine} {l₂ : List ℕ} {m : Machine} {list : List ℕ} → Joined m₁ l₁ m₂ l₂ m list → wellFormed m list ≡ true
+joined-good {m₁} {l₁} {m₂} {l₂} j =
+    subst₂ (λ (x : Machine) (y : List ℕ). wellFormed x y ≡ true) (sym (j .machine)) (sym (j .transitions)) (joined-well-formed m₁ l₁ m₂ l₂ (j .fine) (j .rest))
 
 -- The answers
 

@@ -1,3 +1,4 @@
 pub mod Best
 pub mod Joined
 pub mod Runs
+pub mod Weighed
