@@ -1,3 +1,4 @@
+pub mod CommonWords
 pub mod Products
 pub mod Recognize
 pub mod Run
