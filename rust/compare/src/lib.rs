@@ -3,6 +3,8 @@
 
 pub mod c;
 pub mod calls;
+pub mod copy_chains;
+pub mod dense;
 pub mod kept;
 pub mod many_copies;
 

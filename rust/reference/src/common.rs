@@ -5,6 +5,17 @@ use crate::{product, published, relations, Machine, Record, Refusal};
 
 /// The first word of at most `longest` letters, in order of length, that both machines accept.
 pub fn shortest(first: &Machine, second: &Machine, longest: usize) -> Option<Vec<u8>> {
+    let accepts = |machine: &Machine, word: &[u8]| published::find_run(machine, word).is_some();
+    shortest_by(first, second, longest, accepts)
+}
+
+/// As [`shortest`], with another recognizer.
+pub fn shortest_by(
+    first: &Machine,
+    second: &Machine,
+    longest: usize,
+    accepts: impl Fn(&Machine, &[u8]) -> bool,
+) -> Option<Vec<u8>> {
     let letters = first.letters.min(second.letters) as u8;
     for length in 0..=longest {
         if length > 0 && letters == 0 {
@@ -12,9 +23,7 @@ pub fn shortest(first: &Machine, second: &Machine, longest: usize) -> Option<Vec
         }
         let mut word = vec![1; length];
         loop {
-            let both = published::find_run(second, &word).is_some()
-                && published::find_run(first, &word).is_some();
-            if both {
+            if accepts(second, &word) && accepts(first, &word) {
                 return Some(word);
             }
             if !next_word(&mut word, letters) {
