@@ -13,18 +13,29 @@ pub enum Kind {
     NoFinal,
     /// No transition leaves the initial state.
     NoWayOut,
-    /// No letter is both stored and matched, and a word needs a copy. There is no epsilon transition.
+    /// No letter is both stored and matched, and a word needs a copy.
     NeverMatched,
+    /// Each letter leads from an even state to an odd one or back, a word is one copy from an even state on, and the
+    /// final states are odd.
+    Parity,
 }
 
-/// A machine with so many transitions, at random and the same in every run. The roles of the states are buffering,
-/// none, matching, matching in turn; the first state is initial and the matching states are final.
+/// The roles of states, in turn.
+const ROLES: [u8; 8] = [BUFFERING, 0, 0, MATCHING, MATCHING, MATCHING, 0, BUFFERING];
+
+/// A machine with so many transitions, at random and the same in every run, none of them by epsilon. The first state is
+/// initial, a buffering one; but for some kinds all matching states are final.
 pub fn dense(kind: Kind, states: usize, letters: usize, count: usize) -> Machine {
     let mut marks: Vec<u8> = (0..states)
-        .map(|state| [BUFFERING, 0, MATCHING, MATCHING][state % 4])
+        .map(|state| ROLES[state % ROLES.len()])
         .collect();
-    for mark in &mut marks {
-        if *mark == MATCHING && kind != Kind::NoFinal {
+    for (state, mark) in marks.iter_mut().enumerate() {
+        let ends = match kind {
+            Kind::NoFinal => false,
+            Kind::Parity => state % 2 == 1,
+            _ => true,
+        };
+        if *mark == MATCHING && ends {
             *mark |= FINAL;
         }
     }
@@ -39,6 +50,10 @@ pub fn dense(kind: Kind, states: usize, letters: usize, count: usize) -> Machine
             Kind::NoWayOut => from != 0,
             // Even letters are matched, odd ones are not.
             Kind::NeverMatched => matched == letter.is_multiple_of(2),
+            Kind::Parity => {
+                let leaves = marks[from] & MATCHING != 0 && !matched;
+                from % 2 != to % 2 && !leaves
+            }
             Kind::Any | Kind::NoFinal => true,
         };
         if kept {

@@ -872,13 +872,22 @@ fn empty_copies_in_a_row() {
     assert!(counts.empty_in_a_row > 50);
 }
 
+/// The kinds of machines with many transitions.
+const KINDS: [Kind; 5] = [
+    Kind::Any,
+    Kind::NoFinal,
+    Kind::NoWayOut,
+    Kind::NeverMatched,
+    Kind::Parity,
+];
+
 /// As many states and transitions as there can be. That no shorter word is common is tried; a small machine of each kind
 /// is decided by the relations.
 #[test]
 fn dense_tables() {
     let mut rng = Rng::new(20_240_031);
     let mut counts = Counts::default();
-    for kind in [Kind::Any, Kind::NoFinal, Kind::NoWayOut, Kind::NeverMatched] {
+    for kind in KINDS {
         for (states, letters, count) in [(4, 2, 10), (5, 2, 18), (6, 2, 20), (8, 2, 20)] {
             let first = dense(kind, states, letters, count);
             let second = every_word(letters);
@@ -886,7 +895,7 @@ fn dense_tables() {
             assert!(kind == Kind::Any || least.is_none(), "{kind:?}");
             Ready::new(&first, &second, least).pair(&mut rng, &mut counts);
         }
-        for (letters, count) in [(1, 1_900), (2, 3_800), (20, 4_000), (250, 4_000)] {
+        for (letters, count) in [(1, 1_500), (2, 3_000), (20, 4_000), (250, 4_000)] {
             let first = dense(kind, 64, letters, count);
             let second = every_word(letters);
             let least = match kind {
@@ -1178,8 +1187,8 @@ fn small_stack() {
             let second = every_word(first.letters);
             Ready::new(first, &second, Some(*letters)).pair(&mut rng, &mut counts);
         }
-        for kind in [Kind::Any, Kind::NoFinal, Kind::NoWayOut, Kind::NeverMatched] {
-            for (letters, count) in [(2, 3_800), (250, 4_000)] {
+        for kind in KINDS {
+            for (letters, count) in [(2, 3_000), (250, 4_000)] {
                 let first = dense(kind, 64, letters, count);
                 let second = every_word(letters);
                 let least = match kind {
