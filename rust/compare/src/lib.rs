@@ -7,6 +7,7 @@ pub mod copy_chains;
 pub mod dense;
 pub mod kept;
 pub mod many_copies;
+pub mod pairs;
 
 use kept::Kept;
 use reference::{Machine, Record, Refusal};

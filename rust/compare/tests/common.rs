@@ -5,6 +5,7 @@ use compare::calls::{check_run, common_word, common_word_record, find, Lent, Sli
 use compare::copy_chains::{begins_with, chain, cycles, every_word, length_modulo, short_copies};
 use compare::dense::{dense, dense_plain, doubled, Kind};
 use compare::many_copies::zones;
+use compare::pairs::{random_chain, random_copying, random_plain};
 use compare::{
     break_a_rule, filled, filled_bytes, in_threads, random_machine, record_of, small_machines,
     tally, Rng,
@@ -363,88 +364,6 @@ fn decided(first: &Machine, second: &Machine, longest: usize) -> Option<usize> {
         "{first:?}\n{second:?}\n{least:?}"
     );
     least
-}
-
-/// A machine of 2 to `states` states, mostly with a copy on the way from the first state to the last.
-fn random_copying(rng: &mut Rng, states: usize, letters: usize) -> Machine {
-    let states = 2 + rng.below(states - 1);
-    let mut marks: Vec<u8> = (0..states).map(|_| rng.pick(&[0, 4, 8, 8])).collect();
-    marks[0] = rng.pick(&[1, 5, 5]);
-    marks[states - 1] = rng.pick(&[2, 10, 10]);
-    let mut transitions = Vec::new();
-    for _ in 0..states + rng.below(states * (letters + 1)) {
-        let letter = rng.below(letters + 1);
-        transitions.push((rng.below(states), letter, rng.below(states)));
-    }
-    Machine::new(letters, &marks, &transitions)
-}
-
-/// A chain of short ways from the first state to the last: normal moves and copies, some of them empty.
-fn random_chain(rng: &mut Rng, letters: usize) -> Machine {
-    let mut marks = vec![0];
-    let mut transitions = Vec::new();
-    for _ in 0..1 + rng.below(3) {
-        let begin = marks.len() - 1;
-        if rng.once_in(4) {
-            marks.push(0);
-            transitions.push((begin, rng.below(letters + 1), begin + 1));
-            continue;
-        }
-        // A copy: a buffering state, at times a storing one, one or two that match.
-        let mut last = begin;
-        if marks[begin] == 8 {
-            marks.push(4);
-            transitions.push((begin, 0, begin + 1));
-            last += 1;
-        } else {
-            marks[begin] = 4;
-        }
-        if rng.once_in(2) {
-            marks.push(0);
-            transitions.push((last, rng.below(letters + 1), last + 1));
-            transitions.push((last + 1, rng.below(letters + 1), last + 1));
-            last += 1;
-        }
-        marks.push(8);
-        transitions.push((last, rng.below(letters + 1), last + 1));
-        last += 1;
-        if rng.once_in(2) {
-            marks.push(8);
-            transitions.push((last, rng.below(letters + 1), last + 1));
-            transitions.push((last + 1, rng.below(letters + 1), last));
-        }
-        for _ in 0..rng.below(3) {
-            transitions.push((last, rng.below(letters + 1), last));
-        }
-    }
-    let states = marks.len();
-    marks[0] |= 1;
-    marks[states - 1] |= 2;
-    for _ in 0..rng.pick(&[0, 0, 1, 3]) {
-        transitions.push((rng.below(states), rng.below(letters + 1), rng.below(states)));
-    }
-    Machine::new(letters, &marks, &transitions)
-}
-
-/// A plain machine with up to the given number of states.
-fn random_plain(rng: &mut Rng, states: usize, letters: usize) -> Machine {
-    let states = 1 + rng.below(states);
-    match rng.below(4) {
-        0 => return every_word(letters),
-        1 => return length_modulo(letters, states, rng.below(states)),
-        _ => {}
-    }
-    let mut marks: Vec<u8> = (0..states).map(|_| rng.pick(&[0, 0, 1, 2])).collect();
-    marks[0] |= 1;
-    marks[states - 1] |= 2;
-    let mut transitions = Vec::new();
-    if letters > 0 {
-        for _ in 0..states + rng.below(2 * states * letters) {
-            let letter = 1 + rng.below(letters);
-            transitions.push((rng.below(states), letter, rng.below(states)));
-        }
-    }
-    Machine::new(letters, &marks, &transitions)
 }
 
 /// The most letters of the words that are tried, by the number of letters of the machines.
@@ -1070,13 +989,19 @@ fn order_of_refusals() {
         let all: Vec<u8> = (0..8).map(|state| marks[state % marks.len()]).collect();
         Machine::new(2, &all, &transitions)
     };
-    for common in [true, false] {
-        // Without a common word the second has no initial state.
-        let plain: &[u8] = if common { &[3, 2] } else { &[2, 0] };
+    // With a common word, the empty one; and without, since the first or the second has no initial or no final state.
+    let kinds: [(bool, &[u8], &[u8]); 5] = [
+        (true, &[7, 8, 2], &[3, 2]),
+        (false, &[6, 8, 2], &[3, 2]),
+        (false, &[5, 8, 0], &[3, 2]),
+        (false, &[7, 8, 2], &[2, 0]),
+        (false, &[7, 8, 2], &[1, 0]),
+    ];
+    for (common, copying, plain) in kinds {
         for faults in 0..512u32 {
             let has = |fault: u32| faults >> fault & 1 == 1;
             let (mut one, mut two) = (
-                counted([64, if has(0) { 33 } else { 32 }], &[7, 8, 2]).record(),
+                counted([64, if has(0) { 33 } else { 32 }], copying).record(),
                 counted([62, 1], plain).record(),
             );
             // The word is empty: its slice needs 0, the runs need 24 and 1.
