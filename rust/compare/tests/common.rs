@@ -36,6 +36,8 @@ struct Counts {
     empty_in_a_row: u64,
     most_letters: usize,
     most_entries: usize,
+    /// The greatest part of its slice that the first run takes, in percent of what is needed.
+    fullest: usize,
 }
 
 impl Counts {
@@ -51,13 +53,14 @@ impl Counts {
         self.empty_in_a_row += other.empty_in_a_row;
         self.most_letters = self.most_letters.max(other.most_letters);
         self.most_entries = self.most_entries.max(other.most_entries);
+        self.fullest = self.fullest.max(other.fullest);
     }
 
     fn report(&self, name: &str) {
         println!(
             "common word, {name}: {} pairs, {} calls; {} without a common word, {} with one, {} of them with copies, \
              {} with empty copies, {} with two of these at one position; epsilon cycles in {}; most letters {}, \
-             longest first run {} entries",
+             longest first run {} entries, fullest {} % of what is needed",
             self.pairs,
             self.calls,
             self.none,
@@ -67,7 +70,8 @@ impl Counts {
             self.empty_in_a_row,
             self.epsilon_cycles,
             self.most_letters,
-            self.most_entries
+            self.most_entries,
+            self.fullest
         );
     }
 }
@@ -246,6 +250,8 @@ impl<'a> Ready<'a> {
         counts.empty_in_a_row += u64::from(in_a_row);
         counts.most_letters = counts.most_letters.max(letters);
         counts.most_entries = counts.most_entries.max(found.first_entries);
+        let part = 100 * found.first_entries / self.needed().first_run;
+        counts.fullest = counts.fullest.max(part);
         Some(Lengths {
             letters,
             first_entries: found.first_entries,
@@ -272,7 +278,9 @@ impl<'a> Ready<'a> {
             second_run: needed.second_run + rng.below(4),
         };
         self.call(more, &mut others);
-        for short in 1..8 {
+        // Without a common word no slice is too short.
+        let shortages = if self.least.is_some() { 1..8 } else { 0..0 };
+        for short in shortages {
             // The slices that are too short, if they can be.
             let length = |needed: usize, slice: usize, rng: &mut Rng| match short >> slice & 1 {
                 1 => rng.below(needed.max(1)),
@@ -416,7 +424,7 @@ fn random_pairs() {
     assert!(counts.most_letters > 12);
 }
 
-/// Every machine of two states over one letter, with plain machines that want one letter, an even and an odd number.
+/// Every machine of two states over one letter, with two of four plain machines.
 #[test]
 fn two_states() {
     let machines = small_machines(2, 0..256);
@@ -430,8 +438,9 @@ fn two_states() {
     let each = in_threads(&parts, |part| {
         let mut rng = Rng::new(20_240_090 + *part as u64);
         let mut counts = Counts::default();
-        for machine in machines.iter().skip(*part).step_by(parts.len()) {
-            for second in &seconds {
+        let some = machines.iter().skip(*part).step_by(parts.len());
+        for (number, machine) in some.enumerate() {
+            for second in &seconds[number % 2 * 2..][..2] {
                 let least = decided(machine, second, 4);
                 Ready::new(machine, second, least).pair(&mut rng, &mut counts);
             }
@@ -441,10 +450,57 @@ fn two_states() {
     let mut counts = Counts::default();
     each.into_iter().for_each(|other| counts.add(other));
     counts.report("all machines of 2 states over 1 letter, all words to 4 letters");
-    assert_eq!(counts.pairs, 4 * 36_864);
+    assert_eq!(counts.pairs, 2 * 36_864);
 }
 
-/// Machines with more states, letters and copies; only words that can be tried are decided without the relations.
+/// Machines with letters from all of 0 to 250. Most transitions have one of few letters, so that there are common words.
+#[test]
+fn many_letters() {
+    let parts: Vec<u64> = (0..32).collect();
+    let each = in_threads(&parts, |part| {
+        let mut rng = Rng::new(20_240_036 + part);
+        let mut counts = Counts::default();
+        for number in 0..150 {
+            let letters = rng.pick(&[65, 129, 193, 250]);
+            let some = [63, 64, 65, 128, 192, 249].map(|letter| letter.min(letters));
+            let (few, any) = (rng.pick(&[1, 2, 4]), rng.pick(&[0, 4, 40]));
+            let place = |rng: &mut Rng, letter: usize| match letter {
+                0 => 0,
+                _ => some[rng.below(few)],
+            };
+            let small = match number % 3 {
+                0 => random_copying(&mut rng, 5, 2),
+                _ => random_chain(&mut rng, 2),
+            };
+            let mut one: Vec<_> = (small.transitions.iter())
+                .map(|t| (t.from, place(&mut rng, t.letter), t.to))
+                .collect();
+            let plain = random_plain(&mut rng, 3, 2);
+            let mut two: Vec<_> = (plain.transitions.iter())
+                .map(|t| (t.from, place(&mut rng, t.letter), t.to))
+                .collect();
+            for _ in 0..any {
+                let mut random = |states| {
+                    let letter = 1 + rng.below(letters);
+                    (rng.below(states), letter, rng.below(states))
+                };
+                one.push(random(small.states()));
+                two.push(random(plain.states()));
+            }
+            let first = Machine::new(letters, &small.marks, &one);
+            let second = Machine::new(letters, &plain.marks, &two);
+            let least = decided(&first, &second, 1);
+            Ready::new(&first, &second, least).pair(&mut rng, &mut counts);
+        }
+        counts
+    });
+    let mut counts = Counts::default();
+    each.into_iter().for_each(|other| counts.add(other));
+    counts.report("65 to 250 letters, all words to 1 letter");
+    assert!(counts.with_copies > 500 && counts.most_letters > 4);
+}
+
+/// Machines with more states and copies, with plain machines that want a length or a front.
 #[test]
 fn larger_pairs() {
     let parts: Vec<u64> = (0..16).collect();
@@ -473,7 +529,9 @@ fn larger_pairs() {
     });
     let mut counts = Counts::default();
     each.into_iter().for_each(|other| counts.add(other));
-    counts.report("machines of zones, to 12 states and 4 plain ones");
+    counts.report(
+        "machines of zones, to 12 states and 5 plain ones, all words to 10 letters of 1 and 4 of 2",
+    );
     assert!(counts.with_copies > 200);
 }
 
