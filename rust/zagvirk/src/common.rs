@@ -102,14 +102,14 @@ pub fn needed(first: &Machine, letters: usize) -> Needed {
 
 /// A shortest word, of whatever length, that a machine and a plain machine both accept; `None` if there is no common
 /// word. It is written to the front of `word`, an accepting run of each machine to the front of `first_run` and of
-/// `second_run`; the rest of each slice stays as it was, and after `None` or a refusal all of it. Which shortest word it
-/// is, and which accepting run of the word each machine has, is left open.
+/// `second_run`; the rest of each slice stays as it was, and after `None` or a refusal all of it. Which shortest word
+/// it is, and which accepting run of the word each machine has, is left open.
 ///
 /// Refuses, in this order: [`Refusal::MachineBroken`] (first, then second), [`Refusal::NotPlain`] if the second has a
 /// buffering or matching state or an epsilon transition, [`Refusal::LettersDiffer`], [`Refusal::TooManyStates`],
 /// [`Refusal::TooManyTransitions`] of the product; then, only if there is a common word, [`Refusal::WordTooShort`],
-/// [`Refusal::RunTooShort`] for `first_run`, [`Refusal::RunTooShort`] for `second_run`. The slices need the lengths that
-/// [`needed`] gives for the letters of a shortest common word, also where the runs found would fit into less.
+/// [`Refusal::RunTooShort`] for `first_run`, [`Refusal::RunTooShort`] for `second_run`. The slices need the lengths
+/// that [`needed`] gives for the letters of a shortest common word, also where the runs found would fit into less.
 ///
 /// ```
 /// // Doubled words over letters 1 and 2, and the words that have a 2.
