@@ -8,14 +8,16 @@
  *   zagvirk_join         the product of a machine with a plain machine
  *   zagvirk_list_copies  the copies of an accepting run
  *   zagvirk_recognize    whether a machine accepts a word, with a run
+ *   zagvirk_common_word  a shortest word that a machine and a plain machine both accept, with a run of each
  *
  * A machine has states numbered from 0 (1 to 64), letters numbered from 1 (0 to 250) and transitions numbered from 0
  * (0 to 4,000). Letter 0 in a transition is epsilon: nothing is read. A word is an array of bytes, one letter each.
  *
- * Link with libexports.a. A call only reads the arrays that its prototype marks const. It writes to the front of the
- * other one and leaves the rest of it as it was; after a refusal, and after the answer no, all of it is as it was. That
- * array may not overlap with another argument. A pointer that goes with a length of 0 must still not be null. Lengths
- * are in elements. Nothing is kept after a call returns, and calls on several threads do not affect one another.
+ * Link with libexports.a. A call only reads the arrays that its prototype marks const. It writes to the fronts of the
+ * others and leaves the rest of them as it was; after a refusal, and after the answer no, all of them are as they were.
+ * An array that is not const may not overlap with another argument. A pointer that goes with a length of 0 must still
+ * not be null. Lengths are in elements. Nothing is kept after a call returns, and calls on several threads do not
+ * affect one another.
  */
 #ifndef ZAGVIRK_H
 #define ZAGVIRK_H
@@ -249,6 +251,35 @@ typedef struct {
  */
 zagvirk_recognized zagvirk_recognize(zagvirk_machine machine, const uint16_t *list, size_t list_len,
                                      const uint8_t *word, size_t word_len, uint16_t *run, size_t run_len);
+
+/* Common words. */
+
+/* The result of zagvirk_common_word: the number of letters of the word and the numbers of entries of the two runs, all
+ * 0 if found is 0. With refusal 0 and found 0 there is no common word. */
+typedef struct {
+  uint8_t refusal; /* 0, 16, 10 to 13, 18 or 17 */
+  size_t needed;
+  uint8_t found; /* 0 or 1 */
+  size_t letters;
+  size_t first_entries;
+  size_t second_entries;
+} zagvirk_common;
+
+/* Whether there is a word, of whatever length, that a machine and a plain machine both accept; if so, a shortest one is
+ * written to the front of word, an accepting run of the first machine to the front of first_run and one of the second
+ * to the front of second_run. Which shortest word and which runs is left open. The second run has one entry more than
+ * the word has letters. If there is no common word all three arrays are as they were.
+ *
+ * Refuses, in this order: 16 (first machine, then second), 10, 11, 12, 13 as zagvirk_join does; then, only if there is
+ * a common word, of n letters: 18 if word has fewer than n elements, 17 if first_run has fewer than 3 x states of the
+ * first x (n + 1), 17 if second_run has fewer than n + 1. A shortest common word has at most 515,970 letters.
+ *
+ * Time: .. Memory: ..
+ */
+zagvirk_common zagvirk_common_word(zagvirk_machine first, const uint16_t *first_list, size_t first_len,
+                                   zagvirk_machine second, const uint16_t *second_list, size_t second_len,
+                                   uint8_t *word, size_t word_len, uint16_t *first_run, size_t first_run_len,
+                                   uint16_t *second_run, size_t second_run_len);
 
 #ifdef __cplusplus
 }

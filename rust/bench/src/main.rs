@@ -1,11 +1,14 @@
 //! Times of the proved calls beside plain Rust, on the same input in the same run.
 //!
 //! Each section prints its own table. With names after `--`, only the sections named run: `checking`, `sheet`,
-//! `recognize`, `survey`. A further call is measured by a function like [`checking::section`] and one more line in `main`.
+//! `recognize`, `survey`, `common`. A further call is measured by a function like [`checking::section`] and one more line
+//! in `main`.
 
 mod checking;
+mod common;
 mod measure;
 mod plain;
+mod plain_common;
 mod plain_recognize;
 mod plain_sheet;
 mod recognize;
@@ -13,11 +16,12 @@ mod sheet;
 mod survey;
 
 fn main() {
-    let sections: [(&str, fn()); 4] = [
+    let sections: [(&str, fn()); 5] = [
         ("checking", checking::section),
         ("sheet", sheet::section),
         ("recognize", recognize::section),
         ("survey", survey::section),
+        ("common", common::section),
     ];
     let wanted: Vec<String> = std::env::args().skip(1).collect();
     for (name, section) in sections {

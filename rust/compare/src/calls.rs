@@ -3,6 +3,7 @@
 //! that the result says are written. [`crate::Case`] does the same for many calls on one machine and word.
 
 use crate::kept::Kept;
+use zagvirk::common::{CommonRecord, CommonWord, Lengths};
 use zagvirk::copies::{Copies, CopiesRecord};
 use zagvirk::product::JoinedRecord;
 use zagvirk::recognize::RecognizedRecord;
@@ -168,6 +169,84 @@ pub fn join(
         |list| zagvirk::product::join(first, first_list, second, second_list, list),
         |found| found.as_ref().map_or(0, list_length),
     )
+}
+
+/// A machine and its list, as a call takes them.
+pub type Lent<'a> = (&'a Machine, &'a [u16]);
+
+/// The three slices that the common-word search writes to.
+pub struct Slices<'a> {
+    pub word: &'a mut [u8],
+    pub first_run: &'a mut [u16],
+    pub second_run: &'a mut [u16],
+}
+
+/// Makes a call that reads two lists and writes a word and two runs.
+fn searching<R>(
+    (first, second): (&[u16], &[u16]),
+    slices: Slices,
+    call: impl FnOnce(&mut [u8], &mut [u16], &mut [u16]) -> R,
+    written: impl FnOnce(&R) -> [usize; 3],
+) -> R {
+    let Slices {
+        word,
+        first_run,
+        second_run,
+    } = slices;
+    let kept_first = Kept::new("first list", first);
+    let kept_second = Kept::new("second list", second);
+    let kept_word = Kept::new("slice for the word", word);
+    let kept_first_run = Kept::new("slice for the first run", first_run);
+    let kept_second_run = Kept::new("slice for the second run", second_run);
+    let found = call(word, first_run, second_run);
+    kept_first.same("common_word", first);
+    kept_second.same("common_word", second);
+    let [letters, first_entries, second_entries] = written(&found);
+    kept_word.same_past("common_word", letters, word);
+    kept_first_run.same_past("common_word", first_entries, first_run);
+    kept_second_run.same_past("common_word", second_entries, second_run);
+    found
+}
+
+/// `zagvirk::common::common_word_record`.
+pub fn common_word_record(first: Lent, second: Lent, slices: Slices) -> CommonRecord {
+    searching(
+        (first.1, second.1),
+        slices,
+        |word, first_run, second_run| {
+            zagvirk::common::common_word_record(
+                first.0, first.1, second.0, second.1, word, first_run, second_run,
+            )
+        },
+        |found| [found.letters, found.first_entries, found.second_entries],
+    )
+}
+
+/// `zagvirk::common::common_word`.
+pub fn common_word(first: Lent, second: Lent, slices: Slices) -> Result<Option<Lengths>, Refusal> {
+    searching(
+        (first.1, second.1),
+        slices,
+        |word, first_run, second_run| {
+            zagvirk::common::common_word(
+                first.0, first.1, second.0, second.1, word, first_run, second_run,
+            )
+        },
+        |found| match found {
+            Ok(Some(found)) => [found.letters, found.first_entries, found.second_entries],
+            _ => [0; 3],
+        },
+    )
+}
+
+/// `zagvirk::common::find`.
+pub fn find(first: Lent, second: Lent) -> Result<Option<CommonWord>, Refusal> {
+    let kept_first = Kept::new("first list", first.1);
+    let kept_second = Kept::new("second list", second.1);
+    let found = zagvirk::common::find(first.0, first.1, second.0, second.1);
+    kept_first.same("find", first.1);
+    kept_second.same("find", second.1);
+    found
 }
 
 /// Makes a call that reads a sheet and writes a list.

@@ -3,8 +3,11 @@
 
 pub mod c;
 pub mod calls;
+pub mod copy_chains;
+pub mod dense;
 pub mod kept;
 pub mod many_copies;
+pub mod pairs;
 
 use kept::Kept;
 use reference::{Machine, Record, Refusal};

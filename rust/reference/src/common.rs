@@ -1,9 +1,21 @@
-//! A shortest common word of a machine and a plain machine, by trying every word.
+//! A shortest common word of a machine and a plain machine, by trying every word. For words of any length there is
+//! the number of its letters, by the relations of strings.
 
-use crate::{product, published, Machine, Record, Refusal};
+use crate::{product, published, relations, Machine, Record, Refusal};
 
 /// The first word of at most `longest` letters, in order of length, that both machines accept.
 pub fn shortest(first: &Machine, second: &Machine, longest: usize) -> Option<Vec<u8>> {
+    let accepts = |machine: &Machine, word: &[u8]| published::find_run(machine, word).is_some();
+    shortest_by(first, second, longest, accepts)
+}
+
+/// As [`shortest`], with another recognizer.
+pub fn shortest_by(
+    first: &Machine,
+    second: &Machine,
+    longest: usize,
+    accepts: impl Fn(&Machine, &[u8]) -> bool,
+) -> Option<Vec<u8>> {
     let letters = first.letters.min(second.letters) as u8;
     for length in 0..=longest {
         if length > 0 && letters == 0 {
@@ -11,9 +23,7 @@ pub fn shortest(first: &Machine, second: &Machine, longest: usize) -> Option<Vec
         }
         let mut word = vec![1; length];
         loop {
-            let both = published::find_run(second, &word).is_some()
-                && published::find_run(first, &word).is_some();
-            if both {
+            if accepts(second, &word) && accepts(first, &word) {
                 return Some(word);
             }
             if !next_word(&mut word, letters) {
@@ -22,6 +32,11 @@ pub fn shortest(first: &Machine, second: &Machine, longest: usize) -> Option<Vec
         }
     }
     None
+}
+
+/// The number of letters of a shortest word, of whatever length, that both machines accept; nothing if there is none.
+pub fn least_letters(first: &Machine, second: &Machine) -> Option<usize> {
+    relations::least_letters(&product::product(first, second))
 }
 
 /// Puts the next word of the same length in place, or says that there is none.
@@ -34,6 +49,39 @@ pub fn next_word(word: &mut [u8], letters: u8) -> bool {
         *letter = 1;
     }
     false
+}
+
+/// The lengths of the three slices that are lent to the search.
+#[derive(Clone, Copy, PartialEq, Eq, Debug)]
+pub struct Room {
+    pub word: usize,
+    pub first_run: usize,
+    pub second_run: usize,
+}
+
+impl Room {
+    /// What a shortest common word of `letters` letters needs.
+    pub fn needed(first: &Machine, letters: usize) -> Room {
+        Room {
+            word: letters,
+            first_run: 3 * first.states() * (letters + 1),
+            second_run: letters + 1,
+        }
+    }
+
+    /// Refusals 18, 17 (first run), 17 (second run) if there is less room than needed.
+    pub fn holds(self, needed: Room) -> Result<(), Refusal> {
+        if self.word < needed.word {
+            return Err(Refusal::too_short(18, needed.word));
+        }
+        if self.first_run < needed.first_run {
+            return Err(Refusal::too_short(17, needed.first_run));
+        }
+        if self.second_run < needed.second_run {
+            return Err(Refusal::too_short(17, needed.second_run));
+        }
+        Ok(())
+    }
 }
 
 /// The counts of an answer with a common word.
@@ -66,16 +114,12 @@ pub fn search(
         return Ok(None);
     };
     let n = found.len();
-    if word.len() < n {
-        return Err(Refusal::too_short(18, n));
-    }
-    let needed = 3 * first.states() * (n + 1);
-    if first_run.len() < needed {
-        return Err(Refusal::too_short(17, needed));
-    }
-    if second_run.len() < n + 1 {
-        return Err(Refusal::too_short(17, n + 1));
-    }
+    let room = Room {
+        word: word.len(),
+        first_run: first_run.len(),
+        second_run: second_run.len(),
+    };
+    room.holds(Room::needed(&first, n))?;
     let one = published::find_run(&first, &found).expect("the first machine accepts the word");
     let two = published::find_run(&second, &found).expect("the second machine accepts the word");
     word[..n].copy_from_slice(&found);

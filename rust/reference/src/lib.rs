@@ -14,6 +14,7 @@
 //! - [`product`]: the joined machine.
 //! - [`copies`]: the copy list of a run.
 //! - [`common`]: a shortest common word of two small machines.
+//! - [`relations`]: the least number of letters of a word that a small machine accepts, for words of any length.
 //! - [`listing`]: the listing program as a function from bytes to bytes.
 //! - [`folder`]: the machines of the folder `data/machines`.
 //!
@@ -41,6 +42,7 @@ pub mod moves;
 pub mod product;
 pub mod published;
 mod refusal;
+pub mod relations;
 pub mod sheet;
 pub mod shortest;
 pub mod spelling;

@@ -10,6 +10,7 @@
 //! - [`product`]: the product of a machine with a plain machine.
 //! - [`copies`]: the copy list of an accepting run.
 //! - [`recognize`]: whether a machine accepts a word, with a run.
+//! - [`common`]: a shortest word that a machine and a plain machine both accept, with a run of each.
 //! - [`Refusal`]: why a call turned its input down.
 //! - [`records`]: `step` and `check_run` with the records as they cross the boundary, for any mode byte.
 //!
@@ -29,9 +30,10 @@
 //! # Trade-offs
 //!
 //! Each call checks its machine and its word again before it moves, so a loop over [`step`] costs a pass over both for
-//! each entry; [`check_run`] does so once for a whole run. No call allocates. A call that writes does so only to the
-//! slice it takes as `&mut`: on success at its front, on a refusal nowhere.
+//! each entry; [`check_run`] does so once for a whole run. No call allocates but [`common::find`]. A call that writes
+//! does so only to the slices it takes as `&mut`: on success at their fronts, on a refusal nowhere.
 
+pub mod common;
 pub mod copies;
 pub mod product;
 pub mod recognize;
