@@ -20,6 +20,7 @@ use Rattle.pieces.specs.Written.{Takes}
 use Rattle.common.specs.Split.{Splits}
 use Rattle.product.specs.Product.{joinedTransitions, joinedCount, joinFault}
 pub mod Laws
+pub mod Seam
 
 abbrev pub isLetter : List ℕ → ℕ → Bool
 isLetter list e = ltb e beginBuffering && not (eqb (transitionAt list e .letter) 0)

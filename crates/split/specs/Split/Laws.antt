@@ -2,6 +2,7 @@
 --
 -- drop-set            == the list from a place on, once something is stored at it
 -- letters-cons, letters-drop == the letters of a run from a place on
+-- counts, counts-not  == an entry counts if it moves by a letter
 -- still-change, still-epsilon, is-letter == which entries move by a letter
 -- split-start, split-room, split-turn, split-end == the loop
 -- joined-apart        == what listed-split says of a transition of the product
@@ -34,10 +35,10 @@ drop-set l i a h =
     drop-cons (set l i a) i 0 (let s = length-set l i a in omega arith)
     ∙ (ap (λ (z : ℕ). z ∷ drop (suc i) (set l i a)) (getD-set-same l i a 0 h) ∙ ap (λ (z : List ℕ). a ∷ z) (drop-set-lt (suc i) l i a (omega arith)))
 
-counts : {b : Bool} → b ≡ true → _≡_ {A = ℕ} (cond b 1 0) 1
+pub counts : {b : Bool} → b ≡ true → _≡_ {A = ℕ} (cond b 1 0) 1
 counts {b} h = rw h
 
-counts-not : {b : Bool} → b ≡ false → _≡_ {A = ℕ} (cond b 1 0) 0
+pub counts-not : {b : Bool} → b ≡ false → _≡_ {A = ℕ} (cond b 1 0) 0
 counts-not {b} h = rw h
 
 module _ (list : List ℕ) where
