@@ -61,7 +61,7 @@ fn far(
     w: u64,
 ) -> u64
     requires { ⌜ length (now p) ≡ 64 ⌝ }
-    requires { ⌜ (base < 16064) × ((y : ℕ) → getD (now index) y 0 * 3 ≤ length (now list)) ⌝ }
+    requires { ⌜ (base < 16064) × (getD (now index) (base + 1) 0 * 3 ≤ length (now list)) ⌝ }
     requires { ⌜ w ≤ 8589934594 ⌝ }
     ensures { λ r. ⌜ Adding (Far (now (list .entry)) (now (index .entry)) base may v w) (now (p .entry)) got (now (p .exit)) r ⌝ }
 {
@@ -88,7 +88,7 @@ pub fn gather(
     p: &mut [u64; 64],
 ) -> u64
     requires { ⌜ length (now p) ≡ 64 ⌝ }
-    requires { ⌜ (stride ≤ 251) × (x < stride) × ((y : ℕ) → getD (now index) y 0 * 3 ≤ length (now list)) ⌝ }
+    requires { ⌜ (stride ≤ 251) × (x < stride) × ((t : ℕ) → In «set» t → getD (now index) (t * stride + x + 1) 0 * 3 ≤ length (now list)) ⌝ }
     requires { ⌜ (w ≤ 8589934594) × (s < 64) ⌝ }
     ensures { λ r. ⌜ Adding (From (now (list .entry)) (now (index .entry)) stride x w may (now (b .entry)) s (In «set»)) (now (p .entry)) 0 (now (p .exit)) r ⌝ }
 {

@@ -8,7 +8,7 @@ ghost use mathlib.Core.Path.{_≡_};
 ghost use mathlib.Core.Bool.{true};
 ghost use lib.ListN.{length};
 ghost use Rattle.fsbm.specs.Machine.{wellFormed};
-ghost use Rattle.blocks.specs.Stretches.{keyOf, noIndex, Found, Stretches};
+ghost use Rattle.blocks.specs.Stretches.{keyOf, Found, Stretches};
 use fsbm::machine::Machine;
 
 // The key of transition k.
@@ -34,22 +34,15 @@ fn seek(list: &[u16], stride: usize, k: usize, n: usize, y: usize) -> usize
     r
 }
 
-// A number for each key, all 0.
-fn no_index() -> [u16; 16065]
-    ensures { λ r. ⌜ r ≡ noIndex ⌝ }
-{
-    [0; 16065]
-}
-
-// The index of a well-formed machine's list.
+// Writes the index of a well-formed machine's list into starts. Where no key is, starts stays as it was.
 // Time: the keys and the transitions, each once.
-pub fn index(m: Machine, list: &[u16]) -> [u16; 16065]
+pub fn index(m: Machine, list: &[u16], starts: &mut [u16; 16065])
     requires { ⌜ wellFormed m (now list) ≡ true ⌝ }
-    ensures { λ r. ⌜ Stretches m (now (list .entry)) r ⌝ }
+    requires { ⌜ length (now starts) ≡ 16065 ⌝ }
+    ensures { λ r. ⌜ Stretches m (now (list .entry)) (now (starts .exit)) ⌝ }
 {
     let stride = m.letters + 1;
     let keys = m.states * stride;
-    let mut starts = no_index();
     let mut k: usize = 0;
     let mut y: usize = 0;
     while y <= keys {
@@ -57,5 +50,4 @@ pub fn index(m: Machine, list: &[u16]) -> [u16; 16065]
         starts[y] = k as u16;
         y += 1;
     }
-    starts
 }

@@ -43,7 +43,7 @@ fn moved(
     p: &mut [u64; 64],
 ) -> u64
     requires { ⌜ length (now p) ≡ 64 ⌝ }
-    requires { ⌜ (stride ≤ 251) × (x < stride) × ((y : ℕ) → getD (now index) y 0 * 3 ≤ length (now list)) ⌝ }
+    requires { ⌜ (stride ≤ 251) × (x < stride) × ((t : ℕ) → In «set» t → In h t → getD (now index) (t * stride + x + 1) 0 * 3 ≤ length (now list)) ⌝ }
     requires { ⌜ s < 64 ⌝ }
     ensures { λ r. ⌜ Adding (Moves (now (list .entry)) (now (index .entry)) stride x h (now (b .entry)) s «set») (now (p .entry)) 0 (now (p .exit)) r ⌝ }
 {

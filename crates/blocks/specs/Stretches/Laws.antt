@@ -5,6 +5,7 @@
 -- key-below         == keys are ordered by state first
 -- Built, built-start, built-turn, built-end == the part of an index that a loop has built; it begins, one turn, it ends
 -- found-here, found-none, found-on == the loop that looks for a key: it stops, finds none, goes on
+-- bounded, bounded-next == the numbers of an index are numbers of transitions
 -- stretch           == the transitions from index[q × stride + a] up to index[q × stride + a + 1] are those that leave q by a
 -- row-stretch       == those from index[q × stride] up to index[(q + 1) × stride] are all that leave q
 use Prim.Native.Nat.{ℕ, zero, suc, _+_, _*_, _-_, _≤_, _<_}
@@ -14,12 +15,12 @@ use mathlib.Core.List.{List}
 use native.Mathlib.Omega.{arith}
 use native.Mathlib.Decide.{decLt, ℕ-discrete}
 use native.Mathlib.Nat.{mul-le-mul, mul-le-mul-right, suc-mul}
-use lib.ListN.{length, getD, set, length-set, length-replicate}
+use lib.ListN.{length, getD, set, length-set}
 use lib.Seq.{getD-set-same, getD-set-other}
 use Rattle.fsbm.specs.Machine.{transitionAt}
 use Rattle.fsbm.specs.declared.machine.Machine.{Machine}
-use Rattle.adjacency.specs.Index.Laws.{Sorted, from-rises, letter-rises, zeros-at}
-use Rattle.blocks.specs.Stretches.{mostKeys, noIndex, keyOf, Found, Stretches}
+use Rattle.adjacency.specs.Index.Laws.{Sorted, from-rises, letter-rises}
+use Rattle.blocks.specs.Stretches.{mostKeys, keyOf, Found, Stretches}
 
 pub key-fits : (t stride x : ℕ) → t < 64 → stride ≤ 251 → x < stride → (t * stride ≤ 15813) × (t * stride + x < 16064)
 key-fits t stride x h k l = let h′ : t ≤ 63 = omega arith in let z : t * stride ≤ 63 * 251 = mul-le-mul h′ k in (omega arith, omega arith)
@@ -40,16 +41,8 @@ pub record Built (m : Machine) (list index : List ℕ) (k y : ℕ) : Type 0 wher
   pub at-most : k ≤ m .transitions
   pub bound : y ≤ m .states * (m .letters + 1) + 1
   pub passed : (t : ℕ) → t < k → keyOf list (m .letters + 1) t < y
-  pub within : (x : ℕ) → getD index x 0 ≤ m .transitions
+  pub within : (x : ℕ) → x < y → getD index x 0 ≤ m .transitions
   pub below : (x t : ℕ) → x < y → t < m .transitions → (t < getD index x 0) ↔ (keyOf list (m .letters + 1) t < x)
-
-pub no-index-size : length noIndex ≡ mostKeys
-unfolding noIndex
-no-index-size = length-replicate {A = ℕ} mostKeys 0
-
-pub no-index-zero : (x : ℕ) → getD noIndex x 0 ≡ 0
-unfolding noIndex
-no-index-zero x = zeros-at mostKeys x
 
 module _ (m : Machine) (list : List ℕ) (s : Sorted m list) where
   key-rises : (i j : ℕ) → i ≤ j → j < m .transitions → keyOf list (m .letters + 1) i ≤ keyOf list (m .letters + 1) j
@@ -74,17 +67,16 @@ module _ (m : Machine) (list : List ℕ) (s : Sorted m list) where
       let z : m .states * (m .letters + 1) ≤ 64 * 251 = mul-le-mul a c in
       omega arith
 
-  pub built-start : (index : List ℕ) → index ≡ noIndex → Built m list index 0 0
+  pub built-start : (index : List ℕ) → length index ≡ mostKeys → Built m list index 0 0
   built-start index e =
-      rw e
-      (record {
-        size = no-index-size;
+      record {
+        size = e;
         at-most = omega arith;
         bound = omega arith;
         passed = λ t (lt : t < 0). absurd (omega arith);
-        within = λ x. let z = no-index-zero x in omega arith;
+        within = λ x (lt : x < 0). absurd (omega arith);
         below = λ x t (lt : x < 0) z. absurd (omega arith);
-      })
+      }
 
   pub built-turn : (index : List ℕ) (k y r : ℕ) → Built m list index k y → y ≤ m .states * (m .letters + 1) → Found list (m .letters + 1) k (m .transitions) y r
       → Built m list (set index y r) r (y + 1)
@@ -94,7 +86,7 @@ module _ (m : Machine) (list : List ℕ) (s : Sorted m list) where
         at-most = found .within;
         bound = omega arith;
         passed = λ (t : ℕ) (lt : t < r). let z = passes t lt in omega arith;
-        within = λ x. bounds x (ℕ-discrete x y);
+        within = λ (x : ℕ) (lt : x < y + 1). bounds x lt (ℕ-discrete x y);
         below = λ (x : ℕ) (t : ℕ) (lt : x < y + 1) (l : t < m .transitions). belows x t (ℕ-discrete x y) lt l;
       }
     where
@@ -111,9 +103,9 @@ module _ (m : Machine) (list : List ℕ) (s : Sorted m list) where
       stops : (t : ℕ) → r ≤ t → t < m .transitions → y ≤ keyOf list (m .letters + 1) t
       stops t ge lt = let z = found .found (omega arith) in let u = key-rises r t ge lt in omega arith
 
-      bounds : (x : ℕ) → Dec (x ≡ y) → getD (set index y r) x 0 ≤ m .transitions
-      bounds x (yes e) = let v = found .within in let z : getD (set index y r) x 0 ≡ r = ap (λ (i : ℕ). getD (set index y r) i 0) e ∙ here in omega arith
-      bounds x (no n) = let z = getD-set-other index y x r 0 n in let v = b .within x in omega arith
+      bounds : (x : ℕ) → x < y + 1 → Dec (x ≡ y) → getD (set index y r) x 0 ≤ m .transitions
+      bounds x lt (yes e) = let v = found .within in let z : getD (set index y r) x 0 ≡ r = ap (λ (i : ℕ). getD (set index y r) i 0) e ∙ here in omega arith
+      bounds x lt (no n) = let z = getD-set-other index y x r 0 n in let v = b .within x (omega arith) in omega arith
 
       belows : (x t : ℕ) → Dec (x ≡ y) → x < y + 1 → t < m .transitions → (t < getD (set index y r) x 0) ↔ (keyOf list (m .letters + 1) t < x)
       belows x t (yes e) lt l =
@@ -131,7 +123,7 @@ module _ (m : Machine) (list : List ℕ) (s : Sorted m list) where
           (λ (h : t < getD (set index y r) x 0). old .0 (omega arith), λ (h : keyOf list (m .letters + 1) t < x). let w = old .1 h in omega arith)
 
   pub built-end : (index : List ℕ) (k y : ℕ) → Built m list index k y → m .states * (m .letters + 1) < y → Stretches m list index
-  built-end index k y b lt = record { size = b .size; within = b .within; below = λ x t le l. b .below x t (omega arith) l }
+  built-end index k y b lt = record { size = b .size; within = λ x le. b .within x (omega arith); below = λ x t le l. b .below x t (omega arith) l }
 
   -- Which transitions it names
 
@@ -140,8 +132,14 @@ module _ (m : Machine) (list : List ℕ) (s : Sorted m list) where
     before : (q x k : ℕ) → k < m .transitions → q < m .states → x ≤ m .letters + 1 → (k < getD index (q * (m .letters + 1) + x) 0) ↔ (keyOf list (m .letters + 1) k < q * (m .letters + 1) + x)
     before q x k lt l le = i .below (q * (m .letters + 1) + x) k (let z = key-below q (m .states) (m .letters) (m .letters + 1) (omega arith) l in omega arith) lt
 
+    pub bounded : (q x : ℕ) → q < m .states → x ≤ m .letters + 1 → getD index (q * (m .letters + 1) + x) 0 ≤ m .transitions
+    bounded q x l le = i .within (q * (m .letters + 1) + x) (let z = key-below q (m .states) (m .letters) (m .letters + 1) (omega arith) l in omega arith)
+
+    pub bounded-next : (q x : ℕ) → q < m .states → x ≤ m .letters → getD index (q * (m .letters + 1) + x + 1) 0 ≤ m .transitions
+    bounded-next q x l le = i .within (q * (m .letters + 1) + x + 1) (let z = key-below q (m .states) x (m .letters + 1) (omega arith) l in omega arith)
+
     inside : (q x k : ℕ) → q < m .states → x ≤ m .letters + 1 → k < getD index (q * (m .letters + 1) + x) 0 → k < m .transitions
-    inside q x k l le h = let z = i .within (q * (m .letters + 1) + x) in omega arith
+    inside q x k l le h = let z = bounded q x l le in omega arith
 
     -- the key tells the state
     state-of : (q k : ℕ) → k < m .transitions → q * (m .letters + 1) ≤ keyOf list (m .letters + 1) k → keyOf list (m .letters + 1) k < q * (m .letters + 1) + (m .letters + 1)
@@ -195,7 +193,7 @@ module _ (m : Machine) (list : List ℕ) (s : Sorted m list) where
 
         there : (getD index (q * (m .letters + 1) + x) 0 ≤ k) × (k < getD index (q * (m .letters + 1) + x + 1) 0) → (k < m .transitions) × (transitionAt list k .from ≡ q) × (transitionAt list k .letter ≡ x)
         there h =
-            let lt : k < m .transitions = (let z = i .within (q * (m .letters + 1) + x + 1) in omega (arith, h .1)) in
+            let lt : k < m .transitions = (let z = bounded-next q x l le in omega (arith, h .1)) in
             let hi = next lt .0 (h .1) in
             let lo = low lt (h .0) (decLt (keyOf list (m .letters + 1) k) (q * (m .letters + 1) + x)) in
             let e = state-of q k lt (omega arith) (omega arith) in

@@ -39,7 +39,7 @@ use Rattle.blocks.specs.Numbers.Laws.{steps-none, steps-then}
 use Rattle.blocks.specs.Gathered.{Adding, Reach, Far, From, Stay}
 use Rattle.blocks.specs.Gathered.Laws.{adding-as}
 use Rattle.blocks.specs.Stretches.{Stretches}
-use Rattle.blocks.specs.Stretches.Laws.{key-fits, stretch, row-stretch}
+use Rattle.blocks.specs.Stretches.Laws.{key-fits, bounded, bounded-next, stretch, row-stretch}
 use Rattle.blocks.specs.Works.{Kind, Ready, Storable, Works, Waiting, Busy, Early, Looked, RowSo, RowOn, RowDone, Moves, by-none, by-letter}
 
 pub block-inside : (b : List ℕ) (u : Pair) → blockOf b (inside u) ≡ cell b (u .storing) (u .matching)
@@ -345,8 +345,15 @@ module _ {m : Machine} {list index : List ℕ} {h : ℕ} (r : Ready m list index
   pub ready-stride : m .letters + 1 ≤ 251
   ready-stride = let z = sorts r .letters-fit in omega arith
 
-  pub ready-safe : (y : ℕ) → getD index y 0 * 3 ≤ length list
-  ready-safe y = let z = r .starts .within y in let k = sorts r .list-fits in omega arith
+  pub ready-next : (q x : ℕ) → q < m .states → x < m .letters + 1 → getD index (q * (m .letters + 1) + x + 1) 0 * 3 ≤ length list
+  ready-next q x here le = let z = bounded-next m list (sorts r) index (r .starts) q x here (omega arith) in let k = sorts r .list-fits in omega arith
+
+  pub ready-end : (q : ℕ) → q < m .states → getD index (q * (m .letters + 1) + (m .letters + 1)) 0 * 3 ≤ length list
+  ready-end q here = let z = bounded m list (sorts r) index (r .starts) q (m .letters + 1) here (omega arith) in let k = sorts r .list-fits in omega arith
+
+  -- the transitions from matching states by one letter
+  pub ready-from : (set x : ℕ) → x < m .letters + 1 → (t : ℕ) → In set t → In h t → getD index (t * (m .letters + 1) + x + 1) 0 * 3 ≤ length list
+  ready-from set x le t member held = ready-next t x (below r t (r .matches t .0 held)) le
 
   pub ready-states : m .states ≤ 64
   ready-states = sorts r .states-fit

@@ -317,9 +317,9 @@ module _ (m : Machine) (list : List ℕ) where
 -- The first numbers
 
 module _ (initial : ℕ) where
-  pub first-more : {d : List ℕ} {q v : ℕ} → q < length d → v ≡ firstOf (has initial q) → ((p : ℕ) → p < q → getD d p 0 ≡ firstOf (has initial p))
+  pub first-more : (d : List ℕ) (q v : ℕ) → q < length d → v ≡ firstOf (has initial q) → ((p : ℕ) → p < q → getD d p 0 ≡ firstOf (has initial p))
       → (p : ℕ) → p < q + 1 → getD (set d q v) p 0 ≡ firstOf (has initial p)
-  first-more {d} {q} {v} room is f p lt = on (ℕ-discrete p q)
+  first-more d q v room is f p lt = on (ℕ-discrete p q)
     where
       on : Dec (p ≡ q) → getD (set d q v) p 0 ≡ firstOf (has initial p)
       on (yes e) = ap (λ (i : ℕ). getD (set d q v) i 0) e ∙ getD-set-same d q v 0 room ∙ is ∙ ap (λ (i : ℕ). firstOf (has initial i)) (sym e)

@@ -49,7 +49,7 @@ add-reach c = omega (arith, (c .before .before .before .before .before) .if1 .le
 
 -- src/gather.rt:73:5
 reach-requires : tie.Need-reach-requires
-reach-requires c κs = ((c .before .before .before .before .before .before .before) .pre .0, omega (arith, (c .before .before .before .before .before .before .before) .pre .1 .0 .1 ((c .before .before .before .before .before .before .before) .args .base + 1), (c .before) .wide2 .ensures .0))
+reach-requires c κs = ((c .before .before .before .before .before .before .before) .pre .0, omega (arith, (c .before .before .before .before .before .before .before) .pre .1 .0 .1, (c .before) .wide2 .ensures .0))
 
 -- src/gather.rt:53:1
 returns-2 : tie.Need-returns-2

@@ -69,7 +69,7 @@ element-copy-out-far c = omega (arith, (c .before .before .before .before .befor
 
 -- src/gather.rt:100:9
 far-requires : tie.Need-far-requires Inv-loop μ-loop
-far-requires c κs = ((c .before .before .before .before .before) .loop .inv .1 .size ∙ (c .before .before .before .before .before .before .before .before) .pre .0, ((key-fits _ _ _ (lowest-inside _ _ ((c .before .before .before .before .before) .loop .inv .0 .fits) ((c .before .before .before .before) .loop-test .taken) ((c .before .before .before) .lowest .ensures)) ((c .before .before .before .before .before .before .before .before) .pre .1 .0 .0) ((c .before .before .before .before .before .before .before .before) .pre .1 .0 .1) .1, (c .before .before .before .before .before .before .before .before) .pre .1 .0 .2), (c .before .before .before .before .before .before .before .before) .pre .1 .1 .0))
+far-requires c κs = ((c .before .before .before .before .before) .loop .inv .1 .size ∙ (c .before .before .before .before .before .before .before .before) .pre .0, ((key-fits _ _ _ (lowest-inside _ _ ((c .before .before .before .before .before) .loop .inv .0 .fits) ((c .before .before .before .before) .loop-test .taken) ((c .before .before .before) .lowest .ensures)) ((c .before .before .before .before .before .before .before .before) .pre .1 .0 .0) ((c .before .before .before .before .before .before .before .before) .pre .1 .0 .1) .1, (c .before .before .before .before .before .before .before .before) .pre .1 .0 .2 _ ((c .before .before .before .before .before) .loop .inv .0 .part _ ((c .before .before .before) .lowest .ensures .member (omega (arith, (c .before .before .before .before) .loop-test .taken))))), (c .before .before .before .before .before .before .before .before) .pre .1 .1 .0))
 
 -- src/gather.rt:97:5
 loop-less : tie.Need-loop-less Inv-loop μ-loop

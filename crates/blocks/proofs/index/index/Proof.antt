@@ -1,71 +1,62 @@
 use native.Mathlib.Omega.{arith}
 use Prim.Native.Nat.{ℕ, _≤_, _<_, _-_, _+_, _*_}
-use mathlib.Core.Path.{_≡_}
-use mathlib.Core.Bool.{true}
-use borrow.Author.Needs.{needs}
-use Rattle.fsbm.specs.Machine.{wellFormed}
 use Rattle.adjacency.specs.Index.Laws.{sorted}
 use Rattle.blocks.specs.Stretches.Laws.{Built, keys-fit, built-start, built-turn, built-end}
 use Rattle.blocks.proofs.index.index.Statement.{statement}
 use Rattle.blocks.proofs.index.index.Tie as tie
 use Rattle.blocks.proofs.index.index.Reads as reads
 use Rattle.blocks.proofs.index.index.Lts as lts
-use Rattle.blocks.proofs.index.no_index.Reads as no-index-reads
 use Rattle.blocks.proofs.index.seek.Reads as seek-reads
 
 abbrev Inv-loop : tie.InvT-loop
-Inv-loop m list stride keys starts₀ k₀ y₀ starts k y = Built m list starts k y
+Inv-loop m list starts₀ stride keys k₀ y₀ starts k y = Built m list starts k y
 
 abbrev μ-loop : tie.MeasureT-loop
-μ-loop m list stride keys starts₀ k₀ y₀ starts k y = keys + 1 - y
+μ-loop m list starts₀ stride keys k₀ y₀ starts k y = keys + 1 - y
 
--- src/index.rt:50:18
+-- src/index.rt:44:18
 add-stride : tie.Need-add-stride Inv-loop μ-loop
-add-stride c = omega (arith, sorted _ _ ((c .before .before) .pre) .letters-fit)
+add-stride c = omega (arith, sorted _ _ ((c .before .before) .pre .0) .letters-fit)
 
--- src/index.rt:51:16
+-- src/index.rt:45:16
 mul-keys : tie.Need-mul-keys Inv-loop μ-loop
-mul-keys c = omega (arith, keys-fit _ _ (sorted _ _ ((c .before .before .before) .pre)))
+mul-keys c = omega (arith, keys-fit _ _ (sorted _ _ ((c .before .before .before) .pre .0)))
 
--- src/index.rt:52:22
-no-index-requires : tie.Need-no-index-requires Inv-loop μ-loop
-no-index-requires c κs = search needs
-
--- src/index.rt:55:5
+-- src/index.rt:48:5
 loop-holds : tie.Need-loop-holds Inv-loop μ-loop
-loop-holds c = built-start _ _ (sorted _ _ ((c .before .before .before .before) .pre)) _ (c .no-index .ensures)
+loop-holds c = built-start _ _ (sorted _ _ ((c .before .before .before) .pre .0)) _ ((c .before .before .before) .pre .1)
 
--- src/index.rt:56:9
+-- src/index.rt:49:9
 seek-requires : tie.Need-seek-requires Inv-loop μ-loop
-seek-requires c κs = (omega (arith, sorted _ _ ((c .before .before .before .before .before .before) .pre) .letters-fit), (c .before) .loop .inv .at-most, sorted _ _ ((c .before .before .before .before .before .before) .pre) .list-fits)
+seek-requires c κs = (omega (arith, sorted _ _ ((c .before .before .before .before .before) .pre .0) .letters-fit), (c .before) .loop .inv .at-most, sorted _ _ ((c .before .before .before .before .before) .pre .0) .list-fits)
 
--- src/index.rt:57:21
+-- src/index.rt:50:21
 cast-starts : tie.Need-cast-starts Inv-loop μ-loop
-cast-starts c = omega (arith, sorted _ _ ((c .before .before .before .before .before .before .before) .pre) .transitions-fit, c .seek .ensures .within)
+cast-starts c = omega (arith, sorted _ _ ((c .before .before .before .before .before .before) .pre .0) .transitions-fit, c .seek .ensures .within)
 
--- src/index.rt:57:9
+-- src/index.rt:50:9
 mul-starts : tie.Need-mul-starts Inv-loop μ-loop
-mul-starts c = omega (arith, keys-fit _ _ (sorted _ _ ((c .before .before .before .before .before .before .before) .pre)), (c .before) .loop-test .taken)
+mul-starts c = omega (arith, keys-fit _ _ (sorted _ _ ((c .before .before .before .before .before .before) .pre .0)), (c .before) .loop-test .taken)
 
--- src/index.rt:57:9
-array-write-starts : tie.Need-array-write-starts Inv-loop μ-loop
-array-write-starts c = omega (arith, keys-fit _ _ (sorted _ _ ((c .before .before .before .before .before .before .before) .pre)), (c .before) .loop-test .taken)
+-- src/index.rt:50:9
+element-write-starts : tie.Need-element-write-starts Inv-loop μ-loop
+element-write-starts c = omega (arith, keys-fit _ _ (sorted _ _ ((c .before .before .before .before .before .before) .pre .0)), (c .before) .loop-test .taken, (c .before .before) .loop .inv .size)
 
--- src/index.rt:58:9
+-- src/index.rt:51:9
 add-y : tie.Need-add-y Inv-loop μ-loop
-add-y c = omega (arith, keys-fit _ _ (sorted _ _ ((c .before .before .before .before .before .before .before) .pre)), (c .before) .loop-test .taken)
+add-y c = omega (arith, keys-fit _ _ (sorted _ _ ((c .before .before .before .before .before .before) .pre .0)), (c .before) .loop-test .taken)
 
--- src/index.rt:55:5
+-- src/index.rt:48:5
 loop-less : tie.Need-loop-less Inv-loop μ-loop
 loop-less c = omega (arith, (c .before) .loop-test .taken)
 
--- src/index.rt:55:5
+-- src/index.rt:48:5
 loop-again : tie.Need-loop-again Inv-loop μ-loop
-loop-again c = built-turn _ _ (sorted _ _ ((c .before .before .before .before .before .before .before) .pre)) _ _ _ _ ((c .before .before) .loop .inv) ((c .before) .loop-test .taken) (c .seek .ensures)
+loop-again c = built-turn _ _ (sorted _ _ ((c .before .before .before .before .before .before) .pre .0)) _ _ _ _ ((c .before .before) .loop .inv) ((c .before) .loop-test .taken) (c .seek .ensures)
 
--- src/index.rt:46:1
+-- src/index.rt:39:1
 returns : tie.Need-returns Inv-loop μ-loop
-returns c = built-end _ _ (sorted _ _ ((c .before .before .before .before .before .before) .pre)) _ _ _ ((c .before) .loop .inv) (c .loop-test .left)
+returns c = built-end _ _ (sorted _ _ ((c .before .before .before .before .before) .pre .0)) _ _ _ ((c .before) .loop .inv) (c .loop-test .left)
 
 pub index-spec : {M : Type 1} → statement M
 index-spec =
@@ -75,12 +66,11 @@ index-spec =
     μ-loop
     add-stride
     mul-keys
-    no-index-requires
     loop-holds
     seek-requires
     cast-starts
     mul-starts
-    array-write-starts
+    element-write-starts
     add-y
     loop-less
     loop-again

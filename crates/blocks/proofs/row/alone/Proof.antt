@@ -1,7 +1,7 @@
+use Rattle.blocks.specs.Works.Laws.{ready-stride, ready-from, ready-state, held-from, so-start}
 use native.Mathlib.Omega.{arith}
 use Prim.Native.Nat.{ℕ, _+_, _*_, _≤_}
 use mathlib.Core.Path.{_≡_, sym, _∙_}
-use Rattle.blocks.specs.Works.Laws.{ready-stride, ready-safe, ready-state, held-from, so-start}
 use borrow.Author.Needs.{needs}
 use Rattle.blocks.proofs.row.alone.Statement.{statement}
 use Rattle.blocks.proofs.row.alone.Tie as tie
@@ -21,7 +21,7 @@ add-gather c = omega (arith, ready-stride ((c .before .before .before) .pre .0))
 
 -- src/row.rt:74:9
 gather-requires : tie.Need-gather-requires
-gather-requires c κs = ((c .before .before .before .before .before) .pre .1 .1, ((ready-stride ((c .before .before .before .before .before) .pre .0), omega arith, ready-safe ((c .before .before .before .before .before) .pre .0)), (omega arith, ready-state ((c .before .before .before .before .before) .pre .0) _ ((c .before .before .before .before .before) .pre .1 .2))))
+gather-requires c κs = ((c .before .before .before .before .before) .pre .1 .1, ((ready-stride ((c .before .before .before .before .before) .pre .0), omega arith, λ t k. ready-from ((c .before .before .before .before .before) .pre .0) _ _ (omega arith) t ((c .before .before .before) .intersection .ensures .members t .0 k .0) ((c .before .before .before) .intersection .ensures .members t .0 k .1)), (omega arith, ready-state ((c .before .before .before .before .before) .pre .0) _ ((c .before .before .before .before .before) .pre .1 .2))))
 
 -- src/row.rt:75:5
 put-requires : tie.Need-put-requires

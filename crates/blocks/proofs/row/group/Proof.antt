@@ -1,7 +1,7 @@
+use Rattle.blocks.specs.Works.Laws.{ready-stride, ready-next, ready-from, ready-state, ready-room, ready-letter, row-fits, group-fits, group-past, so-more}
 use native.Mathlib.Omega.{arith}
 use Prim.Native.Nat.{ℕ, _+_, _*_, _≤_}
 use mathlib.Core.Path.{_≡_, refl, sym, _∙_}
-use Rattle.blocks.specs.Works.Laws.{ready-stride, ready-safe, ready-state, ready-room, ready-letter, row-fits, group-fits, group-past, so-more}
 use lib.ListN.{getD}
 use borrow.Author.Needs.{needs}
 use Rattle.blocks.proofs.row.group.Statement.{statement}
@@ -62,11 +62,11 @@ wide-requires c κs = search needs
 
 -- src/row.rt:101:9
 moved-requires : tie.Need-moved-requires
-moved-requires c κs = ((c .before .before .before .before .before .before .before) .pre .1 .0 .1, ((ready-stride ((c .before .before .before .before .before .before .before) .pre .0 .0), ready-letter ((c .before .before .before .before .before .before .before) .pre .0 .0) _ ((c .before .before .before .before .before .before .before) .pre .1 .1 .0), ready-safe ((c .before .before .before .before .before .before .before) .pre .0 .0)), ready-state ((c .before .before .before .before .before .before .before) .pre .0 .0) _ ((c .before .before .before .before .before .before .before) .pre .1 .0 .2)))
+moved-requires c κs = ((c .before .before .before .before .before .before .before) .pre .1 .0 .1, ((ready-stride ((c .before .before .before .before .before .before .before) .pre .0 .0), ready-letter ((c .before .before .before .before .before .before .before) .pre .0 .0) _ ((c .before .before .before .before .before .before .before) .pre .1 .1 .0), ready-from ((c .before .before .before .before .before .before .before) .pre .0 .0) _ _ (ready-letter ((c .before .before .before .before .before .before .before) .pre .0 .0) _ ((c .before .before .before .before .before .before .before) .pre .1 .1 .0))), ready-state ((c .before .before .before .before .before .before .before) .pre .0 .0) _ ((c .before .before .before .before .before .before .before) .pre .1 .0 .2)))
 
 -- src/row.rt:102:5
 spread-requires : tie.Need-spread-requires
-spread-requires c κs = ((c .before .before .before .before .before .before .before .before .before .before .before) .pre .1 .0 .0, omega (arith, (c .before .before .before .before .before .before) .wide .ensures .0, ready-safe ((c .before .before .before .before .before .before .before .before .before .before .before) .pre .0 .0) ((c .before .before .before .before .before .before .before .before .before .before .before) .args .s * ((c .before .before .before .before .before .before .before .before .before .before .before) .args .m .letters + 1) + getD ((c .before .before .before .before .before .before .before .before .before .before .before) .args .list .now) ((c .before .before .before .before .before .before .before .before .before .before .before) .args .lo * 3 + 1) 0 + 1)))
+spread-requires c κs = ((c .before .before .before .before .before .before .before .before .before .before .before) .pre .1 .0 .0, omega (arith, (c .before .before .before .before .before .before) .wide .ensures .0, ready-next ((c .before .before .before .before .before .before .before .before .before .before .before) .pre .0 .0) _ _ ((c .before .before .before .before .before .before .before .before .before .before .before) .pre .1 .0 .2) (ready-letter ((c .before .before .before .before .before .before .before .before .before .before .before) .pre .0 .0) _ ((c .before .before .before .before .before .before .before .before .before .before .before) .pre .1 .1 .0))))
 
 -- src/row.rt:80:1
 returns : tie.Need-returns

@@ -1,3 +1,4 @@
+use native.Mathlib.Omega.{arith}
 use Rattle.blocks.specs.Works.Laws.{held-from, moved-none, moved-letter}
 use borrow.Author.Needs.{needs}
 use Rattle.blocks.proofs.row.moved.Statement.{statement}
@@ -22,7 +23,7 @@ intersection-requires c κs = search needs
 
 -- src/row.rt:54:5
 gather-requires : tie.Need-gather-requires
-gather-requires c κs = search needs
+gather-requires c κs = ((c .before .before .before .before) .pre .0, (((c .before .before .before .before) .pre .1 .0 .0, (c .before .before .before .before) .pre .1 .0 .1, λ t k. (c .before .before .before .before) .pre .1 .0 .2 t ((c .before) .intersection .ensures .members t .0 k .0) ((c .before) .intersection .ensures .members t .0 k .1)), (omega arith, (c .before .before .before .before) .pre .1 .1)))
 
 -- src/row.rt:34:1
 returns-2 : tie.Need-returns-2

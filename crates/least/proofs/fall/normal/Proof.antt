@@ -1,8 +1,8 @@
+use Rattle.blocks.specs.Works.Laws.{ready-stride, ready-end, row-fits}
 use native.Mathlib.Omega.{arith}
 use Prim.Native.Nat.{ℕ, _+_, _*_, _≤_}
 use mathlib.Core.Path.{_≡_, refl, sym, _∙_}
 use Rattle.pieces.specs.Blocks.Laws.{cost-inside}
-use Rattle.blocks.specs.Works.Laws.{ready-stride, ready-safe, row-fits}
 use Rattle.least.specs.Falls.Laws.{normal-none, normal-buffers, normal-past, normal-steps}
 use borrow.Author.Needs.{needs}
 use Rattle.least.proofs.fall.normal.Statement.{statement}
@@ -84,7 +84,7 @@ enterable-requires c κs = search needs
 
 -- src/fall.rt:107:5
 steps-requires : tie.Need-steps-requires
-steps-requires c κs = (omega (arith, (c .before .before) .wide2 .ensures .0, ready-safe ((c .before .before .before .before .before .before .before .before .before .before .before .before .before .before) .pre .0 .0) ((c .before .before .before .before .before .before .before .before .before .before .before .before .before .before) .args .q * ((c .before .before .before .before .before .before .before .before .before .before .before .before .before .before) .args .m .letters + 1) + ((c .before .before .before .before .before .before .before .before .before .before .before .before .before .before) .args .m .letters + 1))), omega (arith, (c .before .before .before .before .before .before .before) .if3 .left), (c .before .before .before .before .before .before .before .before .before .before .before .before .before .before) .pre .1 .0)
+steps-requires c κs = (omega (arith, (c .before .before) .wide2 .ensures .0, ready-end ((c .before .before .before .before .before .before .before .before .before .before .before .before .before .before) .pre .0 .0) _ ((c .before .before .before .before .before .before .before .before .before .before .before) .if1 .left)), omega (arith, (c .before .before .before .before .before .before .before) .if3 .left), (c .before .before .before .before .before .before .before .before .before .before .before .before .before .before) .pre .1 .0)
 
 -- src/fall.rt:79:1
 returns-4 : tie.Need-returns-4

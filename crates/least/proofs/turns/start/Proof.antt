@@ -44,7 +44,7 @@ loop-less c = omega (arith, (c .before) .loop-test .taken)
 
 -- src/turns.rt:170:5
 loop-again : tie.Need-loop-again Inv-loop μ-loop
-loop-again c = (omega (arith, (c .before) .loop-test .taken), length-set _ _ _ ∙ (c .before .before) .loop .inv .1, first-more _ (omega (arith, (c .before) .loop-test .taken, (c .before .before) .loop .inv .1)) (c .first .ensures) ((c .before .before) .loop .inv .2))
+loop-again c = (omega (arith, (c .before) .loop-test .taken), length-set ((c .before .before) .loop .d) _ _ ∙ (c .before .before) .loop .inv .1, first-more _ ((c .before .before) .loop .d) _ _ (omega (arith, (c .before) .loop-test .taken, (c .before .before) .loop .inv .1)) (c .first .ensures) ((c .before .before) .loop .inv .2))
 
 -- src/turns.rt:165:1
 returns : tie.Need-returns Inv-loop μ-loop

@@ -1,0 +1,28 @@
+use Rattle.fsbm.specs.Rules.{rules}
+use borrow.Author.Needs.{needs}
+use Rattle.least.proofs.turns.costs.Statement.{statement}
+use Rattle.least.proofs.turns.costs.Tie as tie
+use Rattle.least.proofs.turns.costs.Reads as reads
+use Rattle.least.proofs.turns.costs.Lts as lts
+use Rattle.least.proofs.turns.ends.Reads as ends-reads
+use Rattle.least.proofs.turns.start.Reads as start-reads
+use Rattle.least.proofs.turns.turns.Reads as turns-reads
+
+-- src/turns.rt:219:5
+start-requires : tie.Need-start-requires
+start-requires c κs = search needs
+
+-- src/turns.rt:220:9
+ends-requires : tie.Need-ends-requires
+ends-requires c κs = (rules _ _ ((c .before .before .before) .pre .0 .0 .good) .list-fits, (c .before .before .before) .pre .0 .0 .matches)
+
+-- src/turns.rt:221:5
+turns-requires : tie.Need-turns-requires
+turns-requires c κs = search needs
+
+-- src/turns.rt:207:1
+returns : tie.Need-returns
+returns c = search needs
+
+pub costs-spec : {M : Type 1} → statement M
+costs-spec = tie.close (tie.spec start-requires ends-requires turns-requires returns)
