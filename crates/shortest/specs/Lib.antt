@@ -1,3 +1,4 @@
+pub mod Best
 pub mod Copy
 pub mod Find
 pub mod Into

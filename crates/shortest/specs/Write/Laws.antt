@@ -7,8 +7,9 @@
 -- tried-not, tried-block  == the ways through try_guess
 -- guess-start, guess-next, guess-found, guess-end == the loop of guess
 -- copy-ready, step-ready  == copy may begin, step may
+-- aim-of                  == the number of f says how many letters and entries are written
 -- write-start, write-fits, write-turn, write-end == the loop of write
-use Prim.Native.Nat.{ℕ, zero, suc, _+_, _*_, _-_, _≤_, _<_, _%_}
+use Prim.Native.Nat.{ℕ, zero, suc, _+_, _*_, _-_, _≤_, _<_, _/_, _%_}
 use mathlib.Core.Path.{_≡_, refl, sym, ap, _∙_, subst, subst₂}
 use mathlib.Core.Logic.{_⊎_, inl, inr}
 use mathlib.Core.Bool.{Bool, true, false, false≢true, true≢false}
@@ -212,6 +213,13 @@ copy-ready m list links index starts ends d b b′ q word i run r later h s g =
       run-fits = s .run-fits;
       later-size = s .later-size;
     }
+
+-- The number of f says how long the word and its run are
+
+pub aim-of : (m : Machine) (list d : List ℕ) (f : ℕ) → Least m list d → costOf d f < nothing
+    → ((p : ℕ) (w : List ℕ) (k : ℕ) → fsbmOf m list .I p → Leads (fsbmOf m list) p w f k → costOf d f / unit ≤ length w) → costOf d f % unit + 1 < unit
+    → Aim m list d f (costOf d f / unit) (costOf d f % unit + 1)
+aim-of m list d f s low fewest small = record { settled = s; low = low; fewest = fewest; weight = omega arith; some = omega arith; small = small }
 
 -- The run from its end
 
