@@ -46,7 +46,7 @@ guess-requires c κs = ((c .before .before .before .before .before .before .befo
 
 -- src/write.rt:114:5
 copy-requires : tie.Need-copy-requires
-copy-requires c κs = copy-ready _ _ _ _ _ _ _ _ _ _ _ _ _ _ _ _ ((c .before .before .before .before .before .before .before .before .before .before .before .before .before .before) .pre) ((c .before .before .before .before) .guess .ensures)
+copy-requires c κs = copy-ready _ _ _ _ _ _ _ _ _ _ _ _ _ _ _ _ _ ((c .before .before .before .before .before .before .before .before .before .before .before .before .before .before) .pre) ((c .before .before .before .before) .guess .ensures)
 
 -- src/write.rt:89:1
 same-length-3 : tie.Need-same-length-3
