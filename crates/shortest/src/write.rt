@@ -80,12 +80,6 @@ fn guess(
     0
 }
 
-fn wide(x: u8) -> usize
-    ensures { λ r. ⌜ (r ≡ x) × (r < 256) ⌝ }
-{
-    x as usize
-}
-
 // Writes the last piece of a run that ends in q before place i of the word and place r of the run, and says where it begins. hints has for
 // each state the guess that is tried first.
 fn step(
@@ -123,7 +117,7 @@ fn step(
         d,
         b,
         q,
-        wide(hints[q]),
+        images::wide(hints[q]),
     );
     copy::copy(m, list, links, d, b, h, q, word, i, run, r, later)
 }
