@@ -19,7 +19,7 @@ use mathlib.Core.List.{List}
 use lib.ListN.{length, getD, drop}
 use Rattle.graphs.specs.Cost.{Settled}
 use Rattle.graphs.specs.Back.{Back}
-use Rattle.fsbm.specs.Machine.{transitionAt, buffering, matching, wellFormed}
+use Rattle.fsbm.specs.Machine.{transitionAt, buffering, matching}
 use Rattle.fsbm.specs.Published.{fsbmOf}
 use Rattle.fsbm.specs.declared.machine.Machine.{Machine}
 use Rattle.pieces.specs.Pieces.{Leads}

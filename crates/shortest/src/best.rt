@@ -1,5 +1,5 @@
 // The final state that a shortest word leads to.
-ghost use Prim.Native.Nat.{ℕ, _+_, _<_};
+ghost use Prim.Native.Nat.{_+_, _<_};
 ghost use Rattle.shortest.specs.Best.{Best, BestBelow};
 use crate::find;
 use fsbm::machine;

@@ -1,11 +1,11 @@
 // Transitions, and moves of a pair, along which a number is reached exactly: its end's number is its start's number and its weight.
 // Each finder goes through the transitions that enter a state.
-ghost use Prim.Native.Nat.{ℕ, _+_, _<_};
+ghost use Prim.Native.Nat.{_+_, _<_};
 ghost use mathlib.Core.Path.{_≡_};
-ghost use mathlib.Core.Bool.{Bool, true};
+ghost use mathlib.Core.Bool.{true};
 ghost use lib.Dec.{eqb};
 ghost use Rattle.fsbm.specs.Machine.{wellFormed, transitionAt};
-ghost use Rattle.pieces.specs.Pairs.{weigh, halves, unit};
+ghost use Rattle.pieces.specs.Pairs.{weigh};
 ghost use Rattle.pieces.specs.Blocks.{costOf, cell};
 ghost use Rattle.shortest.specs.Into.{Into};
 ghost use Rattle.shortest.specs.Find.{Finds, Tried, normalTest, NormalFits, storeTest, StoreFits, matchTest, MatchFits, LetterStep, LetterFits, Backs};

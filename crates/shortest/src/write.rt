@@ -1,11 +1,8 @@
 // Writes a shortest word and its run from the least weights, from the end: a move or a copy along which the number of the state is
 // reached, again and again, until an initial state.
-ghost use Prim.Native.Nat.{ℕ, _+_, _≤_, _<_};
-ghost use mathlib.Core.Path.{_≡_};
-ghost use mathlib.Core.Bool.{Bool, true};
+ghost use Prim.Native.Nat.{_+_, _<_};
 ghost use lib.ListN.{length};
 ghost use Rattle.shortest.specs.Put.{PutReady};
-ghost use Rattle.shortest.specs.Copy.{Stepped};
 ghost use Rattle.shortest.specs.Write.{Read, Searching, TriedGuess, CopyThere, Guessed, StepReady, StepDone, WriteReady, Aim, Shortest};
 use crate::copy;
 use crate::copy::Place;

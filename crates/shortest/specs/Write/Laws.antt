@@ -9,43 +9,39 @@
 -- copy-ready, step-ready  == copy may begin, step may
 -- aim-of                  == the number of f says how many letters and entries are written
 -- write-start, write-fits, write-turn, write-end == the loop of write
-use Prim.Native.Nat.{ℕ, zero, suc, _+_, _*_, _-_, _≤_, _<_, _/_, _%_}
+use Prim.Native.Nat.{ℕ, suc, _+_, _*_, _-_, _≤_, _<_, _/_, _%_}
 use mathlib.Core.Path.{_≡_, refl, sym, ap, _∙_, subst, subst₂}
 use mathlib.Core.Logic.{_⊎_, inl, inr}
-use mathlib.Core.Bool.{Bool, true, false, false≢true, true≢false}
+use mathlib.Core.Bool.{Bool, true, false, false≢true}
 use mathlib.Core.List.{List, [], _∷_, _++_, append-assoc, append-nil}
 use native.Mathlib.Omega.{arith}
 use native.Mathlib.Decide.{decLt, ℕ-discrete}
-use lib.ListN.{length, getD, set, drop, length-set, length-append, length-drop}
+use lib.ListN.{length, set, drop, length-append, length-drop}
 use lib.Seq.{drop-length, drop-set-lt, getD-set-same}
 use lib.Dec.{eqb}
 use borrow.Author.Tests.{eqb-true, eq-eqb}
 use Rattle.graphs.specs.Search.Laws.{not-both}
 use Rattle.stateset.specs.Set.{In}
-use Rattle.fsbm.specs.Machine.{transitionAt, buffering, matching}
+use Rattle.fsbm.specs.Machine.{transitionAt, matching}
 use Rattle.fsbm.specs.Moves.{beginBuffering, beginEmptying, backToNormal}
 use Rattle.fsbm.specs.Published.{fsbmOf, symbol}
 use Rattle.fsbm.specs.Rules.{rules, matching-below}
 use Rattle.fsbm.specs.declared.machine.Machine.{Machine}
-use Rattle.product.specs.Tables.{TableRules, table}
-use Rattle.pieces.specs.Pieces as pieces
+use Rattle.product.specs.Tables.{TableRules}
 use Rattle.pieces.specs.Pieces.{Leads}
 use Rattle.pieces.specs.Pieces.Laws.{leads-append}
-use Rattle.pieces.specs.Pairs.{unit, weigh, both}
+use Rattle.pieces.specs.Pairs.{unit}
 use Rattle.pieces.specs.Pairs.Laws.{weigh-symbol}
-use Rattle.pieces.specs.Blocks.{nothing, costOf, cell, blockOf, inside}
+use Rattle.pieces.specs.Blocks.{nothing, costOf, cell, blockOf}
 use Rattle.pieces.specs.Blocks.Laws.{cost-past}
 use Rattle.pieces.specs.Tight.{TightMove, TightCopy, settled-back, settled-start, settled-leads, block-tight, kinds-apart}
 use Rattle.pieces.specs.Rounds.Laws.{stores-enters}
 use Rattle.pieces.specs.Written.{Takes, LeadsBy, ended, read, copy}
-use Rattle.pieces.specs.Written.Laws.{leads-counted, takes-listed}
-use Rattle.blocks.specs.Works.{Ready, Kind}
+use Rattle.pieces.specs.Written.Laws.{leads-counted}
 use Rattle.blocks.specs.Settling.{Past, Block}
-use Rattle.least.specs.Turns.{Entered}
-use Rattle.shortest.specs.Into.{Into}
 use Rattle.shortest.specs.Find.{Finds, NormalFits}
 use Rattle.shortest.specs.Find.Tests.{normal-says, normal-true}
-use Rattle.shortest.specs.Put.{PutReady, Put}
+use Rattle.shortest.specs.Put.{PutReady}
 use Rattle.shortest.specs.Put.Laws.{some-symbol}
 use Rattle.shortest.specs.Copy.{Fits, CopyReady, Stepped}
 use Rattle.shortest.specs.Write.{Read, Least, Searching, CopyThere, TriedGuess, Guessed, Guessing, StepReady, WriteReady, Aim, Writing, Shortest}

@@ -6,7 +6,7 @@
 -- still-change, still-epsilon, is-letter == which entries move by a letter
 -- split-start, split-room, split-turn, split-end == the loop
 -- joined-apart        == what listed-split says of a transition of the product
-use Prim.Native.Nat.{ℕ, zero, suc, _+_, _*_, _-_, _/_, _%_, _≤_, _<_}
+use Prim.Native.Nat.{ℕ, zero, suc, _+_, _/_, _%_, _≤_, _<_}
 use mathlib.Core.Path.{_≡_, refl, sym, ap, _∙_, subst}
 use mathlib.Core.Logic.{_⊎_, inl, inr}
 use mathlib.Core.Bool.{Bool, true, false, cond, not, _&&_}
@@ -16,10 +16,10 @@ use native.Mathlib.Decide.{decLt, ℕ-discrete}
 use lib.ListN.{length, getD, set, drop, length-set}
 use lib.Seq.{drop-cons, drop-length, drop-set-lt, getD-set-same, getD-set-other, drop-nil}
 use lib.Dec.{ltb, eqb}
-use borrow.Author.Tests.{lt-ltb, le-ltb, eq-eqb, ne-eqb, ltb-true, eqb-true, eqb-false}
-use Rattle.graphs.specs.Search.Laws.{and-true, and-both-true, true-or-false, not-both}
-use Rattle.graphs.specs.Bools.{not-says, says-not}
-use Rattle.fsbm.specs.Machine.{transitionAt, wellFormed}
+use borrow.Author.Tests.{lt-ltb, le-ltb, eq-eqb, ne-eqb, ltb-true}
+use Rattle.graphs.specs.Search.Laws.{and-true, and-both-true, not-both}
+use Rattle.graphs.specs.Bools.{not-says}
+use Rattle.fsbm.specs.Machine.{transitionAt}
 use Rattle.fsbm.specs.Moves.{beginBuffering}
 use Rattle.fsbm.specs.Published.{Listed}
 use Rattle.fsbm.specs.declared.machine.Machine.{Machine}
@@ -28,7 +28,7 @@ use Rattle.common.specs.Split.{Splits, nothing-left, change, alone, moves}
 use Rattle.product.specs.Common.{listed-split}
 use Rattle.product.specs.Product.{joinedTransitions, joinedCount, joinFault}
 use Rattle.product.specs.Tables.{Joinable, joinable}
-use Rattle.split.specs.Split.{isLetter, lettersIn, FirstReady, FirstPart, SecondReady, SecondPart, Put, Kept, Joined, Split, Splitting}
+use Rattle.split.specs.Split.{isLetter, lettersIn, FirstReady, FirstPart, SecondReady, SecondPart, Joined, Split, Splitting}
 
 pub drop-set : (l : List ℕ) (i a : ℕ) → i < length l → drop i (set l i a) ≡ a ∷ drop (suc i) l
 drop-set l i a h =

@@ -8,7 +8,6 @@
 use Prim.Native.Nat.{ℕ, zero, suc, _+_, _-_, _≤_, _<_}
 use mathlib.Core.Path.{_≡_, refl, sym, ap, _∙_, subst}
 use mathlib.Core.Logic.{_⊎_, inl, inr}
-use mathlib.Core.Bool.{Bool, true, false, cond}
 use mathlib.Core.List.{List, [], _∷_, _++_}
 use native.Mathlib.Omega.{arith}
 use lib.ListN.{length, getD, drop, length-drop, length-append}
@@ -19,8 +18,8 @@ use Rattle.fsbm.specs.Published.{symbol}
 use Rattle.fsbm.specs.declared.machine.Machine.{Machine}
 use Rattle.pieces.specs.Written.{Takes, StoresBy, stored, store, MatchesBy, matched, match, LeadsBy, ended, read, copy}
 use Rattle.product.specs.Product.{joinedTransitions, joinedCount, joinedMachine, joinFault}
-use Rattle.product.specs.Tables.{Joinable, joinable}
-use Rattle.split.specs.Split.{isLetter, lettersIn, Joined}
+use Rattle.product.specs.Tables.{joinable}
+use Rattle.split.specs.Split.{lettersIn, Joined}
 use Rattle.split.specs.Split.Laws.{counts, counts-not, still-change, still-epsilon, is-letter}
 
 pub data Known (n : ℕ) : List ℕ → Type 0 where

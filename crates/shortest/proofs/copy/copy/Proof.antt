@@ -1,7 +1,6 @@
 use native.Mathlib.Omega.{arith}
-use mathlib.Core.Path.{_≡_, refl, sym, ap, _∙_}
 use Prim.Native.Nat.{_-_}
-use lib.ListN.{length, length-set}
+use lib.ListN.{length-set}
 use Rattle.shortest.specs.Copy.Whole.{copy-going, copy-first, copy-finished, copy-done}
 use borrow.Author.Needs.{needs}
 use Rattle.shortest.proofs.copy.copy.Statement.{statement}

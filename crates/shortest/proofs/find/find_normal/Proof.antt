@@ -1,15 +1,12 @@
-use Prim.Native.Nat.{ℕ, _+_, _-_}
-use mathlib.Core.Path.{_≡_, refl, sym, ap, _∙_, subst}
-use mathlib.Core.Bool.{Bool, true}
+use Prim.Native.Nat.{ℕ, _-_}
+use mathlib.Core.Path.{_≡_, sym, ap, _∙_, subst}
+use mathlib.Core.Bool.{true}
 use native.Mathlib.Omega.{arith}
 use borrow.Author.Needs.{needs}
-use lib.ListN.{getD}
 use Rattle.graphs.specs.Search.Laws.{not-both}
-use Rattle.layers.specs.Ways.{Next}
 use Rattle.product.specs.Tables.{table}
 use Rattle.pieces.specs.Blocks.{costOf}
-use Rattle.shortest.specs.Into.{Enters}
-use Rattle.shortest.specs.Find.{normalTest, NormalFits}
+use Rattle.shortest.specs.Find.{normalTest}
 use Rattle.shortest.specs.Find.Laws.{Finding, finding-start, finding-next, finding-found, finding-none}
 use Rattle.shortest.proofs.find.find_normal.Statement.{statement}
 use Rattle.shortest.proofs.find.find_normal.Tie as tie

@@ -1,11 +1,11 @@
-use Prim.Native.Nat.{ℕ, _+_, _-_}
-use mathlib.Core.Path.{_≡_, refl, sym, ap, _∙_, subst}
-use mathlib.Core.Bool.{Bool, true}
+use Prim.Native.Nat.{ℕ, _-_}
+use mathlib.Core.Path.{_≡_, sym, _∙_, subst}
+use mathlib.Core.Bool.{true}
 use native.Mathlib.Omega.{arith}
 use borrow.Author.Needs.{needs}
 use Rattle.graphs.specs.Search.Laws.{not-both}
 use Rattle.product.specs.Tables.{table}
-use Rattle.shortest.specs.Find.{storeTest, matchTest}
+use Rattle.shortest.specs.Find.{storeTest}
 use Rattle.shortest.specs.Find.Laws.{Finding, finding-start, finding-next, finding-found, finding-none}
 use Rattle.shortest.proofs.find.find_store.Statement.{statement}
 use Rattle.shortest.proofs.find.find_store.Tie as tie

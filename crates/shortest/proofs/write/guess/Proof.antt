@@ -1,4 +1,4 @@
-use Prim.Native.Nat.{ℕ, _+_, _-_, _%_}
+use Prim.Native.Nat.{_-_}
 use native.Mathlib.Omega.{arith}
 use Rattle.shortest.specs.Write.{Guessing}
 use Rattle.shortest.specs.Write.Laws.{guess-start, guess-next, guess-found, guess-end}
