@@ -3,6 +3,7 @@ ghost use mathlib.Core.Path.{_≡_};
 ghost use lib.ListN.{length};
 ghost use Rattle.search.specs.Runs.{Writable, Runs};
 use fsbm::machine::Machine;
+use least::turns;
 use shortest::into;
 
 // Room for the entries of the storing half of a copy.
@@ -37,6 +38,7 @@ pub fn write_runs(
     ensures { λ u. ⌜ Runs first (now («first_list» .entry)) second (now («second_list» .entry)) (now (word .exit)) (now (run .exit)) (now (other .exit)) ⌝ }
 {
     let entering = into::into(m, list);
+    let middles = turns::ends(m, list, ends);
     let mut later = no_entries();
     let hints = [0u8; 64];
     shortest::write::write(
@@ -46,6 +48,7 @@ pub fn write_runs(
         index,
         starts,
         ends,
+        middles,
         d,
         &hints,
         b,

@@ -7,7 +7,7 @@
 -- letter-none, letter-matching, letter-buffering, letter-alone, letter-both == the ways through letter_fits
 use Prim.Native.Nat.{ℕ, zero, suc, _+_, _-_, _<_, _≤_}
 use mathlib.Core.Path.{_≡_, refl, sym, ap, _∙_, subst}
-use mathlib.Core.Bool.{Bool, true, false, not, _&&_, false≢true, true≢false}
+use mathlib.Core.Bool.{true, false, not, _&&_, false≢true, true≢false}
 use mathlib.Core.List.{List}
 use native.Mathlib.Omega.{arith}
 use native.Mathlib.Decide.{ℕ-discrete, decLt}
@@ -15,7 +15,7 @@ use lib.Dec.{eqb}
 use borrow.Author.Tests.{eq-eqb, ne-eqb}
 use Rattle.fsbm.specs.Machine.{transitionAt, buffering, bothMatching}
 use Rattle.fsbm.specs.declared.machine.Transition.{Transition}
-use Rattle.pieces.specs.Pairs.{weigh, unit}
+use Rattle.pieces.specs.Pairs.{weigh}
 use Rattle.pieces.specs.Blocks.{costOf, cell}
 use Rattle.graphs.specs.Search.Laws.{not-both}
 use Rattle.fsbm.specs.declared.machine.Machine.{Machine}

@@ -11,11 +11,11 @@
 -- Fits m list d q i r    == all pieces to q along which its number is reached fit before place i of the word and place r of the run
 -- CopyReady, Stepped     == what copy asks; pieces from p to q are written before place i of the word and place r of the run, and the number
 --                           of q is reached along them
-use Prim.Native.Nat.{ℕ, suc, _+_, _*_, _-_, _≤_, _<_}
+use Prim.Native.Nat.{ℕ, _+_, _*_, _-_, _≤_, _<_}
 use mathlib.Core.Path.{_≡_}
 use mathlib.Core.Logic.{_⊎_}
 use mathlib.Core.Bool.{Bool, true, _&&_}
-use mathlib.Core.List.{List, [], _∷_, _++_, List·Memᴰ}
+use mathlib.Core.List.{List, _++_, List·Memᴰ}
 use lib.ListN.{length, getD, set, drop}
 use lib.Dec.{eqb}
 use Rattle.graphs.specs.Search.{AllBelow}

@@ -2,7 +2,8 @@
 --
 -- Read ..                == what read ensures: the transition's entry and its letter stand in front
 -- Least m list d         == d has the least weights from a start
--- Searching ..           == what a search for a guess asks: the machine with its index and sets, the least weights, room for a block, and a number at q
+-- Searching ..           == what a search for a guess asks: the machine with its index, its buffering states, its matching states and those of them in
+--                           which storing can end (middles), the least weights, room for a block, and a number at q
 -- CopyThere m list d q   == the number of q is reached along some copy
 -- TriedGuess, Guessed    == whether the number of q is reached along a copy with the guess h, and the block of h
 -- StepReady, StepDone    == what step asks and ensures
@@ -18,7 +19,7 @@ use mathlib.Core.List.{List}
 use lib.ListN.{length, getD, drop}
 use Rattle.graphs.specs.Cost.{Settled}
 use Rattle.graphs.specs.Back.{Back}
-use Rattle.fsbm.specs.Machine.{transitionAt, buffering, matching, wellFormed}
+use Rattle.fsbm.specs.Machine.{transitionAt, buffering, matching}
 use Rattle.fsbm.specs.Published.{fsbmOf}
 use Rattle.fsbm.specs.declared.machine.Machine.{Machine}
 use Rattle.pieces.specs.Pieces.{Leads}
@@ -28,6 +29,7 @@ use Rattle.pieces.specs.Tight.{TightCopy}
 use Rattle.pieces.specs.Written.{LeadsBy}
 use Rattle.blocks.specs.Works.{Ready, Kind}
 use Rattle.blocks.specs.Settling.{Past, Block}
+use Rattle.least.specs.Turns.{Entered}
 use Rattle.shortest.specs.Into.{Into}
 use Rattle.shortest.specs.Put.{Put}
 use Rattle.shortest.specs.Copy.{Fits, Stepped}
@@ -42,9 +44,10 @@ pub record Read (list : List ℕ) (k : ℕ) (word : List ℕ) (i : ℕ) (run : L
 abbrev pub Least : Machine → List ℕ → List ℕ → Type 0
 Least m list d = Settled (Back (Piece (fsbmOf m list))) (fsbmOf m list .I) nothing (costOf d)
 
-pub record Searching (m : Machine) (list index : List ℕ) (starts ends : ℕ) (d b : List ℕ) (q : ℕ) : Type 0 where
+pub record Searching (m : Machine) (list index : List ℕ) (starts ends middles : ℕ) (d b : List ℕ) (q : ℕ) : Type 0 where
   pub ready : Ready m list index ends
   pub buffers : Kind (buffering (m .marks)) starts
+  pub turnings : Entered m list middles
   pub settled : Least m list d
   pub size : length b ≡ 4096
   pub past : Past m b
@@ -53,27 +56,27 @@ pub record Searching (m : Machine) (list index : List ℕ) (starts ends : ℕ) (
 abbrev pub CopyThere : Machine → List ℕ → List ℕ → ℕ → Type 0
 CopyThere m list d q = TightCopy (fsbmOf m list) (costOf d) q
 
-pub record TriedGuess (m : Machine) (list index : List ℕ) (starts ends : ℕ) (d b′ : List ℕ) (q h : ℕ) (r : Bool) : Type 0 where
-  pub searching : Searching m list index starts ends d b′ q
+pub record TriedGuess (m : Machine) (list index : List ℕ) (starts ends middles : ℕ) (d b′ : List ℕ) (q h : ℕ) (r : Bool) : Type 0 where
+  pub searching : Searching m list index starts ends middles d b′ q
   pub turns : r ≡ true → matching (m .marks) h ≡ true
   pub block : r ≡ true → Block m list h starts d b′
   pub tight : r ≡ true → cell b′ h q + 2 ≡ costOf d q
   pub bad : r ≡ false → (t : CopyThere m list d q) → t .middle ≡ h → ⊥
 
-pub record Guessed (m : Machine) (list index : List ℕ) (starts ends : ℕ) (d b′ : List ℕ) (q h : ℕ) : Type 0 where
-  pub searching : Searching m list index starts ends d b′ q
+pub record Guessed (m : Machine) (list index : List ℕ) (starts ends middles : ℕ) (d b′ : List ℕ) (q h : ℕ) : Type 0 where
+  pub searching : Searching m list index starts ends middles d b′ q
   pub turns : matching (m .marks) h ≡ true
   pub ends-there : matching (m .marks) q ≡ true
   pub block : Block m list h starts d b′
   pub tight : cell b′ h q + 2 ≡ costOf d q
 
 -- the guesses before number k were tried
-pub record Guessing (m : Machine) (list index : List ℕ) (starts ends : ℕ) (d b : List ℕ) (q first k : ℕ) : Type 0 where
-  pub searching : Searching m list index starts ends d b q
+pub record Guessing (m : Machine) (list index : List ℕ) (starts ends middles : ℕ) (d b : List ℕ) (q first k : ℕ) : Type 0 where
+  pub searching : Searching m list index starts ends middles d b q
   pub tried : (j : ℕ) → j < k → (t : CopyThere m list d q) → t .middle ≡ (first + j) % 64 → ⊥
 
-pub record StepReady (m : Machine) (list links index : List ℕ) (starts ends : ℕ) (d b : List ℕ) (q : ℕ) (word : List ℕ) (i : ℕ) (run : List ℕ) (r : ℕ) (later : List ℕ) : Type 0 where
-  pub searching : Searching m list index starts ends d b q
+pub record StepReady (m : Machine) (list links index : List ℕ) (starts ends middles : ℕ) (d b : List ℕ) (q : ℕ) (word : List ℕ) (i : ℕ) (run : List ℕ) (r : ℕ) (later : List ℕ) : Type 0 where
+  pub searching : Searching m list index starts ends middles d b q
   pub into : Into m list links
   pub positive : 0 < costOf d q
   pub fits : Fits m list d q i r
@@ -82,15 +85,16 @@ pub record StepReady (m : Machine) (list links index : List ℕ) (starts ends : 
   pub later-size : length later ≡ 4096
 
 -- a piece is written, and what a further step asks of the room to work in is there
-pub record StepDone (m : Machine) (list index : List ℕ) (starts ends : ℕ) (d b′ : List ℕ) (q : ℕ) (word : List ℕ) (i : ℕ) (run : List ℕ) (r : ℕ) (word′ run′ later′ : List ℕ) (p : Place) : Type 0 where
+pub record StepDone (m : Machine) (list index : List ℕ) (starts ends middles : ℕ) (d b′ : List ℕ) (q : ℕ) (word : List ℕ) (i : ℕ) (run : List ℕ) (r : ℕ) (word′ run′ later′ : List ℕ) (p : Place) : Type 0 where
   pub stepped : Stepped m list d q word i run r word′ run′ p
   pub size : length b′ ≡ 4096
   pub past : Past m b′
   pub later-size : length later′ ≡ 4096
 
-pub record WriteReady (m : Machine) (list links index : List ℕ) (starts ends : ℕ) (d b : List ℕ) (f : ℕ) (later : List ℕ) : Type 0 where
+pub record WriteReady (m : Machine) (list links index : List ℕ) (starts ends middles : ℕ) (d b : List ℕ) (f : ℕ) (later : List ℕ) : Type 0 where
   pub ready : Ready m list index ends
   pub buffers : Kind (buffering (m .marks)) starts
+  pub turnings : Entered m list middles
   pub into : Into m list links
   pub size : length b ≡ 4096
   pub past : Past m b

@@ -1,9 +1,7 @@
 // Writes a whole copy of a least run, from its end: the two halves are walked back side by side through a settled block.
-ghost use Prim.Native.Nat.{ℕ, _+_, _≤_, _<_};
+ghost use Prim.Native.Nat.{_+_, _<_};
 ghost use mathlib.Core.Path.{_≡_};
-ghost use mathlib.Core.Bool.{true};
 ghost use lib.ListN.{length};
-ghost use Rattle.fsbm.specs.Machine.{wellFormed, transitionAt};
 ghost use Rattle.shortest.specs.Copy.{begunTest, MatchedReady, Matched, StoredReady, Stored, Going, Gone, CopyReady, Stepped};
 use crate::find;
 use crate::put;

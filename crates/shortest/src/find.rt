@@ -1,14 +1,15 @@
 // Transitions, and moves of a pair, along which a number is reached exactly: its end's number is its start's number and its weight.
 // Each finder goes through the transitions that enter a state.
-ghost use Prim.Native.Nat.{ℕ, _+_, _<_};
+ghost use Prim.Native.Nat.{_+_, _<_};
 ghost use mathlib.Core.Path.{_≡_};
-ghost use mathlib.Core.Bool.{Bool, true};
+ghost use mathlib.Core.Bool.{true};
 ghost use lib.Dec.{eqb};
 ghost use Rattle.fsbm.specs.Machine.{wellFormed, transitionAt};
-ghost use Rattle.pieces.specs.Pairs.{weigh, halves, unit};
+ghost use Rattle.pieces.specs.Pairs.{weigh};
 ghost use Rattle.pieces.specs.Blocks.{costOf, cell};
 ghost use Rattle.shortest.specs.Into.{Into};
 ghost use Rattle.shortest.specs.Find.{Finds, Tried, normalTest, NormalFits, storeTest, StoreFits, matchTest, MatchFits, LetterStep, LetterFits, Backs};
+use blocks::gather;
 use fsbm::machine;
 use fsbm::machine::Machine;
 
@@ -19,12 +20,6 @@ pub const PAIR: u64 = 8589934594;
 pub struct Halves {
     pub storing: usize,
     pub matching: usize,
-}
-
-fn wide(x: u16) -> usize
-    ensures { λ r. ⌜ r ≡ x ⌝ }
-{
-    x as usize
 }
 
 // The weight of a move by a letter, or by epsilon.
@@ -135,12 +130,12 @@ pub fn find_normal(m: Machine, list: &[u16], links: &[u16; 4064], d: &[u64; 64],
     ensures { λ r. ⌜ Finds (m .transitions) (NormalFits m (now (list .entry)) (now (d .entry)) q) r ⌝ }
 {
     let want = cost(d, q);
-    let mut k = wide(links[q]);
+    let mut k = gather::wide(links[q]);
     while k < m.transitions {
         if normal_fits(&m.marks, list, d, want, k) {
             return k;
         }
-        k = wide(links[64 + k]);
+        k = gather::wide(links[64 + k]);
     }
     k
 }
@@ -158,12 +153,12 @@ fn find_store(
     requires { ⌜ (wellFormed m (now list) ≡ true) × Into m (now list) (now links) × (s < 64) × (t < 64) ⌝ }
     ensures { λ r. ⌜ Finds (m .transitions) (StoreFits m (now (list .entry)) (now (b .entry)) s t want) r ⌝ }
 {
-    let mut k = wide(links[s]);
+    let mut k = gather::wide(links[s]);
     while k < m.transitions {
         if store_fits(&m.marks, list, b, t, want, k) {
             return k;
         }
-        k = wide(links[64 + k]);
+        k = gather::wide(links[64 + k]);
     }
     k
 }
@@ -183,12 +178,12 @@ fn find_match(
     requires { ⌜ (wellFormed m (now list) ≡ true) × Into m (now list) (now links) × (s < 64) × (t < 64) ⌝ }
     ensures { λ r. ⌜ Finds (m .transitions) (MatchFits m (now (list .entry)) (now (b .entry)) s t x w want) r ⌝ }
 {
-    let mut k = wide(links[t]);
+    let mut k = gather::wide(links[t]);
     while k < m.transitions {
         if match_fits(&m.marks, list, b, s, x, w, want, k) {
             return k;
         }
-        k = wide(links[64 + k]);
+        k = gather::wide(links[64 + k]);
     }
     k
 }
@@ -237,12 +232,12 @@ fn find_letter(
     requires { ⌜ (wellFormed m (now list) ≡ true) × Into m (now list) (now links) × (s < 64) × (t < 64) ⌝ }
     ensures { λ r. ⌜ Finds (m .transitions) (LetterFits m (now (list .entry)) (now (b .entry)) s t want) r ⌝ }
 {
-    let mut k = wide(links[s]);
+    let mut k = gather::wide(links[s]);
     while k < m.transitions {
         if letter_fits(m, list, links, b, t, want, k) {
             return k;
         }
-        k = wide(links[64 + k]);
+        k = gather::wide(links[64 + k]);
     }
     k
 }

@@ -1,6 +1,5 @@
 // Entries and letters put in front of what a run and a word have already.
-ghost use Prim.Native.Nat.{ℕ, _+_, _≤_, _<_};
-ghost use mathlib.Core.Path.{_≡_};
+ghost use Prim.Native.Nat.{_+_, _≤_, _<_};
 ghost use lib.ListN.{length};
 ghost use Rattle.shortest.specs.Put.{PutReady, Put, Again, Unloaded};
 use fsbm::machine;

@@ -1,11 +1,8 @@
 // Writes a shortest word and its run from the least weights, from the end: a move or a copy along which the number of the state is
 // reached, again and again, until an initial state.
-ghost use Prim.Native.Nat.{ℕ, _+_, _≤_, _<_};
-ghost use mathlib.Core.Path.{_≡_};
-ghost use mathlib.Core.Bool.{Bool, true};
+ghost use Prim.Native.Nat.{_+_, _<_};
 ghost use lib.ListN.{length};
 ghost use Rattle.shortest.specs.Put.{PutReady};
-ghost use Rattle.shortest.specs.Copy.{Stepped};
 ghost use Rattle.shortest.specs.Write.{Read, Searching, TriedGuess, CopyThere, Guessed, StepReady, StepDone, WriteReady, Aim, Shortest};
 use crate::copy;
 use crate::copy::Place;
@@ -30,22 +27,23 @@ fn read(list: &[u16], k: usize, word: &mut [u8], i: usize, run: &mut [u16], r: u
 }
 
 // Computes the block of the guess h; whether the number of q is reached along a copy with this guess. starts has the buffering states,
-// ends the matching states.
+// ends the matching states, middles those of them in which storing can end.
 fn try_guess(
     m: Machine,
     list: &[u16],
     index: &[u16; 16065],
     starts: u64,
     ends: u64,
+    middles: u64,
     d: &[u64; 64],
     b: &mut [u64; 4096],
     q: usize,
     h: usize,
 ) -> bool
-    requires { ⌜ Searching m (now list) (now index) starts ends (now d) (now b) q × (h < 64) ⌝ }
-    ensures { λ r. ⌜ TriedGuess m (now (list .entry)) (now (index .entry)) starts ends (now (d .entry)) (now (b .exit)) q h r ⌝ }
+    requires { ⌜ Searching m (now list) (now index) starts ends middles (now d) (now b) q × (h < 64) ⌝ }
+    ensures { λ r. ⌜ TriedGuess m (now (list .entry)) (now (index .entry)) starts ends middles (now (d .entry)) (now (b .exit)) q h r ⌝ }
 {
-    if !stateset::member(ends, h) {
+    if !stateset::member(middles, h) {
         return false;
     }
     block::block(m, list, index, starts, ends, h, starts, d, b);
@@ -59,29 +57,24 @@ fn guess(
     index: &[u16; 16065],
     starts: u64,
     ends: u64,
+    middles: u64,
     d: &[u64; 64],
     b: &mut [u64; 4096],
     q: usize,
     first: usize,
 ) -> usize
-    requires { ⌜ Searching m (now list) (now index) starts ends (now d) (now b) q × CopyThere m (now list) (now d) q × (first < 256) ⌝ }
-    ensures { λ h. ⌜ Guessed m (now (list .entry)) (now (index .entry)) starts ends (now (d .entry)) (now (b .exit)) q h ⌝ }
+    requires { ⌜ Searching m (now list) (now index) starts ends middles (now d) (now b) q × CopyThere m (now list) (now d) q × (first < 256) ⌝ }
+    ensures { λ h. ⌜ Guessed m (now (list .entry)) (now (index .entry)) starts ends middles (now (d .entry)) (now (b .exit)) q h ⌝ }
 {
     let mut k: usize = 0;
     while k < 64 {
         let h = (first + k) % 64;
-        if try_guess(m, list, index, starts, ends, d, b, q, h) {
+        if try_guess(m, list, index, starts, ends, middles, d, b, q, h) {
             return h;
         }
         k += 1;
     }
     0
-}
-
-fn wide(x: u8) -> usize
-    ensures { λ r. ⌜ (r ≡ x) × (r < 256) ⌝ }
-{
-    x as usize
 }
 
 // Writes the last piece of a run that ends in q before place i of the word and place r of the run, and says where it begins. hints has for
@@ -93,6 +86,7 @@ fn step(
     index: &[u16; 16065],
     starts: u64,
     ends: u64,
+    middles: u64,
     d: &[u64; 64],
     hints: &[u8; 64],
     b: &mut [u64; 4096],
@@ -103,19 +97,30 @@ fn step(
     r: usize,
     later: &mut [u16; 4096],
 ) -> Place
-    requires { ⌜ StepReady m (now list) (now links) (now index) starts ends (now d) (now b) q (now word) i (now run) r (now later) ⌝ }
-    ensures { λ p. ⌜ StepDone m (now (list .entry)) (now (index .entry)) starts ends (now (d .entry)) (now (b .exit)) q (now (word .entry)) i (now (run .entry)) r (now (word .exit)) (now (run .exit)) (now (later .exit)) p ⌝ }
+    requires { ⌜ StepReady m (now list) (now links) (now index) starts ends middles (now d) (now b) q (now word) i (now run) r (now later) ⌝ }
+    ensures { λ p. ⌜ StepDone m (now (list .entry)) (now (index .entry)) starts ends middles (now (d .entry)) (now (b .exit)) q (now (word .entry)) i (now (run .entry)) r (now (word .exit)) (now (run .exit)) (now (later .exit)) p ⌝ }
 {
     let k = find::find_normal(m, list, links, d, q);
     if k < m.transitions {
         return read(list, k, word, i, run, r);
     }
-    let h = guess(m, list, index, starts, ends, d, b, q, wide(hints[q]));
+    let h = guess(
+        m,
+        list,
+        index,
+        starts,
+        ends,
+        middles,
+        d,
+        b,
+        q,
+        images::wide(hints[q]),
+    );
     copy::copy(m, list, links, d, b, h, q, word, i, run, r, later)
 }
 
 // Writes a shortest word that leads from an initial state to f, and its run: the word fills its slice, and the run, with its start, its
-// own. links, index, starts and ends are those of the machine, d has its least weights; b and later are room to work in.
+// own. links, index, starts, ends and middles are those of the machine, d has its least weights; b and later are room to work in.
 // Time: for each entry the transitions into a state; for each copy a block for each guess that is tried, and for each move of its pair
 // the transitions into two states.
 pub fn write(
@@ -125,6 +130,7 @@ pub fn write(
     index: &[u16; 16065],
     starts: u64,
     ends: u64,
+    middles: u64,
     d: &[u64; 64],
     hints: &[u8; 64],
     b: &mut [u64; 4096],
@@ -133,7 +139,7 @@ pub fn write(
     run: &mut [u16],
     later: &mut [u16; 4096],
 )
-    requires { ⌜ WriteReady m (now list) (now links) (now index) starts ends (now d) (now b) f (now later) × Aim m (now list) (now d) f (length (now word)) (length (now run)) ⌝ }
+    requires { ⌜ WriteReady m (now list) (now links) (now index) starts ends middles (now d) (now b) f (now later) × Aim m (now list) (now d) f (length (now word)) (length (now run)) ⌝ }
     ensures { λ u. ⌜ Shortest m (now (list .entry)) f (now (word .exit)) (now (run .exit)) ⌝ }
 {
     let mut p = Place {
@@ -149,6 +155,7 @@ pub fn write(
             index,
             starts,
             ends,
+            middles,
             d,
             hints,
             b,

@@ -1,5 +1,4 @@
 // Transition numbers are found by looking a triple up in the rising list.
-ghost use Prim.Native.Nat.{ℕ};
 ghost use mathlib.Core.Path.{_≡_};
 ghost use mathlib.Core.Bool.{true};
 ghost use Rattle.fsbm.specs.Machine.{transitionAt, wellFormed};

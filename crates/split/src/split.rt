@@ -1,5 +1,5 @@
 // From the run of a product to the runs of its machines. Transition numbers are looked up by what the transition is.
-ghost use Prim.Native.Nat.{ℕ, _≤_, _<_};
+ghost use Prim.Native.Nat.{_<_};
 ghost use Rattle.split.specs.Split.{FirstReady, FirstPart, SecondReady, SecondPart, Joined, Split};
 use crate::lookup;
 use fsbm::machine;

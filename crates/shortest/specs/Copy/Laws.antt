@@ -1,18 +1,18 @@
 -- The laws of specs/Copy.antt: the loop that walks the two halves of a copy back.
 --
 -- After ..                == the pair before (s, t) on the way, with what is written from there on
--- walk-start, walk-states, matched-ready, stored-ready, walk-turn, walk-falls, walk-end == the loop of walk_back
-use Prim.Native.Nat.{ℕ, zero, suc, _+_, _*_, _-_, _≤_, _<_}
+-- walk-start, walk-states, matched-ready, kept-below, stored-ready, walk-turn, walk-end == the loop of walk_back
+use Prim.Native.Nat.{ℕ, suc, _+_, _*_, _-_, _≤_, _<_}
 use mathlib.Core.Path.{_≡_, refl, sym, ap, _∙_, subst}
 use mathlib.Core.Logic.{_⊎_, inl, inr}
-use mathlib.Core.Bool.{Bool, true, false, _&&_}
+use mathlib.Core.Bool.{true, false, _&&_}
 use mathlib.Core.List.{List, [], _∷_, _++_, append-assoc, List·Memᴰ, List·Memᴰ·cases-cons, List·Memᴰ·not-nil}
 use native.Mathlib.Omega.{arith}
 use native.Mathlib.Decide.{decLt}
 use lib.ListN.{length, getD, set, drop, length-set, length-append}
 use lib.Dec.{eqb}
 use borrow.Author.Tests.{eq-eqb, eqb-true}
-use Rattle.graphs.specs.Search.{AllBelow, none, more}
+use Rattle.graphs.specs.Search.{none, more}
 use Rattle.graphs.specs.Search.Laws.{and-true, and-both-true, not-both}
 use Rattle.graphs.specs.Counting.{Distinct, empty, new, counting}
 use Rattle.fsbm.specs.Machine.{transitionAt, buffering, matching}
@@ -20,9 +20,9 @@ use Rattle.fsbm.specs.Published.{fsbmOf, symbol}
 use Rattle.fsbm.specs.declared.machine.Machine.{Machine}
 use Rattle.stateset.specs.Set.{In}
 use Rattle.product.specs.Tables.{TableRules, table}
-use Rattle.pieces.specs.Pairs.{halves, unit, Pair, both, PairMove}
+use Rattle.pieces.specs.Pairs.{Pair, both, PairMove}
 use Rattle.pieces.specs.Pairs.Laws.{pairWeight}
-use Rattle.pieces.specs.Blocks.{nothing, costOf, cell, blockOf, inside}
+use Rattle.pieces.specs.Blocks.{nothing, costOf, cell, blockOf}
 use Rattle.pieces.specs.Blocks.Laws.{cell-inside, cell-past, block-back}
 use Rattle.pieces.specs.Written.{Takes, StoresBy, stored, store, MatchesBy, matched, match}
 use Rattle.pieces.specs.Written.Laws.{stores-counted, matches-counted}

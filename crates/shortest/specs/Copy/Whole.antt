@@ -4,27 +4,27 @@
 -- copy-room, copy-going     == a copy fits; walk_back may begin
 -- Finished, copy-finished   == where everything goes after walk_back
 -- copy-done                 == what copy ensures
-use Prim.Native.Nat.{ℕ, zero, suc, _+_, _*_, _-_, _≤_, _<_}
-use mathlib.Core.Path.{_≡_, refl, sym, ap, _∙_, subst}
+use Prim.Native.Nat.{ℕ, suc, _+_, _-_, _≤_, _<_}
+use mathlib.Core.Path.{_≡_, sym, ap, _∙_, subst}
 use mathlib.Core.List.{List, [], _∷_, _++_, append-assoc, append-nil}
 use native.Mathlib.Omega.{arith}
-use lib.ListN.{length, getD, set, take, drop, length-set, length-append}
+use lib.ListN.{length, set, take, drop, length-set, length-append}
 use lib.Seq.{take-at}
-use Rattle.fsbm.specs.Machine.{buffering, matching}
+use Rattle.fsbm.specs.Machine.{matching}
 use Rattle.fsbm.specs.Moves.{beginBuffering, beginEmptying, backToNormal}
-use Rattle.fsbm.specs.Published.{FSBM, fsbmOf, symbol}
+use Rattle.fsbm.specs.Published.{FSBM, symbol}
 use Rattle.fsbm.specs.declared.machine.Machine.{Machine}
-use Rattle.pieces.specs.Pieces.{Stores, stored, store, Matches, matched, match, Leads, ended, copy}
-use Rattle.pieces.specs.Pairs.{halves, unit, Pair, both}
-use Rattle.pieces.specs.Pairs.Laws.{pairWeight, apart}
-use Rattle.pieces.specs.Blocks.{nothing, costOf, cell, blockOf}
+use Rattle.pieces.specs.Pieces.{Stores, stored, store, Matches, matched, match, ended, copy}
+use Rattle.pieces.specs.Pairs.{both}
+use Rattle.pieces.specs.Pairs.Laws.{apart}
+use Rattle.pieces.specs.Blocks.{cell, blockOf}
 use Rattle.pieces.specs.Blocks.Laws.{block-realised}
-use Rattle.pieces.specs.Written.{StoresBy, MatchesBy, LeadsBy}
+use Rattle.pieces.specs.Written.{MatchesBy}
 use Rattle.pieces.specs.Written as by
 use Rattle.pieces.specs.Written.Laws.{stores-counted, matches-counted}
-use Rattle.shortest.specs.Put.{Again, laterList, Unloaded}
+use Rattle.shortest.specs.Put.{Again, Unloaded}
 use Rattle.shortest.specs.Put.Laws.{drop-set, later-size}
-use Rattle.shortest.specs.Copy.{Room, Walking, Going, Gone, Fits, CopyReady, Stepped}
+use Rattle.shortest.specs.Copy.{Room, Walking, Going, Gone, CopyReady, Stepped}
 use Rattle.shortest.specs.Copy.Laws.{kept-below}
 use Rattle.shortest.specs.declared.copy.Place.{Place}
 use Rattle.shortest.specs.declared.copy.Walk.{Walk}

@@ -1,9 +1,9 @@
 -- The laws of specs/Find.antt: the loop of a finder, over any test.
 --
 -- Finding n list z Q k   == no transition into z before k has Q, and k is one of those into z, or past the last
--- finding-start, finding-next, finding-falls, finding-found, finding-none == the loop
-use Prim.Native.Nat.{ℕ, suc, _+_, _-_, _≤_, _<_}
-use mathlib.Core.Path.{_≡_, refl, sym, ap, _∙_, subst}
+-- finding-start, finding-next, finding-found, finding-none == the loop
+use Prim.Native.Nat.{ℕ, _+_, _≤_, _<_}
+use mathlib.Core.Path.{_≡_, subst}
 use mathlib.Core.List.{List}
 use native.Mathlib.Omega.{arith}
 use native.Mathlib.Decide.{decLt, ℕ-discrete}

@@ -3,21 +3,21 @@
 -- store-says, match-says, normal-says == a test that is true
 -- store-true, match-true, letter-true, normal-true == a listed transition for which a test is true
 -- back-there              == a move of a pair along which its number is reached is one that `back` looks for
-use Prim.Native.Nat.{ℕ, zero, suc, _+_, _*_, _≤_, _<_}
+use Prim.Native.Nat.{ℕ, suc, _+_, _<_}
 use mathlib.Core.Path.{_≡_, refl, sym, ap, _∙_, subst}
 use mathlib.Core.Bool.{Bool, true, false, not, _&&_}
 use mathlib.Core.List.{List}
 use native.Mathlib.Omega.{arith}
 use lib.Dec.{eqb}
 use borrow.Author.Tests.{eq-eqb, eqb-true}
-use Rattle.graphs.specs.Search.Laws.{and-true, and-both-true, not-both, true-or-false}
+use Rattle.graphs.specs.Search.Laws.{and-true, and-both-true}
 use Rattle.graphs.specs.Bools.{not-says, says-not, not-and-says, says-not-and}
-use Rattle.fsbm.specs.Machine.{transitionAt, buffering, matching, bothMatching}
+use Rattle.fsbm.specs.Machine.{transitionAt, buffering, matching}
 use Rattle.fsbm.specs.Published.{fsbmOf, Listed}
 use Rattle.fsbm.specs.declared.machine.Machine.{Machine}
 use Rattle.pieces.specs.Pairs.{weigh, Pair, both, PairMove, stores-none, matches-none, letter}
 use Rattle.pieces.specs.Blocks.{costOf, cell}
-use Rattle.shortest.specs.Find.{pairUnit, normalTest, NormalFits, storeTest, StoreFits, matchTest, MatchFits, Storing, LetterStep, LetterFits}
+use Rattle.shortest.specs.Find.{pairUnit, normalTest, storeTest, StoreFits, matchTest, MatchFits, Storing, LetterFits}
 
 false-not : (b : Bool) → not b ≡ true → b ≡ false
 false-not true h = absurd (not-says true h refl)

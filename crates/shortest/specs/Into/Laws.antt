@@ -2,8 +2,8 @@
 --
 -- into-start      == where every link says that there is none, the lists have no transition
 -- into-turn       == one transition more
-use Prim.Native.Nat.{ℕ, suc, _+_, _-_, _≤_, _<_}
-use mathlib.Core.Path.{_≡_, refl, sym, ap, _∙_, subst}
+use Prim.Native.Nat.{ℕ, suc, _+_, _≤_, _<_}
+use mathlib.Core.Path.{_≡_, sym, _∙_, subst}
 use mathlib.Core.List.{List}
 use native.Mathlib.Omega.{arith}
 use native.Mathlib.Decide.{ℕ-discrete}
@@ -14,7 +14,7 @@ use Rattle.fsbm.specs.declared.machine.Machine.{Machine}
 use Rattle.layers.specs.Ways.{Next}
 use Rattle.layers.specs.Ways.Laws.{next-here, next-back, next-none}
 use Rattle.product.specs.Tables.{TableRules}
-use Rattle.shortest.specs.Into.{Enters, IntoFrom, Into}
+use Rattle.shortest.specs.Into.{Enters, IntoFrom}
 
 module _ (m : Machine) (list : List ℕ) (t : TableRules m list) where
   pub into-start : IntoFrom (m .transitions) list (m .transitions) (replicate {A = ℕ} 4064 65535)

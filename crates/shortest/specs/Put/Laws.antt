@@ -3,17 +3,16 @@
 -- drop-set               == the list from a place on, once something is stored at it
 -- some-symbol            == a letter, as a string
 -- put-epsilon, put-letter == the two ways through put
--- later-set, later-size  == the numbers of later, with one more stored behind them; how many they are
+-- later-set, later-more, later-size == the numbers of later, with one more stored behind them; how many they are
 -- Repeating, repeat-start, repeat-turn, repeat-end == the loop of again
 -- Unloading, unload-start, unload-turn, unload-end == the loop of unload
 use Prim.Native.Nat.{ℕ, zero, suc, _+_, _-_, _≤_, _<_}
 use mathlib.Core.Path.{_≡_, refl, sym, ap, _∙_, subst}
 use mathlib.Core.List.{List, [], _∷_, _++_}
 use native.Mathlib.Omega.{arith}
-use native.Mathlib.Decide.{ℕ-discrete}
 use native.Mathlib.Numerals.{add-one}
-use lib.ListN.{length, getD, set, take, drop, length-set, length-take, length-drop, drop-of-length-le}
-use lib.Seq.{drop-cons, drop-set-lt, getD-set-same, getD-set-other, getD-drop, getD-take, length-take-le, drop-length}
+use lib.ListN.{length, getD, set, take, drop, length-set, length-drop, drop-of-length-le}
+use lib.Seq.{drop-cons, drop-set-lt, getD-set-same, getD-set-other, getD-drop, getD-take, length-take-le}
 use Rattle.fsbm.specs.Machine.{transitionAt}
 use Rattle.fsbm.specs.Published.{symbol}
 use Rattle.fsbm.specs.declared.machine.Transition.{Transition}

@@ -8,41 +8,39 @@
 -- guess-start, guess-next, guess-found, guess-end == the loop of guess
 -- copy-ready, step-ready  == copy may begin, step may
 -- write-start, write-fits, write-turn, write-end == the loop of write
-use Prim.Native.Nat.{ℕ, zero, suc, _+_, _*_, _-_, _≤_, _<_, _%_}
+use Prim.Native.Nat.{ℕ, suc, _+_, _*_, _-_, _≤_, _<_, _/_, _%_}
 use mathlib.Core.Path.{_≡_, refl, sym, ap, _∙_, subst, subst₂}
 use mathlib.Core.Logic.{_⊎_, inl, inr}
-use mathlib.Core.Bool.{Bool, true, false, false≢true, true≢false}
+use mathlib.Core.Bool.{Bool, true, false, false≢true}
 use mathlib.Core.List.{List, [], _∷_, _++_, append-assoc, append-nil}
 use native.Mathlib.Omega.{arith}
 use native.Mathlib.Decide.{decLt, ℕ-discrete}
-use lib.ListN.{length, getD, set, drop, length-set, length-append, length-drop}
+use lib.ListN.{length, set, drop, length-append, length-drop}
 use lib.Seq.{drop-length, drop-set-lt, getD-set-same}
 use lib.Dec.{eqb}
 use borrow.Author.Tests.{eqb-true, eq-eqb}
 use Rattle.graphs.specs.Search.Laws.{not-both}
 use Rattle.stateset.specs.Set.{In}
-use Rattle.fsbm.specs.Machine.{transitionAt, buffering, matching}
+use Rattle.fsbm.specs.Machine.{transitionAt, matching}
 use Rattle.fsbm.specs.Moves.{beginBuffering, beginEmptying, backToNormal}
 use Rattle.fsbm.specs.Published.{fsbmOf, symbol}
 use Rattle.fsbm.specs.Rules.{rules, matching-below}
 use Rattle.fsbm.specs.declared.machine.Machine.{Machine}
-use Rattle.product.specs.Tables.{TableRules, table}
-use Rattle.pieces.specs.Pieces as pieces
+use Rattle.product.specs.Tables.{TableRules}
 use Rattle.pieces.specs.Pieces.{Leads}
 use Rattle.pieces.specs.Pieces.Laws.{leads-append}
-use Rattle.pieces.specs.Pairs.{unit, weigh, both}
+use Rattle.pieces.specs.Pairs.{unit}
 use Rattle.pieces.specs.Pairs.Laws.{weigh-symbol}
-use Rattle.pieces.specs.Blocks.{nothing, costOf, cell, blockOf, inside}
+use Rattle.pieces.specs.Blocks.{nothing, costOf, cell, blockOf}
 use Rattle.pieces.specs.Blocks.Laws.{cost-past}
-use Rattle.pieces.specs.Tight.{TightMove, TightCopy, settled-back, settled-start, settled-leads, block-tight}
+use Rattle.pieces.specs.Tight.{TightMove, TightCopy, settled-back, settled-start, settled-leads, block-tight, kinds-apart}
+use Rattle.pieces.specs.Rounds.Laws.{stores-enters}
 use Rattle.pieces.specs.Written.{Takes, LeadsBy, ended, read, copy}
-use Rattle.pieces.specs.Written.Laws.{leads-counted, takes-listed}
-use Rattle.blocks.specs.Works.{Ready, Kind}
+use Rattle.pieces.specs.Written.Laws.{leads-counted}
 use Rattle.blocks.specs.Settling.{Past, Block}
-use Rattle.shortest.specs.Into.{Into}
 use Rattle.shortest.specs.Find.{Finds, NormalFits}
 use Rattle.shortest.specs.Find.Tests.{normal-says, normal-true}
-use Rattle.shortest.specs.Put.{PutReady, Put}
+use Rattle.shortest.specs.Put.{PutReady}
 use Rattle.shortest.specs.Put.Laws.{some-symbol}
 use Rattle.shortest.specs.Copy.{Fits, CopyReady, Stepped}
 use Rattle.shortest.specs.Write.{Read, Least, Searching, CopyThere, TriedGuess, Guessed, Guessing, StepReady, WriteReady, Aim, Writing, Shortest}
@@ -138,28 +136,30 @@ copy-there m list d q k s positive low f past = at (settled-back s q positive lo
 
 -- The guesses
 
-module _ (m : Machine) (list index : List ℕ) (starts ends : ℕ) (d : List ℕ) (q : ℕ) where
+module _ (m : Machine) (list index : List ℕ) (starts ends middles : ℕ) (d : List ℕ) (q : ℕ) where
   -- a block keeps what the search asks
-  block-searching : (b b′ : List ℕ) (h : ℕ) → Searching m list index starts ends d b q → Block m list h starts d b′ → Searching m list index starts ends d b′ q
-  block-searching b b′ h s k = record { ready = s .ready; buffers = s .buffers; settled = s .settled; size = k .size; past = k .past; low = s .low }
+  block-searching : (b b′ : List ℕ) (h : ℕ) → Searching m list index starts ends middles d b q → Block m list h starts d b′ → Searching m list index starts ends middles d b′ q
+  block-searching b b′ h s k = record { ready = s .ready; buffers = s .buffers; turnings = s .turnings; settled = s .settled; size = k .size; past = k .past; low = s .low }
 
-  pub tried-not : (b : List ℕ) (h : ℕ) → Searching m list index starts ends d b q → (In ends h → ⊥) → TriedGuess m list index starts ends d b q h false
+  pub tried-not : (b : List ℕ) (h : ℕ) → Searching m list index starts ends middles d b q → (In middles h → ⊥) → TriedGuess m list index starts ends middles d b q h false
   tried-not b h s out =
       record {
         searching = s;
         turns = λ e. absurd (false≢true e);
         block = λ e. absurd (false≢true e);
         tight = λ e. absurd (false≢true e);
-        bad = λ e t is. out (s .ready .matches h .1 (subst (λ (o : ℕ). matching (m .marks) o ≡ true) is (t .turns)));
+        bad = λ e t is.
+            let (p, a, δ, other) = stores-enters (kinds-apart m list (rules m list (s .ready .good))) (t .buffers) (t .turns) (t .route) in
+            out (subst (λ (o : ℕ). In middles o) is (s .turnings .all p a (t .middle) δ (t .turns) other));
       }
 
-  pub tried-block : (b b′ : List ℕ) (h : ℕ) (r : Bool) → Searching m list index starts ends d b q → In ends h → Block m list h starts d b′ → r ≡ eqb (cell b′ h q + 2) (costOf d q)
-      → TriedGuess m list index starts ends d b′ q h r
+  pub tried-block : (b b′ : List ℕ) (h : ℕ) (r : Bool) → Searching m list index starts ends middles d b q → In middles h → Block m list h starts d b′ → r ≡ eqb (cell b′ h q + 2) (costOf d q)
+      → TriedGuess m list index starts ends middles d b′ q h r
   unfolding blockOf
   tried-block b b′ h r s there k is =
       record {
         searching = block-searching b b′ h s k;
-        turns = λ e. s .ready .matches h .0 there;
+        turns = λ e. s .turnings .only h there;
         block = λ e. k;
         tight = λ e. eqb-true (cell b′ h q + 2) (costOf d q) (sym is ∙ e);
         bad = λ e t middle.
@@ -168,25 +168,25 @@ module _ (m : Machine) (list index : List ℕ) (starts ends : ℕ) (d : List ℕ
       }
 
   module _ (first : ℕ) where
-    pub guess-start : (b : List ℕ) → Searching m list index starts ends d b q → Guessing m list index starts ends d b q first 0
+    pub guess-start : (b : List ℕ) → Searching m list index starts ends middles d b q → Guessing m list index starts ends middles d b q first 0
     guess-start b s = record { searching = s; tried = λ j l. absurd (omega arith) }
 
-    pub guess-next : (b b′ : List ℕ) (k : ℕ) (r : Bool) → Guessing m list index starts ends d b q first k → TriedGuess m list index starts ends d b′ q ((first + k) % 64) r → r ≡ false
-        → Guessing m list index starts ends d b′ q first (k + 1)
+    pub guess-next : (b b′ : List ℕ) (k : ℕ) (r : Bool) → Guessing m list index starts ends middles d b q first k → TriedGuess m list index starts ends middles d b′ q ((first + k) % 64) r → r ≡ false
+        → Guessing m list index starts ends middles d b′ q first (k + 1)
     guess-next b b′ k r g t e = record { searching = t .searching; tried = λ j l x is. at j l x is (ℕ-discrete j k) }
       where
         at : (j : ℕ) → j < k + 1 → (x : CopyThere m list d q) → x .middle ≡ (first + j) % 64 → Dec (j ≡ k) → ⊥
         at j l x is (yes same) = t .bad e x (is ∙ ap (λ (o : ℕ). (first + o) % 64) same)
         at j l x is (no other) = g .tried j (omega arith) x is
 
-    pub guess-found : (b′ : List ℕ) (h : ℕ) (r : Bool) → CopyThere m list d q → TriedGuess m list index starts ends d b′ q h r → r ≡ true → Guessed m list index starts ends d b′ q h
+    pub guess-found : (b′ : List ℕ) (h : ℕ) (r : Bool) → CopyThere m list d q → TriedGuess m list index starts ends middles d b′ q h r → r ≡ true → Guessed m list index starts ends middles d b′ q h
     guess-found b′ h r x t e = record { searching = t .searching; turns = t .turns e; ends-there = x .ends; block = t .block e; tight = t .tight e }
 
     -- each of the 64 guesses stands at some place of the round
     around : (h : ℕ) → h < 64 → h ≡ (first + (h + 64 - first % 64) % 64) % 64
     around h l = omega arith
 
-    pub guess-end : (b : List ℕ) (k : ℕ) → CopyThere m list d q → 64 ≤ k → Guessing m list index starts ends d b q first k → ⊥
+    pub guess-end : (b : List ℕ) (k : ℕ) → CopyThere m list d q → 64 ≤ k → Guessing m list index starts ends middles d b q first k → ⊥
     guess-end b k x past g =
         let r = rules m list (g .searching .ready .good) in
         let l = matching-below m list r (x .middle) (x .turns) in
@@ -195,9 +195,9 @@ module _ (m : Machine) (list index : List ℕ) (starts ends : ℕ) (d : List ℕ
         let j = (x .middle + 64 - first % 64) % 64 in
         g .tried j (omega arith) x (around (x .middle) below)
 
-pub copy-ready : (m : Machine) (list links index : List ℕ) (starts ends : ℕ) (d b b′ : List ℕ) (q : ℕ) (word : List ℕ) (i : ℕ) (run : List ℕ) (r : ℕ) (later : List ℕ) (h : ℕ)
-    → StepReady m list links index starts ends d b q word i run r later → Guessed m list index starts ends d b′ q h → CopyReady m list links d b′ h q word i run r later
-copy-ready m list links index starts ends d b b′ q word i run r later h s g =
+pub copy-ready : (m : Machine) (list links index : List ℕ) (starts ends middles : ℕ) (d b b′ : List ℕ) (q : ℕ) (word : List ℕ) (i : ℕ) (run : List ℕ) (r : ℕ) (later : List ℕ) (h : ℕ)
+    → StepReady m list links index starts ends middles d b q word i run r later → Guessed m list index starts ends middles d b′ q h → CopyReady m list links d b′ h q word i run r later
+copy-ready m list links index starts ends middles d b b′ q word i run r later h s g =
     record {
       good = s .searching .ready .good;
       into = s .into;
@@ -290,13 +290,13 @@ module _ (m : Machine) (list d : List ℕ) (f : ℕ) (word₀ run₀ : List ℕ)
 
 -- What a step asks, where the run is written from a place on
 
-pub step-ready : (m : Machine) (list links index : List ℕ) (starts ends : ℕ) (d b : List ℕ) (f : ℕ) (later : List ℕ) → WriteReady m list links index starts ends d b f later
+pub step-ready : (m : Machine) (list links index : List ℕ) (starts ends middles : ℕ) (d b : List ℕ) (f : ℕ) (later : List ℕ) → WriteReady m list links index starts ends middles d b f later
     → (word₀ run₀ : List ℕ) → Aim m list d f (length word₀) (length run₀) → (word run : List ℕ) (p : Place) → Writing m list d f word₀ run₀ word run p → 0 < costOf d (p .state)
     → (b′ later′ : List ℕ) → length b′ ≡ 4096 → Past m b′ → length later′ ≡ 4096
-    → StepReady m list links index starts ends d b′ (p .state) word (p .letter) run (p .entry) later′
-step-ready m list links index starts ends d b f later r word₀ run₀ a word run p w positive b′ later′ size past later-size =
+    → StepReady m list links index starts ends middles d b′ (p .state) word (p .letter) run (p .entry) later′
+step-ready m list links index starts ends middles d b f later r word₀ run₀ a word run p w positive b′ later′ size past later-size =
     record {
-      searching = record { ready = r .ready; buffers = r .buffers; settled = a .settled; size = size; past = past; low = write-low m list d f word₀ run₀ a word run p w };
+      searching = record { ready = r .ready; buffers = r .buffers; turnings = r .turnings; settled = a .settled; size = size; past = past; low = write-low m list d f word₀ run₀ a word run p w };
       into = r .into;
       positive = positive;
       fits = write-fits m list d f word₀ run₀ a word run p w;

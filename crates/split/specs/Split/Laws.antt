@@ -2,10 +2,11 @@
 --
 -- drop-set            == the list from a place on, once something is stored at it
 -- letters-cons, letters-drop == the letters of a run from a place on
+-- counts, counts-not  == an entry counts if it moves by a letter
 -- still-change, still-epsilon, is-letter == which entries move by a letter
 -- split-start, split-room, split-turn, split-end == the loop
 -- joined-apart        == what listed-split says of a transition of the product
-use Prim.Native.Nat.{ℕ, zero, suc, _+_, _*_, _-_, _/_, _%_, _≤_, _<_}
+use Prim.Native.Nat.{ℕ, zero, suc, _+_, _/_, _%_, _≤_, _<_}
 use mathlib.Core.Path.{_≡_, refl, sym, ap, _∙_, subst}
 use mathlib.Core.Logic.{_⊎_, inl, inr}
 use mathlib.Core.Bool.{Bool, true, false, cond, not, _&&_}
@@ -15,10 +16,10 @@ use native.Mathlib.Decide.{decLt, ℕ-discrete}
 use lib.ListN.{length, getD, set, drop, length-set}
 use lib.Seq.{drop-cons, drop-length, drop-set-lt, getD-set-same, getD-set-other, drop-nil}
 use lib.Dec.{ltb, eqb}
-use borrow.Author.Tests.{lt-ltb, le-ltb, eq-eqb, ne-eqb, ltb-true, eqb-true, eqb-false}
-use Rattle.graphs.specs.Search.Laws.{and-true, and-both-true, true-or-false, not-both}
-use Rattle.graphs.specs.Bools.{not-says, says-not}
-use Rattle.fsbm.specs.Machine.{transitionAt, wellFormed}
+use borrow.Author.Tests.{lt-ltb, le-ltb, eq-eqb, ne-eqb, ltb-true}
+use Rattle.graphs.specs.Search.Laws.{and-true, and-both-true, not-both}
+use Rattle.graphs.specs.Bools.{not-says}
+use Rattle.fsbm.specs.Machine.{transitionAt}
 use Rattle.fsbm.specs.Moves.{beginBuffering}
 use Rattle.fsbm.specs.Published.{Listed}
 use Rattle.fsbm.specs.declared.machine.Machine.{Machine}
@@ -27,17 +28,17 @@ use Rattle.common.specs.Split.{isLetter, lettersIn, Splits, nothing-left, chang
 use Rattle.product.specs.Common.{listed-split}
 use Rattle.product.specs.Product.{joinedTransitions, joinedCount, joinFault}
 use Rattle.product.specs.Tables.{Joinable, joinable}
-use Rattle.split.specs.Split.{FirstReady, FirstPart, SecondReady, SecondPart, Put, Kept, Joined, Split, Splitting}
+use Rattle.split.specs.Split.{FirstReady, FirstPart, SecondReady, SecondPart, Joined, Split, Splitting}
 
 pub drop-set : (l : List ℕ) (i a : ℕ) → i < length l → drop i (set l i a) ≡ a ∷ drop (suc i) l
 drop-set l i a h =
     drop-cons (set l i a) i 0 (let s = length-set l i a in omega arith)
     ∙ (ap (λ (z : ℕ). z ∷ drop (suc i) (set l i a)) (getD-set-same l i a 0 h) ∙ ap (λ (z : List ℕ). a ∷ z) (drop-set-lt (suc i) l i a (omega arith)))
 
-counts : {b : Bool} → b ≡ true → _≡_ {A = ℕ} (cond b 1 0) 1
+pub counts : {b : Bool} → b ≡ true → _≡_ {A = ℕ} (cond b 1 0) 1
 counts {b} h = rw h
 
-counts-not : {b : Bool} → b ≡ false → _≡_ {A = ℕ} (cond b 1 0) 0
+pub counts-not : {b : Bool} → b ≡ false → _≡_ {A = ℕ} (cond b 1 0) 0
 counts-not {b} h = rw h
 
 module _ (list : List ℕ) where

@@ -1,7 +1,6 @@
 use native.Mathlib.Omega.{arith}
-use mathlib.Core.Path.{_≡_, refl, sym, ap, _∙_}
 use Prim.Native.Nat.{_-_}
-use lib.ListN.{length, length-set}
+use lib.ListN.{length-set}
 use Rattle.shortest.specs.Copy.Whole.{copy-going, copy-first, copy-finished, copy-done}
 use borrow.Author.Needs.{needs}
 use Rattle.shortest.proofs.copy.copy.Statement.{statement}
@@ -50,7 +49,7 @@ sub-again c = let f = copy-finished _ _ _ _ _ _ _ _ _ _ _ _ ((c .before .before 
 
 -- src/copy.rt:141:5
 again-requires : tie.Need-again-requires
-again-requires c κs = let f = copy-finished _ _ _ _ _ _ _ _ _ _ _ _ ((c .before .before .before .before .before .before .before .before .before .before .before .before .before) .pre) _ _ _ _ ((c .before .before .before .before .before .before) .walk-back .ensures) in (omega (arith, f .letters, f .letters-room), f .word-fits)
+again-requires c κs = let f = copy-finished _ _ _ _ _ _ _ _ _ _ _ _ ((c .before .before .before .before .before .before .before .before .before .before .before .before .before) .pre) _ _ _ _ ((c .before .before .before .before .before .before) .walk-back .ensures) in (omega (arith, f .letters, f .letters-room), omega (arith, f .word-fits, f .letters-fit))
 
 -- src/copy.rt:142:5
 unload-requires : tie.Need-unload-requires

@@ -1,5 +1,5 @@
-use Prim.Native.Nat.{ℕ, _+_, _-_}
-use mathlib.Core.Path.{_≡_, refl, sym, ap, _∙_, subst}
+use Prim.Native.Nat.{ℕ, _-_}
+use mathlib.Core.Path.{sym, subst}
 use native.Mathlib.Omega.{arith}
 use borrow.Author.Needs.{needs}
 use Rattle.product.specs.Tables.{table}
@@ -10,7 +10,7 @@ use Rattle.shortest.proofs.find.find_letter.Tie as tie
 use Rattle.shortest.proofs.find.find_letter.Reads as reads
 use Rattle.shortest.proofs.find.find_letter.Lts as lts
 use Rattle.shortest.proofs.find.letter_fits.Reads as letter-fits-reads
-use Rattle.shortest.proofs.find.wide.Reads as wide-reads
+use Rattle.blocks.proofs.gather.wide.Reads as wide-reads
 
 abbrev Inv-loop : tie.InvT-loop
 Inv-loop m list links b s t want k₀ k = Finding (m .transitions) list s (λ j. LetterStep m list b t want j) k
@@ -32,7 +32,7 @@ wide-requires c κs = search needs
 
 -- src/find.rt:191:5
 loop-holds : tie.Need-loop-holds Inv-loop μ-loop
-loop-holds c = subst (λ (k : ℕ). Finding ((c .before .before .before) .args .m .transitions) ((c .before .before .before) .args .list .now) ((c .before .before .before) .args .s) (λ j. LetterStep ((c .before .before .before) .args .m) ((c .before .before .before) .args .list .now) ((c .before .before .before) .args .b .now) ((c .before .before .before) .args .t) ((c .before .before .before) .args .want) j) k) (sym ((c) .wide .ensures)) (finding-start _ _ _ _ _ ((c .before .before .before) .pre .1 .first ((c .before .before .before) .args .s) ((c .before .before .before) .pre .2)))
+loop-holds c = subst (λ (k : ℕ). Finding ((c .before .before .before) .args .m .transitions) ((c .before .before .before) .args .list .now) ((c .before .before .before) .args .s) (λ j. LetterStep ((c .before .before .before) .args .m) ((c .before .before .before) .args .list .now) ((c .before .before .before) .args .b .now) ((c .before .before .before) .args .t) ((c .before .before .before) .args .want) j) k) (sym ((c) .wide .ensures .0)) (finding-start _ _ _ _ _ ((c .before .before .before) .pre .1 .first ((c .before .before .before) .args .s) ((c .before .before .before) .pre .2)))
 
 -- src/find.rt:192:12
 letter-fits-requires : tie.Need-letter-fits-requires Inv-loop μ-loop
@@ -60,11 +60,11 @@ wide-requires-2 c κs = search needs
 
 -- src/find.rt:191:5
 loop-less : tie.Need-loop-less Inv-loop μ-loop
-loop-less c = omega (arith, (c) .wide2 .ensures, (c .before .before .before .before .before .before .before .before .before .before) .pre .1 .link ((c .before .before .before .before .before .before) .loop .k) (omega arith) ((c .before .before .before .before) .if1 .taken) .on, (c .before .before .before .before) .if1 .taken)
+loop-less c = omega (arith, (c) .wide2 .ensures .0, (c .before .before .before .before .before .before .before .before .before .before) .pre .1 .link ((c .before .before .before .before .before .before) .loop .k) (omega arith) ((c .before .before .before .before) .if1 .taken) .on, (c .before .before .before .before) .if1 .taken)
 
 -- src/find.rt:191:5
 loop-again : tie.Need-loop-again Inv-loop μ-loop
-loop-again c = subst (λ (k : ℕ). Finding ((c .before .before .before .before .before .before .before .before .before .before) .args .m .transitions) ((c .before .before .before .before .before .before .before .before .before .before) .args .list .now) ((c .before .before .before .before .before .before .before .before .before .before) .args .s) (λ j. LetterStep ((c .before .before .before .before .before .before .before .before .before .before) .args .m) ((c .before .before .before .before .before .before .before .before .before .before) .args .list .now) ((c .before .before .before .before .before .before .before .before .before .before) .args .b .now) ((c .before .before .before .before .before .before .before .before .before .before) .args .t) ((c .before .before .before .before .before .before .before .before .before .before) .args .want) j) k) (sym ((c) .wide2 .ensures)) (finding-next _ _ _ _ _ ((c .before .before .before .before .before .before) .loop .inv) _ ((c .before .before .before .before) .if1 .taken) ((c .before .before .before) .letter-fits .ensures .bad ((c .before .before) .if2 .left)) ((c .before .before .before .before .before .before .before .before .before .before) .pre .1 .link ((c .before .before .before .before .before .before) .loop .k) (omega arith) ((c .before .before .before .before) .if1 .taken)))
+loop-again c = subst (λ (k : ℕ). Finding ((c .before .before .before .before .before .before .before .before .before .before) .args .m .transitions) ((c .before .before .before .before .before .before .before .before .before .before) .args .list .now) ((c .before .before .before .before .before .before .before .before .before .before) .args .s) (λ j. LetterStep ((c .before .before .before .before .before .before .before .before .before .before) .args .m) ((c .before .before .before .before .before .before .before .before .before .before) .args .list .now) ((c .before .before .before .before .before .before .before .before .before .before) .args .b .now) ((c .before .before .before .before .before .before .before .before .before .before) .args .t) ((c .before .before .before .before .before .before .before .before .before .before) .args .want) j) k) (sym ((c) .wide2 .ensures .0)) (finding-next _ _ _ _ _ ((c .before .before .before .before .before .before) .loop .inv) _ ((c .before .before .before .before) .if1 .taken) ((c .before .before .before) .letter-fits .ensures .bad ((c .before .before) .if2 .left)) ((c .before .before .before .before .before .before .before .before .before .before) .pre .1 .link ((c .before .before .before .before .before .before) .loop .k) (omega arith) ((c .before .before .before .before) .if1 .taken)))
 
 -- src/find.rt:186:1
 returns-2 : tie.Need-returns-2 Inv-loop μ-loop

@@ -1,15 +1,12 @@
-use Prim.Native.Nat.{ℕ, _+_, _-_}
-use mathlib.Core.Path.{_≡_, refl, sym, ap, _∙_, subst}
-use mathlib.Core.Bool.{Bool, true}
+use Prim.Native.Nat.{ℕ, _-_}
+use mathlib.Core.Path.{_≡_, sym, ap, _∙_, subst}
+use mathlib.Core.Bool.{true}
 use native.Mathlib.Omega.{arith}
 use borrow.Author.Needs.{needs}
-use lib.ListN.{getD}
 use Rattle.graphs.specs.Search.Laws.{not-both}
-use Rattle.layers.specs.Ways.{Next}
 use Rattle.product.specs.Tables.{table}
 use Rattle.pieces.specs.Blocks.{costOf}
-use Rattle.shortest.specs.Into.{Enters}
-use Rattle.shortest.specs.Find.{normalTest, NormalFits}
+use Rattle.shortest.specs.Find.{normalTest}
 use Rattle.shortest.specs.Find.Laws.{Finding, finding-start, finding-next, finding-found, finding-none}
 use Rattle.shortest.proofs.find.find_normal.Statement.{statement}
 use Rattle.shortest.proofs.find.find_normal.Tie as tie
@@ -17,7 +14,7 @@ use Rattle.shortest.proofs.find.find_normal.Reads as reads
 use Rattle.shortest.proofs.find.find_normal.Lts as lts
 use Rattle.shortest.proofs.find.cost.Reads as cost-reads
 use Rattle.shortest.proofs.find.normal_fits.Reads as normal-fits-reads
-use Rattle.shortest.proofs.find.wide.Reads as wide-reads
+use Rattle.blocks.proofs.gather.wide.Reads as wide-reads
 
 abbrev Inv-loop : tie.InvT-loop
 Inv-loop list links d q m want k₀ k = Finding (m .transitions) list q (λ k. normalTest (m .marks) list d (costOf d q) k ≡ true) k × (want ≡ costOf d q)
@@ -43,7 +40,7 @@ wide-requires c κs = search needs
 
 -- src/find.rt:123:5
 loop-holds : tie.Need-loop-holds Inv-loop μ-loop
-loop-holds c = (subst (λ (k : ℕ). Finding ((c .before .before .before .before) .args .t1 .transitions) ((c .before .before .before .before) .args .list .now) ((c .before .before .before .before) .args .q) (λ j. normalTest ((c .before .before .before .before) .args .t1 .marks) ((c .before .before .before .before) .args .list .now) ((c .before .before .before .before) .args .d .now) (costOf ((c .before .before .before .before) .args .d .now) ((c .before .before .before .before) .args .q)) j ≡ true) k) (sym ((c) .wide .ensures)) (finding-start _ _ _ _ _ ((c .before .before .before .before) .pre .1 .first ((c .before .before .before .before) .args .q) ((c .before .before .before .before) .pre .2))), (c .before .before) .cost .ensures)
+loop-holds c = (subst (λ (k : ℕ). Finding ((c .before .before .before .before) .args .t1 .transitions) ((c .before .before .before .before) .args .list .now) ((c .before .before .before .before) .args .q) (λ j. normalTest ((c .before .before .before .before) .args .t1 .marks) ((c .before .before .before .before) .args .list .now) ((c .before .before .before .before) .args .d .now) (costOf ((c .before .before .before .before) .args .d .now) ((c .before .before .before .before) .args .q)) j ≡ true) k) (sym ((c) .wide .ensures .0)) (finding-start _ _ _ _ _ ((c .before .before .before .before) .pre .1 .first ((c .before .before .before .before) .args .q) ((c .before .before .before .before) .pre .2))), (c .before .before) .cost .ensures)
 
 -- src/find.rt:124:12
 normal-fits-requires : tie.Need-normal-fits-requires Inv-loop μ-loop
@@ -71,11 +68,11 @@ wide-requires-2 c κs = search needs
 
 -- src/find.rt:123:5
 loop-less : tie.Need-loop-less Inv-loop μ-loop
-loop-less c = omega (arith, (c) .wide2 .ensures, (c .before .before .before .before .before .before .before .before .before .before .before .before) .pre .1 .link ((c .before .before .before .before .before .before .before) .loop .k) (omega arith) ((c .before .before .before .before .before .before) .loop-test .taken) .on, (c .before .before .before .before .before .before) .loop-test .taken)
+loop-less c = omega (arith, (c) .wide2 .ensures .0, (c .before .before .before .before .before .before .before .before .before .before .before .before) .pre .1 .link ((c .before .before .before .before .before .before .before) .loop .k) (omega arith) ((c .before .before .before .before .before .before) .loop-test .taken) .on, (c .before .before .before .before .before .before) .loop-test .taken)
 
 -- src/find.rt:123:5
 loop-again : tie.Need-loop-again Inv-loop μ-loop
-loop-again c = (subst (λ (k : ℕ). Finding ((c .before .before .before .before .before .before .before .before .before .before .before .before) .args .t1 .transitions) ((c .before .before .before .before .before .before .before .before .before .before .before .before) .args .list .now) ((c .before .before .before .before .before .before .before .before .before .before .before .before) .args .q) (λ j. normalTest ((c .before .before .before .before .before .before .before .before .before .before .before .before) .args .t1 .marks) ((c .before .before .before .before .before .before .before .before .before .before .before .before) .args .list .now) ((c .before .before .before .before .before .before .before .before .before .before .before .before) .args .d .now) (costOf ((c .before .before .before .before .before .before .before .before .before .before .before .before) .args .d .now) ((c .before .before .before .before .before .before .before .before .before .before .before .before) .args .q)) j ≡ true) k) (sym ((c) .wide2 .ensures)) (finding-next _ _ _ _ _ ((c .before .before .before .before .before .before .before) .loop .inv .0) _ ((c .before .before .before .before .before .before) .loop-test .taken) (λ h. not-both ((c .before .before .before) .normal-fits .ensures ∙ (ap (λ (w : ℕ). normalTest ((c .before .before .before .before .before .before .before .before .before .before .before .before) .args .t1 .marks) ((c .before .before .before .before .before .before .before .before .before .before .before .before) .args .list .now) ((c .before .before .before .before .before .before .before .before .before .before .before .before) .args .d .now) w ((c .before .before .before .before .before .before .before) .loop .k)) ((c .before .before .before .before .before .before .before) .loop .inv .1) ∙ h)) ((c .before .before) .if1 .left)) ((c .before .before .before .before .before .before .before .before .before .before .before .before) .pre .1 .link ((c .before .before .before .before .before .before .before) .loop .k) (omega arith) ((c .before .before .before .before .before .before) .loop-test .taken))), (c .before .before .before .before .before .before .before) .loop .inv .1)
+loop-again c = (subst (λ (k : ℕ). Finding ((c .before .before .before .before .before .before .before .before .before .before .before .before) .args .t1 .transitions) ((c .before .before .before .before .before .before .before .before .before .before .before .before) .args .list .now) ((c .before .before .before .before .before .before .before .before .before .before .before .before) .args .q) (λ j. normalTest ((c .before .before .before .before .before .before .before .before .before .before .before .before) .args .t1 .marks) ((c .before .before .before .before .before .before .before .before .before .before .before .before) .args .list .now) ((c .before .before .before .before .before .before .before .before .before .before .before .before) .args .d .now) (costOf ((c .before .before .before .before .before .before .before .before .before .before .before .before) .args .d .now) ((c .before .before .before .before .before .before .before .before .before .before .before .before) .args .q)) j ≡ true) k) (sym ((c) .wide2 .ensures .0)) (finding-next _ _ _ _ _ ((c .before .before .before .before .before .before .before) .loop .inv .0) _ ((c .before .before .before .before .before .before) .loop-test .taken) (λ h. not-both ((c .before .before .before) .normal-fits .ensures ∙ (ap (λ (w : ℕ). normalTest ((c .before .before .before .before .before .before .before .before .before .before .before .before) .args .t1 .marks) ((c .before .before .before .before .before .before .before .before .before .before .before .before) .args .list .now) ((c .before .before .before .before .before .before .before .before .before .before .before .before) .args .d .now) w ((c .before .before .before .before .before .before .before) .loop .k)) ((c .before .before .before .before .before .before .before) .loop .inv .1) ∙ h)) ((c .before .before) .if1 .left)) ((c .before .before .before .before .before .before .before .before .before .before .before .before) .pre .1 .link ((c .before .before .before .before .before .before .before) .loop .k) (omega arith) ((c .before .before .before .before .before .before) .loop-test .taken))), (c .before .before .before .before .before .before .before) .loop .inv .1)
 
 -- src/find.rt:117:1
 returns-2 : tie.Need-returns-2 Inv-loop μ-loop

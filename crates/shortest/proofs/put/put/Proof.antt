@@ -1,4 +1,4 @@
-use mathlib.Core.Path.{_≡_, refl, sym, ap, _∙_, subst}
+use mathlib.Core.Path.{ap, _∙_}
 use native.Mathlib.Omega.{arith}
 use Rattle.fsbm.specs.declared.machine.Transition.{Transition}
 use Rattle.shortest.specs.Put.Laws.{put-epsilon, put-letter}

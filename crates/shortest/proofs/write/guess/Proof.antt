@@ -1,4 +1,4 @@
-use Prim.Native.Nat.{ℕ, _+_, _-_, _%_}
+use Prim.Native.Nat.{_-_}
 use native.Mathlib.Omega.{arith}
 use Rattle.shortest.specs.Write.{Guessing}
 use Rattle.shortest.specs.Write.Laws.{guess-start, guess-next, guess-found, guess-end}
@@ -9,14 +9,14 @@ use Rattle.shortest.proofs.write.guess.Lts as lts
 use Rattle.shortest.proofs.write.try_guess.Reads as try-guess-reads
 
 abbrev Inv-loop : tie.InvT-loop
-Inv-loop m list index starts ends d b₀ q first k₀ b k = Guessing m list index starts ends d b q first k
+Inv-loop m list index starts ends middles d b₀ q first k₀ b k = Guessing m list index starts ends middles d b q first k
 
 abbrev μ-loop : tie.MeasureT-loop
-μ-loop m list index starts ends d b₀ q first k₀ b k = 64 - k
+μ-loop m list index starts ends middles d b₀ q first k₀ b k = 64 - k
 
 -- src/write.rt:71:5
 loop-holds : tie.Need-loop-holds Inv-loop μ-loop
-loop-holds c = guess-start _ _ _ _ _ _ _ _ _ ((c .before) .pre .0)
+loop-holds c = guess-start _ _ _ _ _ _ _ _ _ _ ((c .before) .pre .0)
 
 -- src/write.rt:72:18
 add-h : tie.Need-add-h Inv-loop μ-loop
@@ -28,7 +28,7 @@ try-guess-requires c κs = ((c .before .before) .loop .inv .searching, omega ari
 
 -- src/write.rt:74:13
 returns : tie.Need-returns Inv-loop μ-loop
-returns c = guess-found _ _ _ _ _ _ _ ((c .before .before .before .before .before .before) .args .first) _ _ _ ((c .before .before .before .before .before .before) .pre .1) ((c .before) .try-guess .ensures) ((c) .if1 .taken)
+returns c = guess-found _ _ _ _ _ _ _ _ ((c .before .before .before .before .before .before) .args .first) _ _ _ ((c .before .before .before .before .before .before) .pre .1) ((c .before) .try-guess .ensures) ((c) .if1 .taken)
 
 -- src/write.rt:76:9
 add-k : tie.Need-add-k Inv-loop μ-loop
@@ -40,11 +40,11 @@ loop-less c = omega (arith, (c .before .before .before) .loop-test .taken)
 
 -- src/write.rt:71:5
 loop-again : tie.Need-loop-again Inv-loop μ-loop
-loop-again c = guess-next _ _ _ _ _ _ _ _ _ _ _ _ ((c .before .before .before .before) .loop .inv) ((c .before) .try-guess .ensures) ((c) .if1 .left)
+loop-again c = guess-next _ _ _ _ _ _ _ _ _ _ _ _ _ ((c .before .before .before .before) .loop .inv) ((c .before) .try-guess .ensures) ((c) .if1 .left)
 
 -- src/write.rt:56:1
 returns-2 : tie.Need-returns-2 Inv-loop μ-loop
-returns-2 c = absurd (guess-end _ _ _ _ _ _ _ _ _ _ ((c .before .before .before) .pre .1) ((c) .loop-test .left) ((c .before) .loop .inv))
+returns-2 c = absurd (guess-end _ _ _ _ _ _ _ _ _ _ _ ((c .before .before .before) .pre .1) ((c) .loop-test .left) ((c .before) .loop .inv))
 
 pub guess-spec : {M : Type 1} → statement M
 guess-spec =

@@ -1,4 +1,4 @@
-use mathlib.Core.Path.{_≡_, refl, sym, ap, _∙_}
+use mathlib.Core.Path.{refl, ap}
 use Rattle.fsbm.specs.declared.machine.Transition.{Transition}
 use borrow.Author.Needs.{needs}
 use Rattle.shortest.proofs.write.read.Statement.{statement}

@@ -10,7 +10,7 @@ use Rattle.shortest.proofs.copy.copy.Reads as copy-reads
 use Rattle.shortest.proofs.find.find_normal.Reads as find-normal-reads
 use Rattle.shortest.proofs.write.guess.Reads as guess-reads
 use Rattle.shortest.proofs.write.read.Reads as read-reads
-use Rattle.shortest.proofs.write.wide.Reads as wide-reads
+use Rattle.images.proofs.wide.Reads as wide-reads
 
 -- src/write.rt:109:9
 find-normal-requires : tie.Need-find-normal-requires
@@ -42,11 +42,11 @@ wide-requires c κs = search needs
 
 -- src/write.rt:113:9
 guess-requires : tie.Need-guess-requires
-guess-requires c κs = ((c .before .before .before .before .before .before .before .before .before) .pre .searching, copy-there ((c .before .before .before .before .before .before .before .before .before) .args .m) ((c .before .before .before .before .before .before .before .before .before) .args .list .now) ((c .before .before .before .before .before .before .before .before .before) .args .d .now) ((c .before .before .before .before .before .before .before .before .before) .args .q) _ ((c .before .before .before .before .before .before .before .before .before) .pre .searching .settled) ((c .before .before .before .before .before .before .before .before .before) .pre .positive) ((c .before .before .before .before .before .before .before .before .before) .pre .searching .low) ((c .before .before .before .before .before) .find-normal .ensures) ((c .before .before .before) .if1 .left), (c) .wide .ensures .1)
+guess-requires c κs = ((c .before .before .before .before .before .before .before .before .before) .pre .searching, copy-there ((c .before .before .before .before .before .before .before .before .before) .args .m) ((c .before .before .before .before .before .before .before .before .before) .args .list .now) ((c .before .before .before .before .before .before .before .before .before) .args .d .now) ((c .before .before .before .before .before .before .before .before .before) .args .q) _ ((c .before .before .before .before .before .before .before .before .before) .pre .searching .settled) ((c .before .before .before .before .before .before .before .before .before) .pre .positive) ((c .before .before .before .before .before .before .before .before .before) .pre .searching .low) ((c .before .before .before .before .before) .find-normal .ensures) ((c .before .before .before) .if1 .left), omega (arith, c .wide .ensures .1))
 
 -- src/write.rt:114:5
 copy-requires : tie.Need-copy-requires
-copy-requires c κs = copy-ready _ _ _ _ _ _ _ _ _ _ _ _ _ _ _ _ ((c .before .before .before .before .before .before .before .before .before .before .before .before .before .before) .pre) ((c .before .before .before .before) .guess .ensures)
+copy-requires c κs = copy-ready _ _ _ _ _ _ _ _ _ _ _ _ _ _ _ _ _ ((c .before .before .before .before .before .before .before .before .before .before .before .before .before .before) .pre) ((c .before .before .before .before) .guess .ensures)
 
 -- src/write.rt:89:1
 same-length-3 : tie.Need-same-length-3

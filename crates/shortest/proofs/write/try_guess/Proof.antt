@@ -1,5 +1,5 @@
 use Prim.Native.Nat.{ℕ, _+_}
-use mathlib.Core.Path.{_≡_, refl, sym, ap, _∙_}
+use mathlib.Core.Path.{sym, ap, _∙_}
 use lib.Dec.{eqb}
 use borrow.Author.Tests.{not-true, not-false, eq-eqb, eqb-true}
 use Rattle.graphs.specs.Search.Laws.{not-both}
@@ -22,7 +22,7 @@ member-requires c κs = search needs
 
 -- src/write.rt:49:9
 returns : tie.Need-returns
-returns c = tried-not _ _ _ _ _ _ _ _ _ ((c .before .before .before) .pre .0) (λ i. not-both (eq-eqb _ _ i) (sym ((c .before) .member .ensures) ∙ not-true _ ((c) .if1 .taken)))
+returns c = tried-not _ _ _ _ _ _ _ _ _ _ ((c .before .before .before) .pre .0) (λ i. not-both (eq-eqb _ _ i) (sym ((c .before) .member .ensures) ∙ not-true _ ((c) .if1 .taken)))
 
 -- src/write.rt:51:5
 block-requires : tie.Need-block-requires
@@ -42,7 +42,7 @@ makes-requires c κs = search needs
 
 -- src/write.rt:34:1
 returns-2 : tie.Need-returns-2
-returns-2 c = tried-block _ _ _ _ _ _ _ _ _ _ _ ((c .before .before .before .before .before .before .before .before .before) .pre .0) (eqb-true _ _ (sym ((c .before .before .before .before .before .before .before) .member .ensures) ∙ not-false _ ((c .before .before .before .before .before .before) .if1 .left))) ((c .before .before .before .before) .block .ensures) ((c) .makes .ensures ∙ (ap (λ (v : ℕ). eqb (v + 2) ((c .before) .cost .result)) ((c .before .before) .number .ensures) ∙ ap (λ (v : ℕ). eqb (cell ((c .before .before .before .before) .block .last .1 .1 .1 .1 .1 .1 .1 .1 .0) ((c .before .before .before .before .before .before .before .before .before) .args .h) ((c .before .before .before .before .before .before .before .before .before) .args .q) + 2) v) ((c .before) .cost .ensures)))
+returns-2 c = tried-block _ _ _ _ _ _ _ _ _ _ _ _ ((c .before .before .before .before .before .before .before .before .before) .pre .0) (eqb-true _ _ (sym ((c .before .before .before .before .before .before .before) .member .ensures) ∙ not-false _ ((c .before .before .before .before .before .before) .if1 .left))) ((c .before .before .before .before) .block .ensures) ((c) .makes .ensures ∙ (ap (λ (v : ℕ). eqb (v + 2) ((c .before) .cost .result)) ((c .before .before) .number .ensures) ∙ ap (λ (v : ℕ). eqb (cell ((c .before .before .before .before) .block .last .1 .1 .1 .1 .1 .1 .1 .1 .0) ((c .before .before .before .before .before .before .before .before .before) .args .h) ((c .before .before .before .before .before .before .before .before .before) .args .q) + 2) v) ((c .before) .cost .ensures)))
 
 pub try-guess-spec : {M : Type 1} → statement M
 try-guess-spec =

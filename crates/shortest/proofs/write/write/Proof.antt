@@ -1,5 +1,4 @@
-use Prim.Native.Nat.{ℕ}
-use mathlib.Core.Path.{_≡_, refl, sym, ap, _∙_}
+use mathlib.Core.Path.{_≡_, _∙_}
 use native.Mathlib.Omega.{arith}
 use lib.ListN.{length, length-set}
 use Rattle.pieces.specs.Blocks.{costOf}
@@ -14,10 +13,10 @@ use Rattle.shortest.proofs.find.cost.Reads as cost-reads
 use Rattle.shortest.proofs.write.step.Reads as step-reads
 
 abbrev Inv-loop : tie.InvT-loop
-Inv-loop m list links index starts ends d hints b₀ f word₀ run₀ later₀ p₀ b word run later p = Writing m list d f word₀ run₀ word run p × (length b ≡ 4096) × Past m b × (length later ≡ 4096)
+Inv-loop m list links index starts ends middles d hints b₀ f word₀ run₀ later₀ p₀ b word run later p = Writing m list d f word₀ run₀ word run p × (length b ≡ 4096) × Past m b × (length later ≡ 4096)
 
 abbrev μ-loop : tie.MeasureT-loop
-μ-loop m list links index starts ends d hints b₀ f word₀ run₀ later₀ p₀ b word run later p = costOf d (p .state)
+μ-loop m list links index starts ends middles d hints b₀ f word₀ run₀ later₀ p₀ b word run later p = costOf d (p .state)
 
 -- src/write.rt:144:5
 loop-holds : tie.Need-loop-holds Inv-loop μ-loop
@@ -29,7 +28,7 @@ cost-requires c κs = number-below _ _ (write-low _ _ _ _ _ _ ((c .before .befor
 
 -- src/write.rt:145:9
 step-requires : tie.Need-step-requires Inv-loop μ-loop
-step-requires c κs = step-ready _ _ _ _ _ _ _ _ _ _ ((c .before .before .before .before .before .before .before .before .before .before) .pre .0) _ _ ((c .before .before .before .before .before .before .before .before .before .before) .pre .1) _ _ _ ((c .before .before .before .before .before .before) .loop .inv .0) (omega (arith, (c .before .before .before .before) .if1 .taken, (c .before .before .before .before .before) .cost .ensures)) _ _ ((c .before .before .before .before .before .before) .loop .inv .1) ((c .before .before .before .before .before .before) .loop .inv .2) ((c .before .before .before .before .before .before) .loop .inv .3)
+step-requires c κs = step-ready _ _ _ _ _ _ _ _ _ _ _ ((c .before .before .before .before .before .before .before .before .before .before) .pre .0) _ _ ((c .before .before .before .before .before .before .before .before .before .before) .pre .1) _ _ _ ((c .before .before .before .before .before .before) .loop .inv .0) (omega (arith, (c .before .before .before .before) .if1 .taken, (c .before .before .before .before .before) .cost .ensures)) _ _ ((c .before .before .before .before .before .before) .loop .inv .1) ((c .before .before .before .before .before .before) .loop .inv .2) ((c .before .before .before .before .before .before) .loop .inv .3)
 
 -- src/write.rt:144:5
 loop-less : tie.Need-loop-less Inv-loop μ-loop

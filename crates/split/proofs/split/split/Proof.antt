@@ -1,8 +1,6 @@
-use mathlib.Core.Path.{_≡_, refl, sym, subst, ap, _∙_}
+use mathlib.Core.Path.{_≡_, refl, _∙_}
 use native.Mathlib.Omega.{arith}
-use Prim.Native.Nat.{ℕ, suc, _≤_, _-_}
-use lib.ListN.{length, length-set}
-use borrow.Author.Needs.{needs}
+use lib.ListN.{length-set}
 use Rattle.split.specs.Split.{Splitting}
 use Rattle.split.specs.Split.Laws.{tables, split-start, first-ready, second-ready, split-turn, split-done}
 use Rattle.split.proofs.split.split.Statement.{statement}
