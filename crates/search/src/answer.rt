@@ -38,7 +38,8 @@ fn run_length(states: usize, n: usize) -> usize
 
 // No common word, where no final state has a number; else a shortest one with its runs, or the first slice that is too short: 18 the word's,
 // 17 the first run's, 17 the second run's. m is the product, list its transitions, index, starts and ends its index and its buffering and
-// matching states, d its least weights, f the final state with the least; b is room to work in.
+// matching states, d its least weights, hints the guesses that are tried first, f the final state with the least;
+// b is room to work in.
 pub fn answer(
     first: Machine,
     first_list: &[u16],
@@ -50,6 +51,7 @@ pub fn answer(
     starts: u64,
     ends: u64,
     d: &[u64; 64],
+    hints: &[u8; 64],
     b: &mut [u64; 4096],
     f: usize,
     word: &mut [u8],
@@ -93,6 +95,7 @@ pub fn answer(
         starts,
         ends,
         d,
+        hints,
         b,
         f,
         &mut word[..n],

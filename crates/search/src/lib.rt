@@ -52,7 +52,8 @@ fn search(
     let kinds = images::kinds_of(&m.marks, m.states);
     let mut b = block::no_block();
     let mut d = block::zeros();
-    turns::costs(m, list, &starts, kinds, &mut b, &mut d);
+    let mut hints = [0u8; 64];
+    turns::costs(m, list, &starts, kinds, &mut b, &mut d, &mut hints);
     let f = best::best(&m.marks, &d);
     answer::answer(
         first,
@@ -65,6 +66,7 @@ fn search(
         kinds.buffering,
         kinds.matching,
         &d,
+        &hints,
         &mut b,
         f,
         word,

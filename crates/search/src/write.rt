@@ -14,8 +14,8 @@ fn no_entries() -> [u16; 4096]
 }
 
 // Writes the word, and the runs of the first and of the second machine; each fills its slice. m is the product, list its transitions,
-// index, starts and ends its index and its buffering and matching states, d its least weights, f the final state that is aimed at; b is
-// room to work in.
+// index, starts and ends its index and its buffering and matching states, d its least weights, hints the guesses that are tried
+// first, f the final state that is aimed at; b is room to work in.
 // Time: that of the product's run, and of its entries looked up in the two lists. Memory: 16 KB.
 pub fn write_runs(
     first: Machine,
@@ -28,6 +28,7 @@ pub fn write_runs(
     starts: u64,
     ends: u64,
     d: &[u64; 64],
+    hints: &[u8; 64],
     b: &mut [u64; 4096],
     f: usize,
     word: &mut [u8],
@@ -40,7 +41,6 @@ pub fn write_runs(
     let entering = into::into(m, list);
     let middles = turns::ends(m, list, ends);
     let mut later = no_entries();
-    let hints = [0u8; 64];
     shortest::write::write(
         m,
         list,
@@ -50,7 +50,7 @@ pub fn write_runs(
         ends,
         middles,
         d,
-        &hints,
+        hints,
         b,
         f,
         word,

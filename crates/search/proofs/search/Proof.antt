@@ -37,17 +37,17 @@ no-block-requires c κs = search needs
 zeros-requires : tie.Need-zeros-requires
 zeros-requires c κs = search needs
 
--- src/lib.rt:55:5
+-- src/lib.rt:56:5
 costs-requires : tie.Need-costs-requires
-costs-requires c κs = let good = joined-good ((c .before .before .before .before .before .before .before .before .before .before .before .before .before .before .before .before .before) .pre) in ((ready-of ((c .before .before .before .before .before .before .before .before .before .before .before .before .before .before .before .before .before) .args .t5) (((c .before .before .before .before .before .before .before .before .before .before .before .before .before .before .before .before .before) .args .list) .now) good ((c .before .before .before .before .before) .kinds-of .result) ((c .before .before .before .before .before) .kinds-of .ensures) _ ((c .before .before .before .before .before .before .before .before) .index .ensures), kind-buffering ((c .before .before .before .before .before .before .before .before .before .before .before .before .before .before .before .before .before) .args .t5) (((c .before .before .before .before .before .before .before .before .before .before .before .before .before .before .before .before .before) .args .list) .now) good ((c .before .before .before .before .before) .kinds-of .result) ((c .before .before .before .before .before) .kinds-of .ensures), (c .before .before .before .before .before) .kinds-of .ensures), ((c .before .before .before) .zeros .ensures, (c .before .before .before .before) .no-block .ensures .size, (c .before .before .before .before) .no-block .ensures .past ((c .before .before .before .before .before .before .before .before .before .before .before .before .before .before .before .before .before) .args .t5)))
+costs-requires c κs = let good = joined-good ((c .before .before .before .before .before .before .before .before .before .before .before .before .before .before .before .before .before .before) .pre) in ((ready-of ((c .before .before .before .before .before .before .before .before .before .before .before .before .before .before .before .before .before .before) .args .t5) (((c .before .before .before .before .before .before .before .before .before .before .before .before .before .before .before .before .before .before) .args .list) .now) good ((c .before .before .before .before .before .before) .kinds-of .result) ((c .before .before .before .before .before .before) .kinds-of .ensures) _ ((c .before .before .before .before .before .before .before .before .before) .index .ensures), kind-buffering ((c .before .before .before .before .before .before .before .before .before .before .before .before .before .before .before .before .before .before) .args .t5) (((c .before .before .before .before .before .before .before .before .before .before .before .before .before .before .before .before .before .before) .args .list) .now) good ((c .before .before .before .before .before .before) .kinds-of .result) ((c .before .before .before .before .before .before) .kinds-of .ensures), (c .before .before .before .before .before .before) .kinds-of .ensures), ((c .before .before .before .before) .zeros .ensures, (c .before .before .before .before .before) .no-block .ensures .size, (c .before .before .before .before .before) .no-block .ensures .past ((c .before .before .before .before .before .before .before .before .before .before .before .before .before .before .before .before .before .before) .args .t5)))
 
--- src/lib.rt:56:9
+-- src/lib.rt:57:9
 best-requires : tie.Need-best-requires
 best-requires c κs = search needs
 
--- src/lib.rt:57:5
+-- src/lib.rt:58:5
 answer-requires : tie.Need-answer-requires
-answer-requires c κs = let good = joined-good ((c .before .before .before .before .before .before .before .before .before .before .before .before .before .before .before .before .before .before .before .before .before .before .before .before .before .before .before .before) .pre) in record { joined = (c .before .before .before .before .before .before .before .before .before .before .before .before .before .before .before .before .before .before .before .before .before .before .before .before .before .before .before .before) .pre; ready = ready-of ((c .before .before .before .before .before .before .before .before .before .before .before .before .before .before .before .before .before .before .before .before .before .before .before .before .before .before .before .before) .args .t5) (((c .before .before .before .before .before .before .before .before .before .before .before .before .before .before .before .before .before .before .before .before .before .before .before .before .before .before .before .before) .args .list) .now) good ((c .before .before .before .before .before .before .before .before .before .before .before .before .before .before .before .before) .kinds-of .result) ((c .before .before .before .before .before .before .before .before .before .before .before .before .before .before .before .before) .kinds-of .ensures) _ ((c .before .before .before .before .before .before .before .before .before .before .before .before .before .before .before .before .before .before .before) .index .ensures); buffers = kind-buffering ((c .before .before .before .before .before .before .before .before .before .before .before .before .before .before .before .before .before .before .before .before .before .before .before .before .before .before .before .before) .args .t5) (((c .before .before .before .before .before .before .before .before .before .before .before .before .before .before .before .before .before .before .before .before .before .before .before .before .before .before .before .before) .args .list) .now) good ((c .before .before .before .before .before .before .before .before .before .before .before .before .before .before .before .before) .kinds-of .result) ((c .before .before .before .before .before .before .before .before .before .before .before .before .before .before .before .before) .kinds-of .ensures); size = (c .before .before .before .before .before .before .before .before .before .before) .costs .ensures .0; past = (c .before .before .before .before .before .before .before .before .before .before) .costs .ensures .1; least = (c .before .before .before .before .before .before .before .before .before .before) .costs .ensures .2 .settled; best = (c .before .before .before .before .before .before) .best .ensures }
+answer-requires c κs = let good = joined-good ((c .before .before .before .before .before .before .before .before .before .before .before .before .before .before .before .before .before .before .before .before .before .before .before .before .before .before .before .before .before .before) .pre) in record { joined = (c .before .before .before .before .before .before .before .before .before .before .before .before .before .before .before .before .before .before .before .before .before .before .before .before .before .before .before .before .before .before) .pre; ready = ready-of ((c .before .before .before .before .before .before .before .before .before .before .before .before .before .before .before .before .before .before .before .before .before .before .before .before .before .before .before .before .before .before) .args .t5) (((c .before .before .before .before .before .before .before .before .before .before .before .before .before .before .before .before .before .before .before .before .before .before .before .before .before .before .before .before .before .before) .args .list) .now) good ((c .before .before .before .before .before .before .before .before .before .before .before .before .before .before .before .before .before .before) .kinds-of .result) ((c .before .before .before .before .before .before .before .before .before .before .before .before .before .before .before .before .before .before) .kinds-of .ensures) _ ((c .before .before .before .before .before .before .before .before .before .before .before .before .before .before .before .before .before .before .before .before .before) .index .ensures); buffers = kind-buffering ((c .before .before .before .before .before .before .before .before .before .before .before .before .before .before .before .before .before .before .before .before .before .before .before .before .before .before .before .before .before .before) .args .t5) (((c .before .before .before .before .before .before .before .before .before .before .before .before .before .before .before .before .before .before .before .before .before .before .before .before .before .before .before .before .before .before) .args .list) .now) good ((c .before .before .before .before .before .before .before .before .before .before .before .before .before .before .before .before .before .before) .kinds-of .result) ((c .before .before .before .before .before .before .before .before .before .before .before .before .before .before .before .before .before .before) .kinds-of .ensures); size = (c .before .before .before .before .before .before .before .before .before .before .before) .costs .ensures .0; past = (c .before .before .before .before .before .before .before .before .before .before .before) .costs .ensures .1; least = (c .before .before .before .before .before .before .before .before .before .before .before) .costs .ensures .2 .settled; best = (c .before .before .before .before .before .before .before) .best .ensures }
 
 -- src/lib.rt:36:1
 same-length : tie.Need-same-length

@@ -8,19 +8,19 @@ use Rattle.least.proofs.turns.ends.Reads as ends-reads
 use Rattle.least.proofs.turns.start.Reads as start-reads
 use Rattle.least.proofs.turns.turns.Reads as turns-reads
 
--- src/turns.rt:219:5
+-- src/turns.rt:248:5
 start-requires : tie.Need-start-requires
 start-requires c κs = search needs
 
--- src/turns.rt:220:9
+-- src/turns.rt:249:9
 ends-requires : tie.Need-ends-requires
 ends-requires c κs = (rules _ _ ((c .before .before .before) .pre .0 .0 .good) .list-fits, (c .before .before .before) .pre .0 .0 .matches)
 
--- src/turns.rt:221:5
+-- src/turns.rt:250:5
 turns-requires : tie.Need-turns-requires
 turns-requires c κs = search needs
 
--- src/turns.rt:207:1
+-- src/turns.rt:235:1
 returns : tie.Need-returns
 returns c = search needs
 
