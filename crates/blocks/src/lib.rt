@@ -3,4 +3,5 @@ pub mod block;
 pub mod gather;
 pub mod index;
 pub mod numbers;
+pub mod readers;
 pub mod row;

@@ -5,7 +5,6 @@
 -- so-start            == the row after its matching halves have moved alone
 -- so-more             == the row after the transitions of one letter
 -- ready-stride .. group-past == what the functions ask of the index: its ranges, and where the transitions of a letter end
--- held-from           == the members that are in both sets, as one set
 -- moved-none, moved-letter == the ways through `moved`
 -- row-leaves, row-done == which transitions a row goes through, and the row's end
 -- storable-held, storable-free == the ways through `storable`
@@ -388,14 +387,6 @@ module _ {m : Machine} {list index : List ℕ} {h : ℕ} (r : Ready m list index
     row-done {set} {lo} {end} {k} {b} {d} {b₁} {d₁} e f le so g =
         let z : getD index (s * (m .letters + 1) + 0) 0 ≡ lo = ap (λ (i : ℕ). getD index i 0) (let y : s * (m .letters + 1) + 0 ≡ s * (m .letters + 1) = omega arith in y) ∙ sym e in
         so-done r s set here (omega arith) (g .on b d (subst (λ (i : ℕ). RowSo m list s set i b d b₁ d₁) z so))
-
--- The members that are in both sets
-
-module _ {list index : List ℕ} {stride x w h : ℕ} {b : List ℕ} {s : ℕ} (set : ℕ) {held v : ℕ} (is : SetIs held v (λ q. In set q × In h q)) where
-  pub held-from : {p p′ : List ℕ} {got got′ : ℕ} → Adding (From list index stride x w h b s (In held)) p got p′ got′ → Adding (From list index stride x w h b s (λ q. In set q × In h q)) p got p′ got′
-  held-from f =
-      adding-as (λ t n c. record { source = c .source; holds = is .members (c .source) .0 (c .holds); far = c .far })
-      (λ t n c. record { source = c .source; holds = is .members (c .source) .1 (c .holds); far = c .far }) f
 
 module _ {list index : List ℕ} {stride x h : ℕ} {b : List ℕ} {s set : ℕ} where
   pub moved-none : {p p′ : List ℕ} {got : ℕ} → x ≡ 0 → Adding (Stay b s (In set)) p 0 p′ got → Adding (Moves list index stride x h b s set) p 0 p′ got

@@ -15,10 +15,10 @@ use Rattle.blocks.proofs.block.next_row.Reads as next-row-reads
 use Rattle.blocks.proofs.row.row.Reads as row-reads
 
 abbrev Inv-loop : tie.InvT-loop
-Inv-loop m list index g h b₀ d₀ p₀ s₀ b d p s = (length p ≡ 64) × Sized b d × WorkOn m list b₀ d₀ b d
+Inv-loop m list index readers g h b₀ d₀ p₀ s₀ b d p s = (length p ≡ 64) × Sized b d × WorkOn m list b₀ d₀ b d
 
 abbrev μ-loop : tie.MeasureT-loop
-μ-loop m list index g h b₀ d₀ p₀ s₀ b d p s = 2 * total b + marked d
+μ-loop m list index readers g h b₀ d₀ p₀ s₀ b d p s = 2 * total b + marked d
 
 -- src/block.rt:63:5
 loop-holds : tie.Need-loop-holds Inv-loop μ-loop

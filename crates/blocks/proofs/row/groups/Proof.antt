@@ -12,10 +12,10 @@ use Rattle.blocks.proofs.row.groups.Lts as lts
 use Rattle.blocks.proofs.row.group.Reads as group-reads
 
 abbrev Inv-loop : tie.InvT-loop
-Inv-loop m list index h may b₀ d₀ s set lo end p₀ k₀ b d p k = (length p ≡ 64) × (lo ≤ k) × RowOn m list s set lo b₀ d₀ k b d
+Inv-loop m list index readers h may b₀ d₀ s set lo end p₀ k₀ b d p k = (length p ≡ 64) × (lo ≤ k) × RowOn m list s set lo b₀ d₀ k b d
 
 abbrev μ-loop : tie.MeasureT-loop
-μ-loop m list index h may b₀ d₀ s set lo end p₀ k₀ b d p k = end - k
+μ-loop m list index readers h may b₀ d₀ s set lo end p₀ k₀ b d p k = end - k
 
 -- src/row.rt:127:5
 loop-holds : tie.Need-loop-holds Inv-loop μ-loop
