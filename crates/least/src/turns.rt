@@ -9,12 +9,14 @@ ghost use lib.ListN.{length};
 ghost use Rattle.stateset.specs.Set.{In, has};
 ghost use Rattle.fsbm.specs.Machine.{transitionAt, buffering, matching};
 ghost use Rattle.images.specs.Graph.{KindsOf};
+ghost use Rattle.blocks.specs.Readers.{Readers};
 ghost use Rattle.blocks.specs.Works.{Kind, Ready};
 ghost use Rattle.blocks.specs.Settling.{Past};
 ghost use Rattle.least.specs.Falls.{Falls, End, Ends};
 ghost use Rattle.least.specs.Turns.{Entered, EnteredBelow, EnteredBy, NormalTurn, Guessed, CopyTurn, First, firstOf, Costs};
 use crate::fall;
 use blocks::block;
+use blocks::readers;
 use fsbm::machine::Machine;
 use images::Kinds;
 
@@ -107,6 +109,7 @@ fn guessed(
     m: Machine,
     list: &[u16],
     index: &[u16; 16065],
+    readers: &[u64; 251],
     g: u64,
     h: u64,
     guess: usize,
@@ -115,11 +118,11 @@ fn guessed(
     d: &mut [u64; 64],
     got: u64,
 ) -> u64
-    requires { ⌜ Ready m (now list) (now index) h × Kind (buffering (m .marks)) g ⌝ }
+    requires { ⌜ Ready m (now list) (now index) h × Kind (buffering (m .marks)) g × Readers m (now list) (now readers) ⌝ }
     requires { ⌜ (length (now d) ≡ 64) × (length (now b) ≡ 4096) × Past m (now b) × (guess < 64) ⌝ }
     ensures { λ r. ⌜ Guessed m (now (list .entry)) h guess «set» (now (d .entry)) got (now (d .exit)) r (now (b .exit)) ⌝ }
 {
-    block::block(m, list, index, g, h, guess, set, &*d, b);
+    block::block_by(m, list, index, readers, g, h, guess, set, &*d, b);
     end_all(&*b, guess, h, d, got)
 }
 
@@ -129,6 +132,7 @@ fn copies(
     m: Machine,
     list: &[u16],
     index: &[u16; 16065],
+    readers: &[u64; 251],
     g: u64,
     h: u64,
     storing: u64,
@@ -136,7 +140,7 @@ fn copies(
     b: &mut [u64; 4096],
     d: &mut [u64; 64],
 ) -> u64
-    requires { ⌜ Ready m (now list) (now index) h × Kind (buffering (m .marks)) g ⌝ }
+    requires { ⌜ Ready m (now list) (now index) h × Kind (buffering (m .marks)) g × Readers m (now list) (now readers) ⌝ }
     requires { ⌜ (length (now d) ≡ 64) × (length (now b) ≡ 4096) × Past m (now b) ⌝ }
     requires { ⌜ Entered m (now list) storing × ((q : ℕ) → In «set» q → buffering (m .marks) q ≡ true) ⌝ }
     ensures { λ r. ⌜ (length (now (b .exit)) ≡ 4096) × Past m (now (b .exit)) × CopyTurn m (now (list .entry)) «set» (now (d .entry)) (now (d .exit)) r ⌝ }
@@ -146,7 +150,7 @@ fn copies(
     while rest != 0 {
         let guess = stateset::lowest(rest) as usize;
         rest = stateset::without_lowest(rest);
-        got = guessed(m, list, index, g, h, guess, set, b, d, got);
+        got = guessed(m, list, index, readers, g, h, guess, set, b, d, got);
     }
     got
 }
@@ -178,12 +182,13 @@ fn turns(
     m: Machine,
     list: &[u16],
     index: &[u16; 16065],
+    readers: &[u64; 251],
     kinds: Kinds,
     storing: u64,
     b: &mut [u64; 4096],
     d: &mut [u64; 64],
 )
-    requires { ⌜ Ready m (now list) (now index) (kinds .matching) × Kind (buffering (m .marks)) (kinds .buffering) × KindsOf (m .marks) (m .states) kinds ⌝ }
+    requires { ⌜ Ready m (now list) (now index) (kinds .matching) × Kind (buffering (m .marks)) (kinds .buffering) × KindsOf (m .marks) (m .states) kinds × Readers m (now list) (now readers) ⌝ }
     requires { ⌜ First (kinds .initial) (now d) × (length (now b) ≡ 4096) × Past m (now b) ⌝ }
     requires { ⌜ Entered m (now list) storing ⌝ }
     ensures { λ r. ⌜ (length (now (b .exit)) ≡ 4096) × Past m (now (b .exit)) × Costs m (now (list .entry)) (now (d .exit)) ⌝ }
@@ -197,7 +202,7 @@ fn turns(
         if set == 0 {
             return;
         }
-        fresh = copies(m, list, index, g, h, storing, set, b, d);
+        fresh = copies(m, list, index, readers, g, h, storing, set, b, d);
     }
 }
 
@@ -218,5 +223,6 @@ pub fn costs(
 {
     start(kinds.initial, d);
     let storing = ends(m, list, kinds.matching);
-    turns(m, list, index, kinds, storing, b, d);
+    let readers = readers::readers(m, list, kinds.matching);
+    turns(m, list, index, &readers, kinds, storing, b, d);
 }
