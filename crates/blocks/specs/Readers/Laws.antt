@@ -104,14 +104,14 @@ readers-cover {m} {list} {index} {h} r {sets} f x le =
         subst (λ (z : ℕ). In (getD sets z 0) t) (s .2) (subst (λ (z : ℕ). In (getD sets (transitionAt list k .letter) 0) z) (s .1) i)
 
 -- the states of a set that are worth a look, among the members of h
-module _ {list index : List ℕ} {stride x w h : ℕ} {b : List ℕ} {s : ℕ} (set read : ℕ) (covers : Covers list index stride x h read) {held v : ℕ} (is : SetIs held v (λ q. In set q × In read q)) where
-  pub covers-from : {p p′ : List ℕ} {got got′ : ℕ} → Adding (From list index stride x w h b s (In held)) p got p′ got′ → Adding (From list index stride x w h b s (λ q. In set q × In h q)) p got p′ got′
+module _ {list index : List ℕ} {top stride x w h : ℕ} {b : List ℕ} {s : ℕ} (set read : ℕ) (covers : Covers list index stride x h read) {held v : ℕ} (is : SetIs held v (λ q. In set q × In read q)) where
+  pub covers-from : {p p′ : List ℕ} {got got′ : ℕ} → Adding (From list index top stride x w h b s (In held)) p got p′ got′ → Adding (From list index top stride x w h b s (λ q. In set q × In h q)) p got p′ got′
   covers-from f = adding-as there back f
     where
-      there : (t n : ℕ) → From list index stride x w h b s (In held) t n → From list index stride x w h b s (λ q. In set q × In h q) t n
+      there : (t n : ℕ) → From list index top stride x w h b s (In held) t n → From list index top stride x w h b s (λ q. In set q × In h q) t n
       there t n c = let z = is .members (c .source) .0 (c .holds) in record { source = c .source; holds = (z .0, covers .only (c .source) (z .1)); far = c .far }
 
-      back : (t n : ℕ) → From list index stride x w h b s (λ q. In set q × In h q) t n → From list index stride x w h b s (In held) t n
+      back : (t n : ℕ) → From list index top stride x w h b s (λ q. In set q × In h q) t n → From list index top stride x w h b s (In held) t n
       back t n c =
           let k = c .far .reach in
           let z = covers .all (c .source) (k .number) (c .holds .1) (k .from-on) (k .below) (subst (λ (i : ℕ). In h i) (sym (k .enters)) (k .allowed)) in

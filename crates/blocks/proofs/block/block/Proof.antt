@@ -1,3 +1,4 @@
+use native.Mathlib.Omega.{arith}
 use borrow.Author.Needs.{needs}
 use Rattle.blocks.proofs.block.block.Statement.{statement}
 use Rattle.blocks.proofs.block.block.Tie as tie
@@ -12,7 +13,7 @@ readers-requires c κs = ((c .before) .pre .0 .0 .good, (c .before) .pre .0 .0 .
 
 -- src/block.rt:167:5
 block-by-requires : tie.Need-block-by-requires
-block-by-requires c κs = (((c .before .before .before .before) .pre .0 .0, (c .before .before .before .before) .pre .0 .1, (c .before .before) .readers .ensures), (c .before .before .before .before) .pre .1)
+block-by-requires c κs = (((c .before .before .before .before) .pre .0 .0, (c .before .before .before .before) .pre .0 .1, (c .before .before) .readers .ensures), ((c .before .before .before .before) .pre .1 .0, (c .before .before .before .before) .pre .1 .1, (c .before .before .before .before) .pre .1 .2, omega arith))
 
 -- src/block.rt:151:1
 returns : tie.Need-returns

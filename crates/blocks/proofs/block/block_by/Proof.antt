@@ -40,11 +40,11 @@ begin-all-requires c κs = search needs
 
 -- src/block.rt:143:5
 work-requires : tie.Need-work-requires
-work-requires c κs = ((c .before .before .before .before .before .before .before .before .before .before .before .before .before) .pre .0, (sized-after (record { numbers = (c .before .before .before .before .before .before .before .before .before) .clear .ensures .size ∙ (c .before .before .before .before .before .before .before .before .before .before .before .before .before) .pre .1 .0; rows = (c .before .before .before .before .before .before .before) .zeros .ensures }) ((c .before .before .before) .begin-all .ensures .steps), (c .before .before .before .before .before .before) .zeros2 .ensures))
+work-requires c κs = ((c .before .before .before .before .before .before .before .before .before .before .before .before .before) .pre .0, (sized-after (record { numbers = (c .before .before .before .before .before .before .before .before .before) .clear .ensures .size ∙ (c .before .before .before .before .before .before .before .before .before .before .before .before .before) .pre .1 .0; rows = (c .before .before .before .before .before .before .before) .zeros .ensures }) ((c .before .before .before) .begin-all .ensures .steps), (c .before .before .before .before .before .before) .zeros2 .ensures, (c .before .before .before .before .before .before .before .before .before .before .before .before .before) .pre .1 .3))
 
 -- src/block.rt:123:1
 returns : tie.Need-returns
-returns c = block-done _ _ _ ((c .before .before .before .before .before .before .before .before .before .before .before .before .before .before) .pre .0 .1) _ _ _ ((c .before .before .before .before .before .before .before .before .before .before .before .before .before .before) .pre .1 .1) ((c .before .before .before .before .before .before .before .before .before .before) .clear .ensures) ((c .before .before .before .before .before .before .before .before .before) .intersection .ensures) ((c .before .before .before .before) .begin-all .ensures) ((c .before .before .before .before .before .before .before .before .before .before .before .before .before .before) .pre .0 .0 .good) ((c .before .before .before .before .before .before .before .before .before .before .before .before .before .before) .pre .1 .0) (c .work .ensures)
+returns c = block-done _ _ _ ((c .before .before .before .before .before .before .before .before .before .before .before .before .before .before) .pre .0 .1) _ _ _ ((c .before .before .before .before .before .before .before .before .before .before .before .before .before .before) .pre .1 .3) _ ((c .before .before .before .before .before .before .before .before .before .before .before .before .before .before) .pre .1 .1) ((c .before .before .before .before .before .before .before .before .before .before) .clear .ensures) ((c .before .before .before .before .before .before .before .before .before) .intersection .ensures) ((c .before .before .before .before) .begin-all .ensures) ((c .before .before .before .before .before .before .before .before .before .before .before .before .before .before) .pre .0 .0 .good) ((c .before .before .before .before .before .before .before .before .before .before .before .before .before .before) .pre .1 .0) (c .work .ensures)
 
 pub block-by-spec : {M : Type 1} → statement M
 block-by-spec =

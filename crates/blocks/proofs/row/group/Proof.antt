@@ -70,7 +70,7 @@ element-copy-out-read c = omega (arith, ready-letter ((c .before .before .before
 
 -- src/row.rt:106:9
 moved-requires : tie.Need-moved-requires
-moved-requires c κs = ((c .before .before .before .before .before .before .before .before) .pre .1 .0 .1, ((ready-stride ((c .before .before .before .before .before .before .before .before) .pre .0 .0), ready-letter ((c .before .before .before .before .before .before .before .before) .pre .0 .0) _ ((c .before .before .before .before .before .before .before .before) .pre .1 .1 .0), ready-from ((c .before .before .before .before .before .before .before .before) .pre .0 .0) _ _ (ready-letter ((c .before .before .before .before .before .before .before .before) .pre .0 .0) _ ((c .before .before .before .before .before .before .before .before) .pre .1 .1 .0))), (ready-state ((c .before .before .before .before .before .before .before .before) .pre .0 .0) _ ((c .before .before .before .before .before .before .before .before) .pre .1 .0 .2), readers-cover ((c .before .before .before .before .before .before .before .before) .pre .0 .0) ((c .before .before .before .before .before .before .before .before) .pre .0 .2) _ (ready-letter ((c .before .before .before .before .before .before .before .before) .pre .0 .0) _ ((c .before .before .before .before .before .before .before .before) .pre .1 .1 .0)))))
+moved-requires c κs = ((c .before .before .before .before .before .before .before .before) .pre .1 .0 .1, ((ready-stride ((c .before .before .before .before .before .before .before .before) .pre .0 .0), ready-letter ((c .before .before .before .before .before .before .before .before) .pre .0 .0) _ ((c .before .before .before .before .before .before .before .before) .pre .1 .1 .0), ready-from ((c .before .before .before .before .before .before .before .before) .pre .0 .0) _ _ (ready-letter ((c .before .before .before .before .before .before .before .before) .pre .0 .0) _ ((c .before .before .before .before .before .before .before .before) .pre .1 .1 .0))), (ready-state ((c .before .before .before .before .before .before .before .before) .pre .0 .0) _ ((c .before .before .before .before .before .before .before .before) .pre .1 .0 .2), (c .before .before .before .before .before .before .before .before) .pre .1 .0 .3, readers-cover ((c .before .before .before .before .before .before .before .before) .pre .0 .0) ((c .before .before .before .before .before .before .before .before) .pre .0 .2) _ (ready-letter ((c .before .before .before .before .before .before .before .before) .pre .0 .0) _ ((c .before .before .before .before .before .before .before .before) .pre .1 .1 .0)))))
 
 -- src/row.rt:107:5
 spread-requires : tie.Need-spread-requires
@@ -78,7 +78,7 @@ spread-requires c κs = ((c .before .before .before .before .before .before .bef
 
 -- src/row.rt:83:1
 returns : tie.Need-returns
-returns c = ((c .before .before .before .before) .moved .ensures .size ∙ (c .before .before .before .before .before .before .before .before .before .before .before .before .before) .pre .1 .0 .1, omega (arith, (c .before .before .before .before .before .before .before .before) .wide .ensures .0, group-past ((c .before .before .before .before .before .before .before .before .before .before .before .before .before) .pre .0 .0) _ ((c .before .before .before .before .before .before .before .before .before .before .before .before .before) .pre .1 .0 .2) _ ((c .before .before .before .before .before .before .before .before .before .before .before .before .before) .pre .1 .1 .0) ((c .before .before .before .before .before .before .before .before .before .before .before .before .before) .pre .1 .1 .1)), record { steps = c .spread .ensures .steps; on = λ b₀ d₀ so. so-more ((c .before .before .before .before .before .before .before .before .before .before .before .before .before) .pre .0 .0) _ _ ((c .before .before .before .before .before .before .before .before .before .before .before .before .before) .pre .1 .0 .2) ((c .before .before .before .before .before .before .before .before .before .before .before .before .before) .pre .0 .1) ((c .before .before .before .before .before .before .before .before .before .before .before .before .before) .pre .1 .1 .0) ((c .before .before .before .before .before .before .before .before .before .before .before .before .before) .pre .1 .1 .1) refl ((c .before .before .before .before .before .before .before .before) .wide .ensures .0) ((c .before .before .before .before) .moved .ensures) (c .spread .ensures) so })
+returns c = ((c .before .before .before .before) .moved .ensures .size ∙ (c .before .before .before .before .before .before .before .before .before .before .before .before .before) .pre .1 .0 .1, omega (arith, (c .before .before .before .before .before .before .before .before) .wide .ensures .0, group-past ((c .before .before .before .before .before .before .before .before .before .before .before .before .before) .pre .0 .0) _ ((c .before .before .before .before .before .before .before .before .before .before .before .before .before) .pre .1 .0 .2) _ ((c .before .before .before .before .before .before .before .before .before .before .before .before .before) .pre .1 .1 .0) ((c .before .before .before .before .before .before .before .before .before .before .before .before .before) .pre .1 .1 .1)), record { steps = c .spread .ensures .steps; on = λ b₀ d₀ so. so-more ((c .before .before .before .before .before .before .before .before .before .before .before .before .before) .pre .0 .0) _ _ _ ((c .before .before .before .before .before .before .before .before .before .before .before .before .before) .pre .1 .0 .2) ((c .before .before .before .before .before .before .before .before .before .before .before .before .before) .pre .0 .1) ((c .before .before .before .before .before .before .before .before .before .before .before .before .before) .pre .1 .1 .0) ((c .before .before .before .before .before .before .before .before .before .before .before .before .before) .pre .1 .1 .1) refl ((c .before .before .before .before .before .before .before .before) .wide .ensures .0) ((c .before .before .before .before) .moved .ensures) (c .spread .ensures) so })
 
 pub group-spec : {M : Type 1} → statement M
 group-spec =
