@@ -9,11 +9,12 @@ ghost use lib.ListN.{length};
 ghost use Rattle.stateset.specs.Set.{In, has};
 ghost use Rattle.fsbm.specs.Machine.{transitionAt, buffering, matching};
 ghost use Rattle.images.specs.Graph.{KindsOf};
+ghost use Rattle.pieces.specs.Blocks.{nothing};
 ghost use Rattle.blocks.specs.Readers.{Readers};
 ghost use Rattle.blocks.specs.Works.{Kind, Ready};
 ghost use Rattle.blocks.specs.Settling.{Past};
 ghost use Rattle.least.specs.Falls.{Falls, End, Ends};
-ghost use Rattle.least.specs.Turns.{Entered, EnteredBelow, EnteredBy, NormalTurn, Guessed, CopyTurn, First, firstOf, Costs};
+ghost use Rattle.least.specs.Turns.{Entered, EnteredBelow, EnteredBy, NormalTurn, Tops, Guessed, CopyTurn, First, firstOf, Costs};
 use crate::fall;
 use blocks::block;
 use blocks::readers;
@@ -78,33 +79,60 @@ fn settle(
     started
 }
 
-// Lowers the number of z to v + 2 and adds z to the set, where that is less and v is less than NONE; the set then.
-fn end(d: &mut [u64; 64], got: u64, z: usize, v: u64) -> u64
-    requires { ⌜ (length (now d) ≡ 64) × (z < 64) ⌝ }
-    ensures { λ r. ⌜ Falls (End z v) (End z v) (now (d .entry)) got (now (d .exit)) r ⌝ }
+// The greater of two numbers.
+fn greater(a: u64, b: u64) -> u64
+    ensures { λ r. ⌜ (a ≤ r) × (b ≤ r) ⌝ }
 {
-    if NONE <= v {
+    if a < b {
+        return b;
+    }
+    a
+}
+
+// The largest number of a member of h, or NONE where it is larger.
+fn largest(h: u64, d: &[u64; 64]) -> u64
+    ensures { λ r. ⌜ Tops h (now (d .entry)) r ⌝ }
+{
+    let mut most: u64 = 0;
+    let mut rest = h;
+    while rest != 0 {
+        let z = stateset::lowest(rest) as usize;
+        rest = stateset::without_lowest(rest);
+        most = greater(most, d[z]);
+    }
+    if NONE < most {
+        return NONE;
+    }
+    most
+}
+
+// Lowers the number of z to v + 2 and adds z to the set, where that is less and v is less than top; the set then.
+fn end(d: &mut [u64; 64], got: u64, z: usize, v: u64, top: u64) -> u64
+    requires { ⌜ (length (now d) ≡ 64) × (z < 64) × (top ≤ nothing) ⌝ }
+    ensures { λ r. ⌜ Falls (End top z v) (End top z v) (now (d .entry)) got (now (d .exit)) r ⌝ }
+{
+    if top <= v {
         return got;
     }
     fall::fall(d, got, z, v + 2)
 }
 
 // The same for each matching state, with its number in row guess of the block for v. h has the matching states.
-fn end_all(b: &[u64; 4096], guess: usize, h: u64, d: &mut [u64; 64], got: u64) -> u64
-    requires { ⌜ (length (now d) ≡ 64) × (guess < 64) ⌝ }
-    ensures { λ r. ⌜ Falls (Ends (now (b .entry)) guess (In h)) (Ends (now (b .entry)) guess (In h)) (now (d .entry)) got (now (d .exit)) r ⌝ }
+fn end_all(b: &[u64; 4096], guess: usize, h: u64, d: &mut [u64; 64], got: u64, top: u64) -> u64
+    requires { ⌜ (length (now d) ≡ 64) × (guess < 64) × (top ≤ nothing) ⌝ }
+    ensures { λ r. ⌜ Falls (Ends top (now (b .entry)) guess (In h)) (Ends top (now (b .entry)) guess (In h)) (now (d .entry)) got (now (d .exit)) r ⌝ }
 {
     let mut all = got;
     let mut rest = h;
     while rest != 0 {
         let z = stateset::lowest(rest) as usize;
         rest = stateset::without_lowest(rest);
-        all = end(d, all, z, b[guess * 64 + z]);
+        all = end(d, all, z, b[guess * 64 + z], top);
     }
     all
 }
 
-// The copies of one guess that begin in a state of the set.
+// The copies of one guess that begin in a state of the set. A copy of a larger number than all matching states have lowers none of them.
 fn guessed(
     m: Machine,
     list: &[u16],
@@ -122,8 +150,9 @@ fn guessed(
     requires { ⌜ (length (now d) ≡ 64) × (length (now b) ≡ 4096) × Past m (now b) × (guess < 64) ⌝ }
     ensures { λ r. ⌜ Guessed m (now (list .entry)) h guess «set» (now (d .entry)) got (now (d .exit)) r (now (b .exit)) ⌝ }
 {
-    block::block_by(m, list, index, readers, g, h, guess, set, &*d, b);
-    end_all(&*b, guess, h, d, got)
+    let top = largest(h, &*d);
+    block::block_by(m, list, index, readers, g, h, guess, set, &*d, b, top);
+    end_all(&*b, guess, h, d, got, top)
 }
 
 // A turn of copies that begin in a state of the set, all of them buffering states; the states that were lowered. storing has the states
