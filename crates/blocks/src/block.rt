@@ -122,7 +122,7 @@ fn begin_all(
 }
 
 // A number for each state, all 0.
-pub fn zeros() -> [u64; 64]
+fn zeros() -> [u64; 64]
     ensures { λ r. ⌜ length r ≡ 64 ⌝ }
 {
     [0; 64]
