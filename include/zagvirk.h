@@ -179,7 +179,7 @@ typedef struct {
  *
  * Refuses, in this order: 9 over 255 bytes, 8 if a byte has no letter, 18.
  *
- * Time: one pass over the bytes. Memory: constant.
+ * Time: two passes over the bytes, one to test them and one to write. Memory: constant.
  */
 zagvirk_translated zagvirk_translate(const uint8_t *bytes, size_t bytes_len, uint8_t *word, size_t word_len);
 
@@ -200,7 +200,7 @@ typedef struct {
  *
  * Refuses, in this order: 16 (first machine, then second), 10, 11, 12, 13, 15.
  *
- * Time: in proportion to the machines and the product. Memory: constant.
+ * Time: in proportion to the machines and the product. Memory: 72 KB of stack, no heap.
  */
 zagvirk_joined zagvirk_join(zagvirk_machine first, const uint16_t *first_list, size_t first_len, zagvirk_machine second,
                             const uint16_t *second_list, size_t second_len, uint16_t *list, size_t list_len);
@@ -221,7 +221,7 @@ typedef struct {
  *
  * Refuses, in this order: 16, 9 over 255 letters, 8, 14, 20.
  *
- * Time: in proportion to the machine, the word and the run. Memory: constant.
+ * Time: one pass over the machine and the word, three over the run. Memory: constant.
  */
 zagvirk_copies_listed zagvirk_list_copies(zagvirk_machine machine, const uint16_t *list, size_t list_len,
                                           const uint8_t *word, size_t word_len, const uint16_t *run, size_t run_len,
@@ -241,6 +241,11 @@ typedef struct {
  *
  * Refuses, in this order: 16, 9 over 255 letters, 8, 17 if run has fewer than 3 x states x (word_len + 1) elements,
  * whatever the answer would be.
+ *
+ * Time: one pass over the machine and the word, then sets of states: at most word_len^2 / 2 of them for the answer, and
+ * for a run a search along them. Memory, on the stack and no heap: 45 KB for a word of at most 15 different letters,
+ * 65 KB of at most 31, 210 KB for others, and 110 KB more for a run of more than 16 entries for each letter; where no
+ * search finds a run, which no word is known to come to, 165 KB more.
  */
 zagvirk_recognized zagvirk_recognize(zagvirk_machine machine, const uint16_t *list, size_t list_len,
                                      const uint8_t *word, size_t word_len, uint16_t *run, size_t run_len);

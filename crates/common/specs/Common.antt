@@ -5,10 +5,10 @@
 -- hasCommon .. n       == some word of n letters is common
 -- leastCommon ..       == the number of letters of a shortest common word; one more than the longest that is searched where there is none
 -- commonAnswer .. word first second entries == the answer to slices of these lengths; entries is the length of the first run that is written
--- lettersOf, firstOf, secondOf r == how many elements are written to each slice with the answer r
--- refusalOf r          == document 01's number and the length needed; 0 and 0 where nothing is refused
+-- commonValues r       == document 01's number and values for each case of the answer
+-- answerValues ..      == the number and values that the rules give
 -- Front k before after == k elements stand at the front of a slice, and the rest is as it was
--- CommonWord           == the contract: the answer, the word and the runs at the front of the slices, the rest as it was
+-- CommonWord           == the contract: the answer with its number and values, the word and the runs at the front of the slices, the rest as it was
 use Prim.Native.Nat.{ℕ, suc, _+_, _≤_}
 use mathlib.Core.Path.{_≡_}
 use mathlib.Core.Bool.{Bool, true, cond, _&&_}
@@ -22,7 +22,6 @@ use Rattle.fsbm.specs.Moves.{accepting}
 use Rattle.fsbm.specs.Accepted.{runBound, accepted}
 use Rattle.fsbm.specs.Answers.{refusal}
 use Rattle.fsbm.specs.declared.machine.Machine.{Machine}
-use Rattle.fsbm.specs.declared.answer.Refusal.{Refusal}
 use Rattle.product.specs.Product.{joinFault}
 use Rattle.pieces.specs.Bound.{wordBound}
 use Rattle.common.specs.declared.Lengths.{Lengths}
@@ -57,25 +56,38 @@ module _ (m₁ : Machine) (l₁ : List ℕ) (m₂ : Machine) (l₂ : List ℕ) w
       NoCommonWord)
       (Refused (refusal (joinFault m₁ l₁ m₂ l₂)))
 
-abbrev pub lettersOf : Common → ℕ
-lettersOf (Refused f) = 0
-lettersOf NoCommonWord = 0
-lettersOf (Found k) = k .letters
+-- the refusal's number or 0, the length needed or 0, 1 where a word is found and else 0, and how many elements are written to each slice
+pub record CommonValues : Type 0 where
+  pub refusal : ℕ
+  pub needed : ℕ
+  pub found : ℕ
+  pub letters : ℕ
+  pub first : ℕ
+  pub second : ℕ
 
-abbrev pub firstOf : Common → ℕ
-firstOf (Refused f) = 0
-firstOf NoCommonWord = 0
-firstOf (Found k) = k .first
+-- those of an answer with which nothing is written
+abbrev pub nothingFound : ℕ → ℕ → CommonValues
+nothingFound number needed = record { refusal = number; needed = needed; found = 0; letters = 0; first = 0; second = 0 }
 
-abbrev pub secondOf : Common → ℕ
-secondOf (Refused f) = 0
-secondOf NoCommonWord = 0
-secondOf (Found k) = k .second
+abbrev pub commonValues : Common → CommonValues
+commonValues (Refused f) = nothingFound (f .number) (f .needed)
+commonValues NoCommonWord = nothingFound 0 0
+commonValues (Found k) = record { refusal = 0; needed = 0; found = 1; letters = k .letters; first = k .first; second = k .second }
 
-abbrev pub refusalOf : Common → Refusal
-refusalOf (Refused f) = f
-refusalOf NoCommonWord = refusal 0
-refusalOf (Found k) = refusal 0
+module _ (m₁ : Machine) (l₁ : List ℕ) (m₂ : Machine) (l₂ : List ℕ) where
+  unfoldable pub answerValues : ℕ → ℕ → ℕ → ℕ → CommonValues
+  answerValues word first second entries =
+      cond (eqb (joinFault m₁ l₁ m₂ l₂) 0)
+      (cond (leb (leastCommon m₁ l₁ m₂ l₂) wordBound)
+      (cond (leb (leastCommon m₁ l₁ m₂ l₂) word)
+      (cond (leb (runBound m₁ (leastCommon m₁ l₁ m₂ l₂)) first)
+      (cond (leb (leastCommon m₁ l₁ m₂ l₂ + 1) second)
+      (record { refusal = 0; needed = 0; found = 1; letters = leastCommon m₁ l₁ m₂ l₂; first = entries; second = leastCommon m₁ l₁ m₂ l₂ + 1 })
+      (nothingFound 17 (leastCommon m₁ l₁ m₂ l₂ + 1)))
+      (nothingFound 17 (runBound m₁ (leastCommon m₁ l₁ m₂ l₂))))
+      (nothingFound 18 (leastCommon m₁ l₁ m₂ l₂)))
+      (nothingFound 0 0))
+      (nothingFound (joinFault m₁ l₁ m₂ l₂) 0)
 
 pub record Front (k : ℕ) (before after : List ℕ) : Type 0 where
   pub fits : k ≤ length before
@@ -87,8 +99,10 @@ pub record Front (k : ℕ) (before after : List ℕ) : Type 0 where
 pub record CommonWord (m₁ : Machine) (l₁ : List ℕ) (m₂ : Machine) (l₂ : List ℕ) (word word′ first first′ second second′ : List ℕ) (r : Common) : Type 0 where
   pub entries : ℕ
   pub answer : r ≡ commonAnswer m₁ l₁ m₂ l₂ (length word) (length first) (length second) entries
-  pub of-word : Front (lettersOf r) word word′
-  pub of-first : Front (firstOf r) first first′
-  pub of-second : Front (secondOf r) second second′
+  pub values : commonValues r ≡ answerValues m₁ l₁ m₂ l₂ (length word) (length first) (length second) entries
+  pub bounded : commonValues r .first ≤ runBound m₁ (commonValues r .letters)
+  pub of-word : Front (commonValues r .letters) word word′
+  pub of-first : Front (commonValues r .first) first first′
+  pub of-second : Front (commonValues r .second) second second′
   pub first-accepts : (k : Lengths) → r ≡ Found k → accepting m₁ l₁ (take (k .letters) word′) (take (k .first) first′) ≡ true
   pub second-accepts : (k : Lengths) → r ≡ Found k → accepting m₂ l₂ (take (k .letters) word′) (take (k .second) second′) ≡ true

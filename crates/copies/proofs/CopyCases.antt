@@ -7,6 +7,7 @@
 -- Writing ..           == what the loop that writes has done before entry i
 -- writing-start, writing-copy, writing-other, writing-end == the loop begins, meets an entry 65,534, meets another one, ends
 -- refused-early, refused-run, refused-room, listed == the ways through list_copies: its answer and the slice afterwards
+-- copies-says          == the number and values of its answer
 -- CopyRoom, copy-room  == at an entry 65,534: the copy's numbers are small, and there is room for them
 use Prim.Native.Nat.{ℕ, zero, suc, _+_, _*_, _-_, _≤_, _<_}
 use mathlib.Core.Path.{_≡_, refl, sym, ap, _∙_, subst}
@@ -31,7 +32,7 @@ use Rattle.fsbm.specs.Rules.{Placed, placed}
 use Rattle.fsbm.specs.declared.answer.Refusal.{Refusal}
 use Rattle.copies.specs.declared.Copied.{Copied}
 use Rattle.copies.specs.declared.Copied.the-variants.{Refused, Listed}
-use Rattle.copies.specs.Copies.{Copy, copyAt, copiesFrom, copiesOf, pairs, totalStored, longestCopied, copiesNeed, copiesRefusal, copiesAnswer, copiesAfter}
+use Rattle.copies.specs.Copies.{Copy, copyAt, copiesFrom, copiesOf, pairs, totalStored, longestCopied, copiesNeed, copiesRefusal, copiesAnswer, copiesAfter, copiedValues, copiesValues}
 use Rattle.copies.specs.Copies.Laws.{move-from, total-fits}
 
 pub marksIn : List ℕ → ℕ
@@ -262,6 +263,19 @@ module _ (m : Machine) (list w run : List ℕ) where
             }
 
 -- The public call
+
+module _ (m : Machine) (list w run slice : List ℕ) where
+  pub copies-says : (r : Copied) (after : List ℕ) → (r ≡ copiesAnswer m list w run (length slice)) × (after ≡ copiesAfter m list w run slice)
+      → (r ≡ copiesAnswer m list w run (length slice)) × (after ≡ copiesAfter m list w run slice) × (copiedValues r ≡ copiesValues m list w run (length slice))
+  unfolding copiesAnswer copiesValues
+  copies-says r after (a, s) =
+      (a, s, ap copiedValues a ∙ by (eqb (copiesRefusal m list w run (length slice) .number) 0) (copiesRefusal m list w run (length slice)) (length (copiesOf m list w run)) (totalStored (copiesOf m list w run)))
+    where
+      by : (b : Bool) (f : Refusal) (n total : ℕ)
+          → copiedValues (cond b (Listed n total) (Refused f))
+          ≡ cond b (record { refusal = 0; needed = 0; copies = n; total = total }) (record { refusal = f .number; needed = f .needed; copies = 0; total = 0 })
+      by true f n total = refl
+      by false f n total = refl
 
 module _ (m : Machine) (list w run slice : List ℕ) (n : ℕ) (at-n : n ≡ tableAndWord longestCopied m list w) where
   -- the answer and the slice, by the refusal

@@ -7,6 +7,8 @@
 -- plainLetters m list w run == the letters that the run reads in normal mode
 -- copiesRefusal           == the first refusal of list_copies, number 0 where there is none
 -- copiesAnswer, copiesAfter == what list_copies answers, and what the caller's slice holds afterwards
+-- copiedValues r          == document 01's number and values for each case of the answer
+-- copiesValues            == the number and values that the rules give
 use Prim.Native.Nat.{ℕ, _+_, _*_, _-_}
 use mathlib.Core.List.{List, [], _∷_, _++_}
 use mathlib.Core.Bool.{Bool, true, false, cond}
@@ -89,3 +91,20 @@ copiesAfter m list w run slice =
     cond (eqb (copiesRefusal m list w run (length slice) .number) 0)
     (pairs (copiesOf m list w run) ++ drop (copiesNeed m list w run) slice)
     slice
+
+-- the refusal's number or 0, the length needed or 0, the number of copies and the total of the letters stored
+pub record CopiedValues : Type 0 where
+  pub refusal : ℕ
+  pub needed : ℕ
+  pub copies : ℕ
+  pub total : ℕ
+
+abbrev pub copiedValues : Copied → CopiedValues
+copiedValues (Refused f) = record { refusal = f .number; needed = f .needed; copies = 0; total = 0 }
+copiedValues (Listed copies total) = record { refusal = 0; needed = 0; copies = copies; total = total }
+
+unfoldable pub copiesValues : Machine → List ℕ → List ℕ → List ℕ → ℕ → CopiedValues
+copiesValues m list w run room =
+    cond (eqb (copiesRefusal m list w run room .number) 0)
+    (record { refusal = 0; needed = 0; copies = length (copiesOf m list w run); total = totalStored (copiesOf m list w run) })
+    (record { refusal = copiesRefusal m list w run room .number; needed = copiesRefusal m list w run room .needed; copies = 0; total = 0 })

@@ -9,7 +9,7 @@ ghost use lib.ListN.{length, drop};
 ghost use Rattle.fsbm.specs.Machine.{wellFormed};
 ghost use Rattle.fsbm.specs.Moves.{accepting};
 ghost use Rattle.fsbm.specs.declared.machine.Machine.{Machine};
-ghost use Rattle.copies.specs.Copies.{copiesOf, pairs, totalStored, copiesAnswer, copiesAfter};
+ghost use Rattle.copies.specs.Copies.{copiesOf, pairs, totalStored, copiesAnswer, copiesAfter, copiedValues, copiesValues};
 use fsbm::answer;
 use fsbm::answer::Refusal;
 use fsbm::config::Config;
@@ -79,8 +79,9 @@ fn write_copies(m: Machine, list: &[u16], word: &[u8], run: &[u16], copies: &mut
 // needed), in this order. A refusal leaves the slice as it was; on success what stands past the copies is as it was.
 // Time: the table and the word once, the run three times. Memory: none beside its arguments.
 pub fn list_copies(m: Machine, list: &[u16], word: &[u8], run: &[u16], copies: &mut [u16]) -> Copied
-    ensures answer { λ r. ⌜ r ≡ copiesAnswer m (now (list .entry)) (now (word .entry)) (now (run .entry)) (length (now (copies .entry))) ⌝ }
-    ensures written { λ r. ⌜ now (copies .exit) ≡ copiesAfter m (now (list .entry)) (now (word .entry)) (now (run .entry)) (now (copies .entry)) ⌝ }
+    ensures { λ r. ⌜ (r ≡ copiesAnswer m (now (list .entry)) (now (word .entry)) (now (run .entry)) (length (now (copies .entry))))
+        × (now (copies .exit) ≡ copiesAfter m (now (list .entry)) (now (word .entry)) (now (run .entry)) (now (copies .entry)))
+        × (copiedValues r ≡ copiesValues m (now (list .entry)) (now (word .entry)) (now (run .entry)) (length (now (copies .entry)))) ⌝ }
 {
     let number = answer::table_and_word(255, m, list, word);
     if number != 0 {

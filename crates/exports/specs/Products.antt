@@ -1,10 +1,9 @@
--- The exported answers: document 01's number and values for each case.
+-- The records that C and Rust see of joining and of the copy list, made of the number and values of each answer.
 --
--- joinedOf p           == the answer of join as Rust and C see it
--- copyListOf c         == the answer of list_copies as Rust and C see it
+-- joinedOf p           == the record of the answer p of join, which is a record already
+-- copyListRecord v     == the record of the number and values v of list_copies
 use Rattle.fsbm.specs.declared.answer.Refusal.{Refusal}
-use Rattle.copies.specs.declared.Copied.{Copied}
-use Rattle.copies.specs.declared.Copied.the-variants.{Refused, Listed}
+use Rattle.copies.specs.Copies.{CopiedValues}
 use Rattle.product.specs.declared.Product.{Product}
 use Rattle.exports.specs.declared.products.Joined.{Joined}
 use Rattle.exports.specs.declared.products.CopyList.{CopyList}
@@ -12,6 +11,5 @@ use Rattle.exports.specs.declared.products.CopyList.{CopyList}
 abbrev pub joinedOf : Product → Joined
 joinedOf p = record { refusal = p .refusal .number; needed = p .refusal .needed; machine = p .machine }
 
-abbrev pub copyListOf : Copied → CopyList
-copyListOf (Refused f) = record { refusal = f .number; needed = f .needed; copies = 0; total = 0 }
-copyListOf (Listed copies total) = record { refusal = 0; needed = 0; copies = copies; total = total }
+abbrev pub copyListRecord : CopiedValues → CopyList
+copyListRecord v = record { refusal = v .refusal; needed = v .needed; copies = v .copies; total = v .total }

@@ -1,19 +1,17 @@
--- The records that C and Rust see: document 01's numbers for each answer of the run's calls.
+-- The records that C and Rust see of the run's calls, made of the number and values of each answer.
 --
 -- configOf r          == the configuration that a record describes
 -- recordOf c          == the record of a configuration
--- steppedRecord r a   == the record for the answer a of Config::step, from the record r
--- checkedOf a         == the record for the answer a of check_run
+-- movedRecord r next  == the record of a move from the record r
+-- steppedRecord r v   == the record of the number and values v of Config::step, from the record r
+-- checkedRecord v     == the record of the number and values v of check_run
 use Prim.Native.Nat.{ℕ}
 use mathlib.Core.Bool.{Bool, true, false, cond}
 use lib.Dec.{ltb, eqb}
 use Rattle.fsbm.specs.declared.config.Config.{Config}
 use Rattle.fsbm.specs.declared.config.Mode.{Mode}
 use Rattle.fsbm.specs.declared.config.Mode.the-variants.{Normal, Buffering, Emptying}
-use Rattle.fsbm.specs.declared.answer.Stepped.{Stepped}
-use Rattle.fsbm.specs.declared.answer.Stepped.the-variants.{Refused as StepRefused, NotAllowed, Moved}
-use Rattle.fsbm.specs.declared.answer.Checked.{Checked}
-use Rattle.fsbm.specs.declared.answer.Checked.the-variants.{Refused as CheckRefused, NotAccepting, Accepting}
+use Rattle.fsbm.specs.Answers.{SteppedValues, CheckedValues}
 use Rattle.exports.specs.declared.run.ConfigRecord.{ConfigRecord}
 use Rattle.exports.specs.declared.run.SteppedRecord.{SteppedRecord}
 use Rattle.exports.specs.declared.run.CheckedRecord.{CheckedRecord}
@@ -33,17 +31,15 @@ configOf r = record { position = r .position; state = r .state; mode = modeOf (r
 abbrev pub recordOf : Config → ConfigRecord
 recordOf c = record { position = c .position; state = c .state; mode = modeNumber (c .mode); start = c .start; end = c .end }
 
--- a move from the record's configuration, where its mode is one
-abbrev pub steppedOf : ConfigRecord → Config → SteppedRecord
-steppedOf r next =
-    cond (ltb 2 (r .mode)) (record { refusal = 0; allowed = 0; config = r }) (record { refusal = 0; allowed = 1; config = recordOf next })
+-- the record that came in, where no move was made; so also where its mode is none
+abbrev pub noMove : ConfigRecord → ℕ → SteppedRecord
+noMove r refusal = record { refusal = refusal; allowed = 0; config = r }
 
-abbrev pub steppedRecord : ConfigRecord → Stepped → SteppedRecord
-steppedRecord r (StepRefused refusal) = record { refusal = refusal .number; allowed = 0; config = r }
-steppedRecord r NotAllowed = record { refusal = 0; allowed = 0; config = r }
-steppedRecord r (Moved next) = steppedOf r next
+abbrev pub movedRecord : ConfigRecord → Config → SteppedRecord
+movedRecord r next = cond (ltb 2 (r .mode)) (noMove r 0) (record { refusal = 0; allowed = 1; config = recordOf next })
 
-abbrev pub checkedOf : Checked → CheckedRecord
-checkedOf (CheckRefused refusal) = record { refusal = refusal .number; accepting = 0 }
-checkedOf NotAccepting = record { refusal = 0; accepting = 0 }
-checkedOf Accepting = record { refusal = 0; accepting = 1 }
+abbrev pub steppedRecord : ConfigRecord → SteppedValues → SteppedRecord
+steppedRecord r v = cond (eqb (v .allowed) 1) (movedRecord r (v .config)) (noMove r (v .refusal))
+
+abbrev pub checkedRecord : CheckedValues → CheckedRecord
+checkedRecord v = record { refusal = v .refusal; accepting = v .accepting }

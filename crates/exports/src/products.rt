@@ -1,9 +1,9 @@
 // The product of two machines and the copy list of a run.
 ghost use mathlib.Core.Path.{_≡_};
 ghost use lib.ListN.{length};
-ghost use Rattle.copies.specs.Copies.{copiesAnswer, copiesAfter};
+ghost use Rattle.copies.specs.Copies.{copiesAfter, copiesValues};
 ghost use Rattle.product.specs.Product.{joinAnswer, joinAfter};
-ghost use Rattle.exports.specs.Products.{joinedOf, copyListOf};
+ghost use Rattle.exports.specs.Products.{joinedOf, copyListRecord};
 use copies::Copied;
 use fsbm::machine::Machine;
 
@@ -55,7 +55,7 @@ pub extern "C" fn zagvirk_list_copies(
     run: &[u16],
     copies: &mut [u16],
 ) -> CopyList
-    ensures answer { λ r. ⌜ r ≡ copyListOf (copiesAnswer machine (now (list .entry)) (now (word .entry)) (now (run .entry)) (length (now (copies .entry)))) ⌝ }
+    ensures answer { λ r. ⌜ r ≡ copyListRecord (copiesValues machine (now (list .entry)) (now (word .entry)) (now (run .entry)) (length (now (copies .entry)))) ⌝ }
     ensures written { λ r. ⌜ now (copies .exit) ≡ copiesAfter machine (now (list .entry)) (now (word .entry)) (now (run .entry)) (now (copies .entry)) ⌝ }
 {
     let answer = copies::list_copies(machine, list, word, run, copies);

@@ -1,6 +1,7 @@
 // Recognition with a run.
 ghost use mathlib.Core.Path.{_≡_};
-ghost use Rattle.exports.specs.Recognize.{Exported, recordOfAnswer};
+ghost use Rattle.recognize.specs.Recognition.{recognizedValues};
+ghost use Rattle.exports.specs.Recognize.{Exported, recognizedRecord};
 use fsbm::machine::Machine;
 use recognize::Recognized;
 
@@ -14,7 +15,7 @@ pub struct RecognitionRecord {
 }
 
 fn record_of_answer(answer: Recognized) -> RecognitionRecord
-    ensures { λ r. ⌜ r ≡ recordOfAnswer answer ⌝ }
+    ensures { λ r. ⌜ r ≡ recognizedRecord (recognizedValues answer) ⌝ }
 {
     match answer {
         Recognized::Refused(refusal) => RecognitionRecord {

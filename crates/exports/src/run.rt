@@ -1,7 +1,7 @@
 // One entry of a run, and a whole run.
 ghost use mathlib.Core.Path.{_≡_};
-ghost use Rattle.fsbm.specs.Answers.{stepAnswer, checkAnswer};
-ghost use Rattle.exports.specs.Run.{modeOf, modeNumber, configOf, recordOf, steppedRecord, steppedOf, checkedOf};
+ghost use Rattle.fsbm.specs.Answers.{stepValues, checkValues};
+ghost use Rattle.exports.specs.Run.{modeOf, modeNumber, configOf, recordOf, movedRecord, steppedRecord, checkedRecord};
 use fsbm::answer::Checked;
 use fsbm::answer::Stepped;
 use fsbm::config::Config;
@@ -89,7 +89,7 @@ pub extern "C" fn zagvirk_step(
     config: ConfigRecord,
     entry: u16,
 ) -> SteppedRecord
-    ensures { λ r. ⌜ r ≡ steppedRecord config (stepAnswer machine (now (list .entry)) (now (word .entry)) (configOf config) entry) ⌝ }
+    ensures { λ r. ⌜ r ≡ steppedRecord config (stepValues machine (now (list .entry)) (now (word .entry)) (configOf config) entry) ⌝ }
 {
     match config_of(config).step(machine, list, word, entry) {
         Stepped::Refused(refusal) => SteppedRecord {
@@ -107,7 +107,7 @@ pub extern "C" fn zagvirk_step(
 }
 
 fn moved_record(config: ConfigRecord, next: Config) -> SteppedRecord
-    ensures { λ r. ⌜ r ≡ steppedOf config next ⌝ }
+    ensures { λ r. ⌜ r ≡ movedRecord config next ⌝ }
 {
     if 2 < config.mode {
         return SteppedRecord {
@@ -131,7 +131,7 @@ pub extern "C" fn zagvirk_check_run(
     word: &[u8],
     run: &[u16],
 ) -> CheckedRecord
-    ensures { λ r. ⌜ r ≡ checkedOf (checkAnswer machine (now (list .entry)) (now (word .entry)) (now (run .entry))) ⌝ }
+    ensures { λ r. ⌜ r ≡ checkedRecord (checkValues machine (now (list .entry)) (now (word .entry)) (now (run .entry))) ⌝ }
 {
     match fsbm::run::check_run(machine, list, word, run) {
         Checked::Refused(refusal) => CheckedRecord {

@@ -1,10 +1,10 @@
 // Sheets and written words, for other languages. A field that does not apply is 0.
 ghost use mathlib.Core.Path.{_≡_};
 ghost use lib.ListN.{length};
-ghost use Rattle.sheet.specs.Reading.{readList};
-ghost use Rattle.sheet.specs.Writing.{writeSheet};
-ghost use Rattle.spelling.specs.Spelling.{translateWord};
-ghost use Rattle.exports.specs.SheetAnswers.{readSheet, sheetWritten, translation};
+ghost use Rattle.sheet.specs.Reading.{readAnswer, readList};
+ghost use Rattle.sheet.specs.Writing.{writeSheet, writeValues};
+ghost use Rattle.spelling.specs.Spelling.{translateWord, translateValues};
+ghost use Rattle.exports.specs.SheetAnswers.{readRecord, writtenRecord, translationRecord};
 use fsbm::machine::Machine;
 use sheet::read;
 use sheet::write;
@@ -38,7 +38,7 @@ pub struct Translation {
 // sheet::read::read_sheet.
 #[no_mangle]
 pub extern "C" fn zagvirk_read_sheet(sheet: &[u8], list: &mut [u16]) -> ReadSheet
-    ensures { λ r. ⌜ (r ≡ readSheet (now (sheet .entry)) (length (now (list .entry)))) × (now (list .exit) ≡ readList (now (sheet .entry)) (now (list .entry))) ⌝ }
+    ensures { λ r. ⌜ (r ≡ readRecord (readAnswer (now (sheet .entry)) (length (now (list .entry))))) × (now (list .exit) ≡ readList (now (sheet .entry)) (now (list .entry))) ⌝ }
 {
     let answer = read::read_sheet(sheet, list);
     let machine = answer.machine;
@@ -56,7 +56,7 @@ pub extern "C" fn zagvirk_write_sheet(
     list: &[u16],
     sheet: &mut [u8],
 ) -> SheetWritten
-    ensures { λ r. ⌜ (r ≡ sheetWritten machine (now (list .entry)) (length (now (sheet .entry)))) × (now (sheet .exit) ≡ writeSheet machine (now (list .entry)) (now (sheet .entry))) ⌝ }
+    ensures { λ r. ⌜ (r ≡ writtenRecord (writeValues machine (now (list .entry)) (length (now (sheet .entry))))) × (now (sheet .exit) ≡ writeSheet machine (now (list .entry)) (now (sheet .entry))) ⌝ }
 {
     let answer = write::write_sheet(machine, list, sheet);
     match answer {
@@ -76,7 +76,7 @@ pub extern "C" fn zagvirk_write_sheet(
 // spelling::translate.
 #[no_mangle]
 pub extern "C" fn zagvirk_translate(bytes: &[u8], word: &mut [u8]) -> Translation
-    ensures { λ r. ⌜ (r ≡ translation (now (bytes .entry)) (length (now (word .entry)))) × (now (word .exit) ≡ translateWord (now (bytes .entry)) (now (word .entry))) ⌝ }
+    ensures { λ r. ⌜ (r ≡ translationRecord (translateValues (now (bytes .entry)) (length (now (word .entry))))) × (now (word .exit) ≡ translateWord (now (bytes .entry)) (now (word .entry))) ⌝ }
 {
     let answer = spelling::translate(bytes, word);
     match answer {

@@ -1,10 +1,11 @@
 -- The definitions of specs/Answers.antt case by case, over plain variables: what each way through a function gives.
 --
 -- step-refused, step-moved, check-refused, check-tried == the ways through Config::step and check_run
+-- step-says, check-says == an answer that is right has the right number and values
 -- table-good == what no refusal says of a table and a word
 use Prim.Native.Nat.{ℕ, _≤_}
 use mathlib.Core.Path.{_≡_, refl, sym, _∙_, ap}
-use mathlib.Core.Bool.{Bool, true, false}
+use mathlib.Core.Bool.{Bool, true, false, cond}
 use mathlib.Core.List.{List}
 use mathlib.Core.Logic.{_⊎_, inl, inr}
 use native.Mathlib.Omega.{arith}
@@ -22,7 +23,7 @@ use Rattle.fsbm.specs.declared.answer.Stepped.the-variants as stepped
 use Rattle.fsbm.specs.declared.answer.Checked.{Checked}
 use Rattle.fsbm.specs.declared.answer.Checked.the-variants as checked
 use Rattle.fsbm.specs.Moves.{move, accepting}
-use Rattle.fsbm.specs.Answers.{longestChecked, tableAndWord, refusal, steppedBy, stepAnswer, checkedBy, checkAnswer}
+use Rattle.fsbm.specs.Answers.{longestChecked, tableAndWord, refusal, steppedBy, stepAnswer, steppedValues, stepValues, checkedBy, checkAnswer, checkedValues, checkValues}
 
 -- n is the number that the tests of the table and the word give
 module _ (m : Machine) (list w : List ℕ) (n : ℕ) (at-n : n ≡ tableAndWord longestChecked m list w) where
@@ -47,6 +48,31 @@ module _ (m : Machine) (list w : List ℕ) (n : ℕ) (at-n : n ≡ tableAndWord 
   pub check-tried : (run : List ℕ) → n ≡ 0 → (b : Bool) → b ≡ accepting m list w run → checkedBy b ≡ checkAnswer m list w run
   unfolding checkAnswer
   check-tried run h b at-b = first _ (no-refusal h) (ap checkedBy at-b)
+
+module _ (m : Machine) (list w : List ℕ) where
+  pub step-says : (c : Config) (e : ℕ) (r : Stepped) → r ≡ stepAnswer m list w c e → (r ≡ stepAnswer m list w c e) × (steppedValues c r ≡ stepValues m list w c e)
+  unfolding stepAnswer stepValues
+  step-says c e r h = (h, ap (steppedValues c) h ∙ at (eqb (tableAndWord longestChecked m list w) 0) (tableAndWord longestChecked m list w) (move m list w c e))
+    where
+      moved : (b : Bool) (next : Config) → steppedValues c (cond b (stepped.Moved next) stepped.NotAllowed) ≡ record { refusal = 0; allowed = cond b 1 0; config = cond b next c }
+      moved true next = refl
+      moved false next = refl
+
+      at : (b : Bool) (n : ℕ) (v : Move)
+          → steppedValues c (cond b (steppedBy v) (stepped.Refused (refusal n)))
+          ≡ cond b (record { refusal = 0; allowed = cond (v .allowed) 1 0; config = cond (v .allowed) (v .config) c }) (record { refusal = n; allowed = 0; config = c })
+      at true n v = moved (v .allowed) (v .config)
+      at false n v = refl
+
+  pub check-says : (run : List ℕ) (r : Checked) → r ≡ checkAnswer m list w run → (r ≡ checkAnswer m list w run) × (checkedValues r ≡ checkValues m list w run)
+  unfolding checkAnswer checkValues
+  check-says run r h = (h, ap checkedValues h ∙ at (eqb (tableAndWord longestChecked m list w) 0) (tableAndWord longestChecked m list w) (accepting m list w run))
+    where
+      at : (b : Bool) (n : ℕ) (a : Bool)
+          → checkedValues (cond b (checkedBy a) (checked.Refused (refusal n))) ≡ cond b (record { refusal = 0; accepting = cond a 1 0 }) (record { refusal = n; accepting = 0 })
+      at true n true = refl
+      at true n false = refl
+      at false n a = refl
 
 -- a table and a word that no test refuses
 pub table-good : (longest : ℕ) (m : Machine) (list w : List ℕ) → tableAndWord longest m list w ≡ 0 → (wellFormed m list ≡ true) × (length w ≤ longest)

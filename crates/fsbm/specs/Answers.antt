@@ -2,15 +2,18 @@
 --
 -- goodLetters letters w       == every letter of w is one of the machine's
 -- tableAndWord longest m list w == the first refusal of a table and a word: 16, 9, 8; 0 where there is none
+-- noMachine                   == the machine in the answer of a call that refuses
 -- stepAnswer m list w c e     == what Config::step answers
 -- checkAnswer m list w run    == what check_run answers
+-- steppedValues, checkedValues == document 01's number and values for each case of the two answers
+-- stepValues, checkValues     == the number and values that the rules give
 use Prim.Native.Nat.{ℕ}
 use mathlib.Core.List.{List}
 use mathlib.Core.Bool.{Bool, true, false, cond, _&&_}
-use lib.ListN.{length}
+use lib.ListN.{length, replicate}
 use lib.Dec.{leb, eqb}
 use Rattle.graphs.specs.Search.{allIn}
-use Rattle.fsbm.specs.Machine.{wellFormed}
+use Rattle.fsbm.specs.Machine.{wellFormed, maxStates}
 use Rattle.fsbm.specs.Moves.{move, accepting}
 use Rattle.fsbm.specs.declared.machine.Machine.{Machine}
 use Rattle.fsbm.specs.declared.config.Config.{Config}
@@ -36,6 +39,10 @@ goodLetters letters w = allIn (goodLetter letters) w
 unfoldable pub tableAndWord : ℕ → Machine → List ℕ → List ℕ → ℕ
 tableAndWord longest m list w = cond (wellFormed m list) (cond (leb (length w) longest) (cond (goodLetters (m .letters) w) 0 8) 9) 16
 
+-- the machine in the answer of a call that makes one and refuses
+abbrev pub noMachine : Machine
+noMachine = record { states = 0; letters = 0; transitions = 0; marks = replicate maxStates 0 }
+
 -- a refusal that no slice is too short for
 abbrev pub refusal : ℕ → Refusal
 refusal n = record { number = n; needed = 0 }
@@ -55,3 +62,39 @@ unfoldable pub checkAnswer : Machine → List ℕ → List ℕ → List ℕ → 
 checkAnswer m list w run =
     cond (eqb (tableAndWord longestChecked m list w) 0) (checkedBy (accepting m list w run))
     (checked.Refused (refusal (tableAndWord longestChecked m list w)))
+
+-- Document 01's number and values for each case of an answer
+
+-- Stepped: the refusal's number or 0, 1 for an allowed move and else 0, and the configuration after the entry, which is the old one where no
+-- move was made
+pub record SteppedValues : Type 0 where
+  pub refusal : ℕ
+  pub allowed : ℕ
+  pub config : Config
+
+abbrev pub steppedValues : Config → Stepped → SteppedValues
+steppedValues c (stepped.Refused f) = record { refusal = f .number; allowed = 0; config = c }
+steppedValues c stepped.NotAllowed = record { refusal = 0; allowed = 0; config = c }
+steppedValues c (stepped.Moved next) = record { refusal = 0; allowed = 1; config = next }
+
+unfoldable pub stepValues : Machine → List ℕ → List ℕ → Config → ℕ → SteppedValues
+stepValues m list w c e =
+    cond (eqb (tableAndWord longestChecked m list w) 0)
+    (record { refusal = 0; allowed = cond (move m list w c e .allowed) 1 0; config = cond (move m list w c e .allowed) (move m list w c e .config) c })
+    (record { refusal = tableAndWord longestChecked m list w; allowed = 0; config = c })
+
+-- Checked: the refusal's number or 0, and 1 for a run that accepts and else 0
+pub record CheckedValues : Type 0 where
+  pub refusal : ℕ
+  pub accepting : ℕ
+
+abbrev pub checkedValues : Checked → CheckedValues
+checkedValues (checked.Refused f) = record { refusal = f .number; accepting = 0 }
+checkedValues checked.NotAccepting = record { refusal = 0; accepting = 0 }
+checkedValues checked.Accepting = record { refusal = 0; accepting = 1 }
+
+unfoldable pub checkValues : Machine → List ℕ → List ℕ → List ℕ → CheckedValues
+checkValues m list w run =
+    cond (eqb (tableAndWord longestChecked m list w) 0)
+    (record { refusal = 0; accepting = cond (accepting m list w run) 1 0 })
+    (record { refusal = tableAndWord longestChecked m list w; accepting = 0 })

@@ -5,7 +5,7 @@ ghost use mathlib.Core.Bool.{false, not, _&&_};
 ghost use Rattle.fsbm.specs.Machine.{buffering};
 ghost use Rattle.fsbm.specs.declared.machine.Machine.{Machine};
 ghost use Rattle.fsbm.specs.declared.config.Mode.the-variants.{Normal, Buffering, Emptying};
-ghost use Rattle.fsbm.specs.Answers.{stepAnswer};
+ghost use Rattle.fsbm.specs.Answers.{stepAnswer, steppedValues, stepValues};
 ghost use Rattle.fsbm.specs.Moves.{wellPlaced, bufferFits, readsLetter, advanced, goes, changes, move, startAt, accepts};
 ghost use Rattle.fsbm.specs.Taken.{passes, readsStored, mayTake, after};
 use crate::answer;
@@ -337,7 +337,7 @@ impl Config {
     // list break the rules of a table), 9 (a word of more than 1,048,576 letters), 8 (a letter that is not there), in this order.
     // Time: the table and the word, each once. Memory: none beside its arguments.
     pub fn step(self, m: Machine, list: &[u16], word: &[u8], entry: u16) -> Stepped
-        ensures { λ r. ⌜ r ≡ stepAnswer m (now (list .entry)) (now (word .entry)) self entry ⌝ }
+        ensures { λ r. ⌜ (r ≡ stepAnswer m (now (list .entry)) (now (word .entry)) self entry) × (steppedValues self r ≡ stepValues m (now (list .entry)) (now (word .entry)) self entry) ⌝ }
     {
         let number = answer::table_and_word(1048576, m, list, word);
         if number != 0 {

@@ -5,7 +5,7 @@ ghost use mathlib.Core.Bool.{true};
 ghost use lib.ListN.{length, take, drop};
 ghost use Rattle.fsbm.specs.Machine.{wellFormed};
 ghost use Rattle.fsbm.specs.Moves.{wellPlaced, acceptingFrom, accepting};
-ghost use Rattle.fsbm.specs.Answers.{checkAnswer};
+ghost use Rattle.fsbm.specs.Answers.{checkAnswer, checkedValues, checkValues};
 use crate::answer;
 use crate::answer::Checked;
 use crate::answer::Refusal;
@@ -82,7 +82,7 @@ pub fn is_accepting_run(m: Machine, list: &[u16], word: &[u8], run: &[u16]) -> b
 // of more than 1,048,576 letters), 8 (a letter that is not there), in this order; no run is refused.
 // Time: the table, the word and the run, each once. Memory: none beside its arguments.
 pub fn check_run(m: Machine, list: &[u16], word: &[u8], run: &[u16]) -> Checked
-    ensures { λ r. ⌜ r ≡ checkAnswer m (now (list .entry)) (now (word .entry)) (now (run .entry)) ⌝ }
+    ensures { λ r. ⌜ (r ≡ checkAnswer m (now (list .entry)) (now (word .entry)) (now (run .entry))) × (checkedValues r ≡ checkValues m (now (list .entry)) (now (word .entry)) (now (run .entry))) ⌝ }
 {
     let number = answer::table_and_word(1048576, m, list, word);
     if number != 0 {

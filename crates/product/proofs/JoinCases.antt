@@ -12,14 +12,14 @@ use lib.ListN.{length, drop}
 use lib.Dec.{leb, eqb}
 use borrow.Author.Tests.{eq-eqb, ne-eqb, le-leb, lt-leb}
 use Rattle.graphs.specs.Search.Loops.{first, second}
-use Rattle.fsbm.specs.Answers.{refusal}
+use Rattle.fsbm.specs.Answers.{refusal, noMachine}
 use Rattle.fsbm.specs.declared.machine.Machine.{Machine}
 use Rattle.fsbm.specs.declared.answer.Refusal.{Refusal}
 use Rattle.product.specs.declared.Product.{Product}
 use Rattle.product.specs.Count.{joined-length}
-use Rattle.product.specs.Each.{put}
+use Rattle.product.specs.Each.{replaced}
 use Rattle.product.specs.Each.Laws.{put-front}
-use Rattle.product.specs.Product.{joinedCount, joinedMarks, joinedMachine, joinedTransitions, joinFault, joinRefusal, noMachine, joinAnswer, joinAfter}
+use Rattle.product.specs.Product.{joinedCount, joinedMarks, joinedMachine, joinedTransitions, joinFault, joinRefusal, joinAnswer, joinAfter}
 
 module _ (m₁ : Machine) (l₁ : List ℕ) (m₂ : Machine) (l₂ list : List ℕ) (n : ℕ) (at-n : n ≡ joinFault m₁ l₁ m₂ l₂) where
   abbrev Answers : Product → List ℕ → Type 0
@@ -50,7 +50,7 @@ module _ (m₁ : Machine) (l₁ : List ℕ) (m₂ : Machine) (l₂ list : List �
     pub long-enough : count * 3 ≤ length list → length (joinedTransitions m₁ l₁ m₂ l₂) ≤ length list
     long-enough h = let size = joined-length m₁ l₁ m₂ l₂ (sym at-n ∙ none) in omega arith
 
-    pub joins : count * 3 ≤ length list → (marks : List ℕ) → marks ≡ joinedMarks m₁ m₂ → (after : List ℕ) → after ≡ put list 0 (joinedTransitions m₁ l₁ m₂ l₂)
+    pub joins : count * 3 ≤ length list → (marks : List ℕ) → marks ≡ joinedMarks m₁ m₂ → (after : List ℕ) → after ≡ replaced list 0 (joinedTransitions m₁ l₁ m₂ l₂)
         → Answers (record { refusal = record { number = 0; needed = 0 }; machine = record { states = m₁ .states * m₂ .states; letters = m₁ .letters; transitions = count; marks = marks } }) after
     unfolding joinRefusal joinAnswer joinAfter joinedMachine
     joins h marks at-marks after at-after =

@@ -1,6 +1,6 @@
 -- The functions of src/write.rt case by case, over plain variables.
 --
--- put-three               == three stores are one put
+-- put-three               == three stores are one
 -- flat-append, flat-each  == a flat list of parts
 -- threes-length           == the length of parts of three numbers
 -- letter-next, letter-end, letter-room == the loop over the transitions of the second by one letter
@@ -30,17 +30,17 @@ use Rattle.fsbm.specs.Machine.{transitionAt}
 use Rattle.fsbm.specs.declared.machine.Machine.{Machine}
 use Rattle.fsbm.specs.declared.machine.Transition.{Transition}
 use Rattle.graphs.specs.Bools.{cond-elim}
-use Rattle.product.specs.Each.{each, put}
+use Rattle.product.specs.Each.{each, replaced}
 use Rattle.product.specs.Each.Laws.{each-step, each-over, each-same, each-none, each-block, each-skip, length-each, Putting, putting-start, putting-room, putting-step, putting-at, putting-end}
 use Rattle.product.specs.Each.Sums.{sum-const}
 use Rattle.product.specs.Letters.{Marked, Matches, Occurs, Starts, Indexed, Common, Least, Searching, NextMove}
 use Rattle.product.specs.Order.{letterKey, Lower, Block, Moving}
 use Rattle.product.specs.Product.{joint, jointMoves, joinedFrom, joined, flat, joinedTransitions}
 use Rattle.product.specs.Steps.{letterMove}
-use Rattle.product.specs.Tables.{Table, Joinable, pair-below, pair-same}
+use Rattle.product.specs.Tables.{TableRules, Joinable, pair-below, pair-same}
 
-pub put-three : (l : List ℕ) (k a b c : ℕ) → k + 3 ≤ length l → set (set (set l k a) (k + 1) b) (k + 2) c ≡ put l k (a ∷ b ∷ c ∷ [])
-unfolding put
+pub put-three : (l : List ℕ) (k a b c : ℕ) → k + 3 ≤ length l → set (set (set l k a) (k + 1) b) (k + 2) c ≡ replaced l k (a ∷ b ∷ c ∷ [])
+unfolding replaced
 put-three l k a b c h =
     let one : k + 1 ≡ suc k = omega arith in
     let two : k + 2 ≡ suc (suc k) = omega arith in
@@ -79,16 +79,16 @@ module _ (second : List ℕ) (lo hi from letter base : ℕ) (entry : List ℕ) (
     pub letter-room : u < hi → at + 3 ≤ length list
     letter-room lt = putting-room (threes second from letter base u) (each (u + 1) (hi - (u + 1)) (threes second from letter base)) (p .2) (each-step u hi (threes second from letter base) lt)
 
-    pub letter-next : u < hi → (t : Transition) → t ≡ transitionAt second u → (list′ : List ℕ) → list′ ≡ put list at (from ∷ letter ∷ (base + t .to) ∷ []) → Lettering list′ (at + 3) (u + 1)
+    pub letter-next : u < hi → (t : Transition) → t ≡ transitionAt second u → (list′ : List ℕ) → list′ ≡ replaced list at (from ∷ letter ∷ (base + t .to) ∷ []) → Lettering list′ (at + 3) (u + 1)
     letter-next lt t at-t list′ e =
         let low = p .0 in (
           omega arith,
           omega arith,
           putting-step (threes second from letter base u) (each (u + 1) (hi - (u + 1)) (threes second from letter base)) (p .2) (each-step u hi (threes second from letter base) lt)
-              (e ∙ ap (λ (z : Transition). put list at (from ∷ letter ∷ (base + z .to) ∷ [])) at-t),
+              (e ∙ ap (λ (z : Transition). replaced list at (from ∷ letter ∷ (base + z .to) ∷ [])) at-t),
         )
 
-    pub letter-end : hi ≤ u → list ≡ put entry k (each lo (hi - lo) (threes second from letter base))
+    pub letter-end : hi ≤ u → list ≡ replaced entry k (each lo (hi - lo) (threes second from letter base))
     letter-end le = putting-end (p .2) (each-over u hi (threes second from letter base) le) .0
 
 -- What one transition of the first gives
@@ -98,10 +98,10 @@ module _ (n count : ℕ) (second : List ℕ) (r : ℕ) (t : Transition) where
   unfolding jointMoves flat
   epsilon-is e = ap flat (sym (first _ (eq-eqb (t .letter) 0 e) refl))
 
-  pub epsilon-writes : (list list′ : List ℕ) (at from to : ℕ) → t .letter ≡ 0 → from ≡ t .from * n + r → to ≡ t .to * n + r → list′ ≡ put list at (from ∷ 0 ∷ to ∷ [])
-      → (list′ ≡ put list at (flat (jointMoves n count second r t))) × (at + 3 ≡ at + length (flat (jointMoves n count second r t)))
+  pub epsilon-writes : (list list′ : List ℕ) (at from to : ℕ) → t .letter ≡ 0 → from ≡ t .from * n + r → to ≡ t .to * n + r → list′ ≡ replaced list at (from ∷ 0 ∷ to ∷ [])
+      → (list′ ≡ replaced list at (flat (jointMoves n count second r t))) × (at + 3 ≡ at + length (flat (jointMoves n count second r t)))
   epsilon-writes list list′ at from to z ef et e = (
-    e ∙ (λ i. put list at (ef i ∷ 0 ∷ et i ∷ [])) ∙ ap (put list at) (sym (epsilon-is z)),
+    e ∙ (λ i. replaced list at (ef i ∷ 0 ∷ et i ∷ [])) ∙ ap (replaced list at) (sym (epsilon-is z)),
     ap (λ (l : List ℕ). at + length l) (sym (epsilon-is z)),
   )
 
@@ -162,10 +162,10 @@ module _ (n count : ℕ) (second : List ℕ) (r : ℕ) (t : Transition) where
     letters-length = ap length letters-is ∙ threes-length lo (hi - lo) (t .from * n + r) (t .letter) (λ u. t .to * n + 0 + transitionAt second u .to)
 
     pub letters-write : (list list′ : List ℕ) (at from base : ℕ) → from ≡ t .from * n + r → base ≡ t .to * n + 0
-        → list′ ≡ put list at (each lo (hi - lo) (λ u. from ∷ t .letter ∷ (base + transitionAt second u .to) ∷ []))
-        → (list′ ≡ put list at (flat (jointMoves n count second r t))) × (at + (hi - lo) * 3 ≡ at + length (flat (jointMoves n count second r t)))
+        → list′ ≡ replaced list at (each lo (hi - lo) (λ u. from ∷ t .letter ∷ (base + transitionAt second u .to) ∷ []))
+        → (list′ ≡ replaced list at (flat (jointMoves n count second r t))) × (at + (hi - lo) * 3 ≡ at + length (flat (jointMoves n count second r t)))
     letters-write list list′ at from base ef eb e = (
-      e ∙ (λ i. put list at (each lo (hi - lo) (threes second (ef i) (t .letter) (eb i)))) ∙ ap (put list at) (sym letters-is),
+      e ∙ (λ i. replaced list at (each lo (hi - lo) (threes second (ef i) (t .letter) (eb i)))) ∙ ap (replaced list at) (sym letters-is),
       ap (λ (z : ℕ). at + z) (sym letters-length),
     )
 
@@ -325,14 +325,14 @@ module _ {list starts letters : List ℕ} {p i hi : ℕ} (s : Searching list sta
 
 -- Tables
 
-pub keys-sorted : (m : Machine) (list : List ℕ) → Table m list → (i k : ℕ) → i ≤ k → k < m .transitions → letterKey list i ≤ letterKey list k
+pub keys-sorted : (m : Machine) (list : List ℕ) → TableRules m list → (i k : ℕ) → i ≤ k → k < m .transitions → letterKey list i ≤ letterKey list k
 keys-sorted m list t i k le lt = at (ℕ-discrete i k)
   where
     at : Dec (i ≡ k) → letterKey list i ≤ letterKey list k
     at (yes e) = let same = ap (letterKey list) e in omega arith
     at (no d) = let up = t .rising i k (omega arith) lt in let small = t .to-below k lt in let few = t .states-fit in omega arith
 
-pub table-key : (m : Machine) (list : List ℕ) → Table m list → (k : ℕ) → k < m .transitions → letterKey list k < 16384
+pub table-key : (m : Machine) (list : List ℕ) → TableRules m list → (k : ℕ) → k < m .transitions → letterKey list k < 16384
 table-key m list t k lt = omega (arith, t .from-below k lt, t .letter-below k lt, t .states-fit, t .letters-fit)
 
 module _ {m₁ : Machine} {l₁ : List ℕ} {m₂ : Machine} {l₂ : List ℕ} (j : Joinable m₁ l₁ m₂ l₂) where
@@ -478,7 +478,7 @@ module _ {m₁ : Machine} {l₁ : List ℕ} {m₂ : Machine} {l₂ : List ℕ} (
           putting-room (flat (jointMoves (m₂ .states) (m₂ .transitions) l₂ r t)) (flat (each (i + 1) (hi - (i + 1)) (moves r))) (s .putting) (rest-step lt t e)
 
       pub pairing-next : i < hi → (t : Transition) → t ≡ transitionAt l₁ i → (list′ : List ℕ) (at′ i′ : ℕ)
-          → list′ ≡ put list at (flat (jointMoves (m₂ .states) (m₂ .transitions) l₂ r t)) → at′ ≡ at + length (flat (jointMoves (m₂ .states) (m₂ .transitions) l₂ r t))
+          → list′ ≡ replaced list at (flat (jointMoves (m₂ .states) (m₂ .transitions) l₂ r t)) → at′ ≡ at + length (flat (jointMoves (m₂ .states) (m₂ .transitions) l₂ r t))
           → NextMove l₁ letters (i + 1) hi i′ → Pairing letters p r lo hi entry k list′ at′ i′
       pairing-next lt t e list′ at′ i′ el ea next =
           let low = s .low in
@@ -493,7 +493,7 @@ module _ {m₁ : Machine} {l₁ : List ℕ} {m₂ : Machine} {l₂ : List ℕ} (
           }
 
   pub pairing-end : {letters : List ℕ} {p r lo hi k at i : ℕ} {entry list : List ℕ} → Pairing letters p r lo hi entry k list at i → hi ≤ i
-      → (list ≡ put entry k (flat (joinedFrom m₁ l₁ m₂ l₂ p r))) × (at ≡ k + length (flat (joinedFrom m₁ l₁ m₂ l₂ p r)))
+      → (list ≡ replaced entry k (flat (joinedFrom m₁ l₁ m₂ l₂ p r))) × (at ≡ k + length (flat (joinedFrom m₁ l₁ m₂ l₂ p r)))
   unfolding flat
   pairing-end {r = r} {hi = hi} {i = i} s le = putting-end (s .putting) (ap flat (each-over i hi (moves r) le))
 
@@ -526,7 +526,7 @@ module _ {m₁ : Machine} {l₁ : List ℕ} {m₂ : Machine} {l₂ : List ℕ} (
     pub rowing-room : r < m₂ .states → at + length (flat (joinedFrom m₁ l₁ m₂ l₂ p r)) ≤ length list
     rowing-room lt = putting-room (flat (joinedFrom m₁ l₁ m₂ l₂ p r)) (flat (each (r + 1) (m₂ .states - (r + 1)) (λ r. joinedFrom m₁ l₁ m₂ l₂ p r))) (s .putting) (row-step lt)
 
-    pub rowing-next : r < m₂ .states → (list′ : List ℕ) (at′ : ℕ) → list′ ≡ put list at (flat (joinedFrom m₁ l₁ m₂ l₂ p r)) → at′ ≡ at + length (flat (joinedFrom m₁ l₁ m₂ l₂ p r))
+    pub rowing-next : r < m₂ .states → (list′ : List ℕ) (at′ : ℕ) → list′ ≡ replaced list at (flat (joinedFrom m₁ l₁ m₂ l₂ p r)) → at′ ≡ at + length (flat (joinedFrom m₁ l₁ m₂ l₂ p r))
         → Rowing p entry k list′ at′ (r + 1)
     rowing-next lt list′ at′ el ea =
         record {
@@ -534,7 +534,7 @@ module _ {m₁ : Machine} {l₁ : List ℕ} {m₂ : Machine} {l₂ : List ℕ} (
           putting = putting-at (putting-step (flat (joinedFrom m₁ l₁ m₂ l₂ p r)) (flat (each (r + 1) (m₂ .states - (r + 1)) (λ r. joinedFrom m₁ l₁ m₂ l₂ p r))) (s .putting) (row-step lt) el) (sym ea);
         }
 
-    pub rowing-end : m₂ .states ≤ r → (list ≡ put entry k (flat (row p))) × (at ≡ k + length (flat (row p)))
+    pub rowing-end : m₂ .states ≤ r → (list ≡ replaced entry k (flat (row p))) × (at ≡ k + length (flat (row p)))
     unfolding flat
     rowing-end le = putting-end (s .putting) (ap flat (each-over r (m₂ .states) (λ r. joinedFrom m₁ l₁ m₂ l₂ p r) le))
 
@@ -579,7 +579,7 @@ module _ {m₁ : Machine} {l₁ : List ℕ} {m₂ : Machine} {l₂ : List ℕ} (
     pub writing-room : p < m₁ .states → at + length (flat (row p)) ≤ length list
     writing-room lt = putting-room (flat (row p)) (flat (each (p + 1) (m₁ .states - (p + 1)) row)) (s .putting) (state-step lt)
 
-    pub writing-next : p < m₁ .states → (list′ : List ℕ) (at′ : ℕ) → list′ ≡ put list at (flat (row p)) → at′ ≡ at + length (flat (row p)) → Writing entry list′ at′ hi (p + 1)
+    pub writing-next : p < m₁ .states → (list′ : List ℕ) (at′ : ℕ) → list′ ≡ replaced list at (flat (row p)) → at′ ≡ at + length (flat (row p)) → Writing entry list′ at′ hi (p + 1)
     writing-next lt list′ at′ el ea =
         let b = writing-block in
         record {
@@ -594,7 +594,7 @@ module _ {m₁ : Machine} {l₁ : List ℕ} {m₂ : Machine} {l₂ : List ℕ} (
         at-before i h (yes a) = let f = s .before i a in omega arith
         at-before i h (no a) = let f = l .below i (omega arith) h in omega arith
 
-  pub writing-end : {at lo p : ℕ} {entry list : List ℕ} → Writing entry list at lo p → m₁ .states ≤ p → list ≡ put entry 0 (joinedTransitions m₁ l₁ m₂ l₂)
+  pub writing-end : {at lo p : ℕ} {entry list : List ℕ} → Writing entry list at lo p → m₁ .states ≤ p → list ≡ replaced entry 0 (joinedTransitions m₁ l₁ m₂ l₂)
   unfolding flat
   writing-end {p = p} s le = putting-end (s .putting) (ap flat (each-over p (m₁ .states) row le)) .0
 

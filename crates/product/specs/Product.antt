@@ -17,7 +17,7 @@ use lib.ListN.{length, drop, replicate}
 use lib.Dec.{leb, ltb, eqb}
 use Rattle.graphs.specs.Search.{allBelow}
 use Rattle.fsbm.specs.Machine.{maxStates, maxTransitions, initial, final, buffering, matching, transitionAt, wellFormed}
-use Rattle.fsbm.specs.Answers.{refusal}
+use Rattle.fsbm.specs.Answers.{refusal, noMachine}
 use Rattle.fsbm.specs.declared.machine.Machine.{Machine}
 use Rattle.fsbm.specs.declared.machine.Transition.{Transition}
 use Rattle.fsbm.specs.declared.answer.Refusal.{Refusal}
@@ -124,10 +124,6 @@ module _ (m₁ : Machine) (l₁ : List ℕ) (m₂ : Machine) (l₂ : List ℕ) w
       cond (eqb joinFault 0)
       (cond (leb (joinedCount m₁ l₁ m₂ l₂ * 3) room) (refusal 0) (record { number = 15; needed = joinedCount m₁ l₁ m₂ l₂ * 3 }))
       (refusal joinFault)
-
--- the record of a refusal
-abbrev pub noMachine : Machine
-noMachine = record { states = 0; letters = 0; transitions = 0; marks = replicate maxStates 0 }
 
 module _ (m₁ : Machine) (l₁ : List ℕ) (m₂ : Machine) (l₂ : List ℕ) where
   unfoldable pub joinAnswer : ℕ → Product

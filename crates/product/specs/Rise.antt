@@ -24,7 +24,7 @@ use Rattle.product.specs.Each.{each}
 use Rattle.product.specs.Each.Laws.{each-to}
 use Rattle.product.specs.Product.{pairState, joint, jointMoves, joinedFrom, joined}
 use Rattle.product.specs.Steps.{Step, letterMove, letter-at, moves-to, from-to, joined-to}
-use Rattle.product.specs.Tables.{order, Table, Joinable, pair-before, pair-below}
+use Rattle.product.specs.Tables.{order, TableRules, Joinable, pair-before, pair-below}
 
 pub data Rises : List Transition → Type 0 where
   none : Rises []

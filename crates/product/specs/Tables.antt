@@ -1,7 +1,7 @@
 -- What the rules of a table and the absence of refusals say, part by part, and the arithmetic of pairs.
 --
 -- order t                 == transition t by from, letter and to, as one number
--- Table m list            == what the laws use of wellFormed
+-- TableRules m list            == what the laws use of wellFormed
 -- table                   == wellFormed says it
 -- Joinable ..             == what the laws use of joinFault ≡ 0
 -- joinable                == joinFault ≡ 0 says it
@@ -29,7 +29,7 @@ use Rattle.product.specs.Product.{plainState, plainTransition, plain, jo
 abbrev pub order : Transition → ℕ
 order t = (t .from * 256 + t .letter) * 64 + t .to
 
-pub record Table (m : Machine) (list : List ℕ) : Type 0 where
+pub record TableRules (m : Machine) (list : List ℕ) : Type 0 where
   pub some-state : 1 ≤ m .states
   pub states-fit : m .states ≤ 64
   pub letters-fit : m .letters ≤ 250
@@ -87,7 +87,7 @@ module _ (m : Machine) (list : List ℕ) (few-states : m .states ≤ 64) (few-le
       at (yes e) before next = rw e next
       at (no d) before next = let b = before (omega arith) (omega arith) in omega arith
 
-pub table : (m : Machine) (list : List ℕ) → wellFormed m list ≡ true → Table m list
+pub table : (m : Machine) (list : List ℕ) → wellFormed m list ≡ true → TableRules m list
 unfolding wellFormed
 table m list h =
     let good = goodTransition (m .states) (m .letters) list in
@@ -122,8 +122,8 @@ table m list h =
 pub record Joinable (m₁ : Machine) (l₁ : List ℕ) (m₂ : Machine) (l₂ : List ℕ) : Type 0 where
   pub good₁ : wellFormed m₁ l₁ ≡ true
   pub good₂ : wellFormed m₂ l₂ ≡ true
-  pub first : Table m₁ l₁
-  pub second : Table m₂ l₂
+  pub first : TableRules m₁ l₁
+  pub second : TableRules m₂ l₂
   pub not-buffering : (q : ℕ) → q < m₂ .states → buffering (m₂ .marks) q ≡ false
   pub not-matching : (q : ℕ) → q < m₂ .states → matching (m₂ .marks) q ≡ false
   pub not-epsilon : (k : ℕ) → k < m₂ .transitions → transitionAt l₂ k .letter ≡ 0 → ⊥

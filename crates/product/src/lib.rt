@@ -7,7 +7,8 @@
 // marks     the marks of the product
 ghost use mathlib.Core.Path.{_≡_};
 ghost use lib.ListN.{length};
-ghost use Rattle.product.specs.Product.{noMachine, joinAnswer, joinAfter};
+ghost use Rattle.fsbm.specs.Answers.{noMachine};
+ghost use Rattle.product.specs.Product.{joinAnswer, joinAfter};
 use fsbm::answer::Refusal;
 use fsbm::machine::Machine;
 

@@ -4,6 +4,7 @@
 -- refused-table, refused-slice, says-no, says-yes == what each answer comes with
 -- copy-turn, copy-end == one entry copied, and all
 -- copied-front  == a run that is copied to the front of a slice
+-- fewest-front  == a run with the fewest entries is within the bound
 use Prim.Native.Nat.{ℕ, suc, _+_, _*_, _≤_, _<_}
 use mathlib.Core.Path.{_≡_, refl, sym, _∙_, ap}
 use mathlib.Core.Bool.{Bool, true, false, cond, true≢false}
@@ -18,10 +19,12 @@ use Rattle.graphs.specs.Search.Loops.{first, second}
 use Rattle.fsbm.specs.Machine.{wellFormed}
 use Rattle.fsbm.specs.Moves.{accepting}
 use Rattle.fsbm.specs.Accepted.{runBound, accepted}
+use Rattle.fsbm.specs.Accepted.Laws.{accepted-true}
+use Rattle.runs.specs.Walk.{Written}
 use Rattle.fsbm.specs.Answers.{tableAndWord, refusal}
 use Rattle.fsbm.specs.declared.machine.Machine.{Machine}
 use Rattle.fsbm.specs.Rules.{rules}
-use Rattle.recognize.specs.Recognition.{longestRecognized, recognition, written, AtFront, Recognition}
+use Rattle.recognize.specs.Recognition.{longestRecognized, recognition, recognizedValues, recognitionValues, AtFront, Recognition}
 use Rattle.recognize.specs.declared.Recognized.{Recognized}
 use Rattle.recognize.specs.declared.Recognized.the-variants.{Refused, No, Yes}
 
@@ -31,14 +34,34 @@ needed-fits m list w h l =
     let b : length w + 1 ≤ 256 = omega arith in
     mul-le-mul a b
 
--- an answer that writes nothing leaves the slice as it was
 module _ (m : Machine) (list w before : List ℕ) where
-  unwritten : (r : Recognized) (entries : ℕ) → r ≡ recognition m list w (length before) entries → written r ≡ 0 → ((k : ℕ) → r ≡ Yes k → ⊥) → Recognition m list w before before r
+  -- an answer that is right has the right number and values
+  says : (r : Recognized) (entries : ℕ) → r ≡ recognition m list w (length before) entries → recognizedValues r ≡ recognitionValues m list w (length before) entries
+  unfolding recognition recognitionValues
+  says r entries e =
+      ap recognizedValues e
+      ∙ by (eqb (tableAndWord longestRecognized m list w) 0) (leb (runBound m (length w)) (length before)) (accepted m list w) (tableAndWord longestRecognized m list w) (runBound m (length w))
+    where
+      by : (good long accepts : Bool) (number needed : ℕ)
+          → recognizedValues (cond good (cond long (cond accepts (Yes entries) No) (Refused (record { number = 17; needed = needed }))) (Refused (refusal number)))
+          ≡ cond good
+          (cond long (record { refusal = 0; needed = 0; accepted = cond accepts 1 0; entries = cond accepts entries 0 }) (record { refusal = 17; needed = needed; accepted = 0; entries = 0 }))
+          (record { refusal = number; needed = 0; accepted = 0; entries = 0 })
+      by true true true number needed = refl
+      by true true false number needed = refl
+      by true false accepts number needed = refl
+      by false long accepts number needed = refl
+
+  -- an answer that writes nothing leaves the slice as it was
+  unwritten : (r : Recognized) (entries : ℕ) → r ≡ recognition m list w (length before) entries → recognizedValues r .entries ≡ 0 → ((k : ℕ) → r ≡ Yes k → ⊥)
+      → Recognition m list w before before r
   unwritten r entries e z n =
       record {
         entries = entries;
         answer = e;
+        values = says r entries e;
         fits = omega arith;
+        bounded = omega arith;
         rest = sym (ap (λ (k : ℕ). take k before ++ drop k before) z);
         accepts = λ k y. absurd (n k y);
       }
@@ -78,10 +101,10 @@ module _ (m : Machine) (list w before : List ℕ) where
           no-not : {k : ℕ} → No ≡ Yes k → ⊥
           no-not y = let z : _≡_ {A = ℕ} 0 1 = cc in omega arith
 
-      pub says-yes : true ≡ accepted m list w → (after : List ℕ) (k : ℕ) → k ≤ length before → after ≡ take k after ++ drop k before → accepting m list w (take k after) ≡ true
+      pub says-yes : true ≡ accepted m list w → (after : List ℕ) (k : ℕ) → k ≤ length before → k ≤ runBound m (length w) → after ≡ take k after ++ drop k before → accepting m list w (take k after) ≡ true
           → Recognition m list w before after (Yes k)
-      says-yes e after k fits rest acc =
-          record { entries = k; answer = decided-as true k e; fits = fits; rest = rest; accepts = λ j y. same-run j y }
+      says-yes e after k fits bounded rest acc =
+          record { entries = k; answer = decided-as true k e; values = says (Yes k) k (decided-as true k e); fits = fits; bounded = bounded; rest = rest; accepts = λ j y. same-run j y }
         where
           same-run : (j : ℕ) → Yes k ≡ Yes j → accepting m list w (take j after) ≡ true
           same-run j y = let d : j ≡ k = cc in rw d acc
@@ -100,14 +123,21 @@ copy-turn out run k lo lr =
 pub copy-end : (out run run′ : List ℕ) (k count : ℕ) → run′ ≡ take k out ++ drop k run → k ≡ count → run′ ≡ take count out ++ drop count run
 copy-end out run run′ k count e s = e ∙ ap (λ (z : ℕ). take z out ++ drop z run) s
 
-pub copied-front : (m : Machine) (list w out run run′ : List ℕ) (r : ℕ) → r ≤ length out → r ≤ length run → accepting m list w (take r out) ≡ true → run′ ≡ take r out ++ drop r run
+pub copied-front : (m : Machine) (list w out run run′ : List ℕ) (r : ℕ) → r ≤ length out → r ≤ length run → r ≤ runBound m (length w) → accepting m list w (take r out) ≡ true → run′ ≡ take r out ++ drop r run
     → AtFront m list w r run run′
-copied-front m list w out run run′ r lo lr acc e =
+copied-front m list w out run run′ r lo lr bounded acc e =
     record {
       fits = lr;
+      bounded = bounded;
       front = e ∙ ap (λ (z : List ℕ). z ++ drop r run) (sym same);
       accepts = ap (λ (z : List ℕ). accepting m list w z) same ∙ acc;
     }
   where
     same : take r run′ ≡ take r out
     same = ap (λ (z : List ℕ). take r z) e ∙ take-at (take r out) (drop r run) r (length-take-le r out lo)
+
+pub fewest-front : (m : Machine) (list w run run′ : List ℕ) (r : ℕ) → accepted m list w ≡ true → Written m list w r run run′ → AtFront m list w r run run′
+fewest-front m list w run run′ r t h =
+    let (other, short, below, a) = accepted-true m list w .0 t in
+    let few = h .fewest other a in
+    record { fits = h .fits; bounded = omega arith; front = h .front; accepts = h .accepts }

@@ -1,9 +1,10 @@
 -- What recognize answers, and what the caller's slice holds afterwards (document 01; demand 2).
 --
 -- recognition m list w len entries == the answer to a slice of len elements; entries is the length of the run that is written on yes
--- written r                        == how many elements are written with the answer r
--- AtFront m list w r run run′      == an accepting run of r entries stands at the front of run′, and the rest is that of run
--- Recognition                      == the contract: the answer, the run at the front of the slice, the rest as it was
+-- recognizedValues r               == document 01's number and values for each case of the answer
+-- recognitionValues                == the number and values that the rules give
+-- AtFront m list w r run run′      == an accepting run of r entries, no more than the bound, stands at the front of run′, and the rest is that of run
+-- Recognition                      == the contract: the answer with its number and values, the run at the front of the slice, the rest as it was
 use Prim.Native.Nat.{ℕ, _≤_}
 use mathlib.Core.Path.{_≡_}
 use mathlib.Core.Bool.{true, cond}
@@ -30,13 +31,29 @@ recognition m list w len entries =
     (Refused (record { number = 17; needed = runBound m (length w) })))
     (Refused (refusal (tableAndWord longestRecognized m list w)))
 
-abbrev pub written : Recognized → ℕ
-written (Refused r) = 0
-written No = 0
-written (Yes k) = k
+-- the refusal's number or 0, the length needed or 0, 1 for yes and else 0, and the number of entries written
+pub record RecognizedValues : Type 0 where
+  pub refusal : ℕ
+  pub needed : ℕ
+  pub accepted : ℕ
+  pub entries : ℕ
+
+abbrev pub recognizedValues : Recognized → RecognizedValues
+recognizedValues (Refused f) = record { refusal = f .number; needed = f .needed; accepted = 0; entries = 0 }
+recognizedValues No = record { refusal = 0; needed = 0; accepted = 0; entries = 0 }
+recognizedValues (Yes k) = record { refusal = 0; needed = 0; accepted = 1; entries = k }
+
+unfoldable pub recognitionValues : Machine → List ℕ → List ℕ → ℕ → ℕ → RecognizedValues
+recognitionValues m list w len entries =
+    cond (eqb (tableAndWord longestRecognized m list w) 0)
+    (cond (leb (runBound m (length w)) len)
+    (record { refusal = 0; needed = 0; accepted = cond (accepted m list w) 1 0; entries = cond (accepted m list w) entries 0 })
+    (record { refusal = 17; needed = runBound m (length w); accepted = 0; entries = 0 }))
+    (record { refusal = tableAndWord longestRecognized m list w; needed = 0; accepted = 0; entries = 0 })
 
 pub record AtFront (m : Machine) (list w : List ℕ) (r : ℕ) (run run′ : List ℕ) : Type 0 where
   pub fits : r ≤ length run
+  pub bounded : r ≤ runBound m (length w)
   pub front : run′ ≡ take r run′ ++ drop r run
   pub accepts : accepting m list w (take r run′) ≡ true
 
@@ -44,6 +61,8 @@ pub record AtFront (m : Machine) (list w : List ℕ) (r : ℕ) (run run′ : Lis
 pub record Recognition (m : Machine) (list w before after : List ℕ) (r : Recognized) : Type 0 where
   pub entries : ℕ
   pub answer : r ≡ recognition m list w (length before) entries
-  pub fits : written r ≤ length before
-  pub rest : after ≡ take (written r) after ++ drop (written r) before
+  pub values : recognizedValues r ≡ recognitionValues m list w (length before) entries
+  pub fits : recognizedValues r .entries ≤ length before
+  pub bounded : recognizedValues r .entries ≤ runBound m (length w)
+  pub rest : after ≡ take (recognizedValues r .entries) after ++ drop (recognizedValues r .entries) before
   pub accepts : (k : ℕ) → r ≡ Yes k → accepting m list w (take k after) ≡ true

@@ -363,11 +363,11 @@ fn answer_of_any(
     )
 }
 
-// Whether a slice of this length is shorter than the length needed.
-fn is_too_short(length: usize, needed: usize) -> bool
-    ensures { λ r. ⌜ (r ≡ true → length < needed) × (r ≡ false → needed ≤ length) ⌝ }
+// Whether a slice with room for so many elements is shorter than the length needed.
+fn is_too_short(room: usize, needed: usize) -> bool
+    ensures { λ r. ⌜ (r ≡ true → room < needed) × (r ≡ false → needed ≤ room) ⌝ }
 {
-    if length < needed {
+    if room < needed {
         return true;
     }
     false

@@ -20,14 +20,14 @@ use Rattle.columns.specs.Column.{put}
 use Rattle.columns.specs.Column.Laws.{put-zero, put-three}
 use Rattle.graphs.specs.Search.Laws.{and-true}
 use Rattle.fsbm.specs.Machine.{maxStates, named}
-use Rattle.fsbm.specs.Answers.{refusal}
+use Rattle.fsbm.specs.Answers.{refusal, noMachine}
 use Rattle.fsbm.specs.declared.machine.Machine.{Machine}
 use Rattle.fsbm.specs.declared.answer.Refusal.{Refusal}
 use Rattle.sheet.specs.declared.read.Sheet.{Sheet}
 use Rattle.sheet.specs.Series.{eachBelow}
 use Rattle.sheet.specs.Series.Laws.{each-next, each-length}
 use Rattle.sheet.specs.Format.{stateStart, transitionStart}
-use Rattle.sheet.specs.Reading.{columnAt, firstFault, transitionIn, marksOf, machineOf, numbersIn, transitionsOf, noMachine, readRefusal, readAnswer, readList}
+use Rattle.sheet.specs.Reading.{columnAt, firstFault, transitionIn, marksOf, machineOf, numbersIn, transitionsOf, readRefusal, readAnswer, readList}
 use Rattle.sheet.specs.Reading.Laws.{Sound, no-fault, Header, Counts, GoodLine, GoodState, GoodTransition, state-none, transition-none, goodFlags}
 
 -- the mark of state q, as a list

@@ -2,6 +2,7 @@
 --
 -- line-two, line-three == columns and the byte 10, put one by one, are the line
 -- each-none, each-more == a loop that puts the lists of eachBelow
+-- write-ill, write-short, write-long, write-says == the ways through write_sheet, and the number and values of its answer
 use Prim.Native.Nat.{ℕ, zero, suc, _+_, _*_, _-_, _<_, _≤_}
 use mathlib.Core.Path.{_≡_, refl, sym, ap, _∙_, subst}
 use mathlib.Core.List.{List, [], _∷_, _++_, append-assoc, append-nil}
@@ -15,6 +16,7 @@ use Rattle.columns.specs.Column.Laws.{column-length, put-length, put-put, put-o
 use Rattle.graphs.specs.Search.{allBelow}
 use Rattle.graphs.specs.Search.Laws.{and-true, allBelow-true}
 use Rattle.fsbm.specs.Machine.{markOf, transitionAt, goodMark, named, precedes, goodTransition, wellFormed}
+use Rattle.fsbm.specs.Answers.{refusal}
 use Rattle.fsbm.specs.declared.machine.Machine.{Machine}
 use Rattle.fsbm.specs.declared.machine.Transition.{Transition}
 use Rattle.fsbm.specs.declared.answer.Refusal.{Refusal}
@@ -23,7 +25,7 @@ use Rattle.sheet.specs.Series.Laws.{each-next, each-length}
 use Rattle.sheet.specs.declared.write.Written.{Written}
 use Rattle.sheet.specs.declared.write.Written.the-variants.{Refused, Bytes}
 use Rattle.sheet.specs.Format.{Short, lineOf, headerLine, stateLine, transitionLine, sheetLength, sheetOf}
-use Rattle.sheet.specs.Writing.{writeRefusal, writeAnswer, writeSheet}
+use Rattle.sheet.specs.Writing.{writeRefusal, writeAnswer, writeSheet, writtenValues, writeValues}
 
 -- b put right after a
 pub put-more : (l l1 l2 a b : List ℕ) (at next : ℕ) → l1 ≡ put at l a → l2 ≡ put next l1 b → next ≡ at + length a → at + length a + length b ≤ length l → l2 ≡ put at l (a ++ b)
@@ -146,6 +148,22 @@ module _ (m : Machine) (list sheet : List ℕ) where
       let w : wellFormed m list ≡ true = sym e ∙ t in
       let l : leb (sheetLength m) (length sheet) ≡ true = le-leb _ _ (subst (λ (k : ℕ). k ≤ length sheet) q h) in
       (ap (λ (k : ℕ). Bytes k) q ∙ simp (w, l), a ∙ simp (w, l))
+
+  -- the answer and the slice, with the answer's number and values
+  pub write-says : (r : Written) (after : List ℕ) → (r ≡ writeAnswer m list (length sheet)) × (after ≡ writeSheet m list sheet)
+      → (r ≡ writeAnswer m list (length sheet)) × (after ≡ writeSheet m list sheet) × (writtenValues r ≡ writeValues m list (length sheet))
+  unfolding writeAnswer writeRefusal writeValues
+  write-says r after (a, s) = (a, s, ap writtenValues a ∙ at (wellFormed m list) (leb (sheetLength m) (length sheet)) (sheetLength m))
+    where
+      refused : Bool → Bool → ℕ → Refusal
+      refused w l n = cond w (cond l (refusal 0) (record { number = 19; needed = n })) (refusal 16)
+
+      at : (w l : Bool) (n : ℕ)
+          → writtenValues (cond (eqb (refused w l n .number) 0) (Bytes n) (Refused (refused w l n)))
+          ≡ cond w (cond l (record { refusal = 0; needed = 0; bytes = n }) (record { refusal = 19; needed = n; bytes = 0 })) (record { refusal = 16; needed = 0; bytes = 0 })
+      at true true n = refl
+      at true false n = refl
+      at false l n = refl
 
   -- the three parts of a sheet, put one after the other
   pub sheet-put : (l1 l2 l3 : List ℕ) (start : ℕ) → l1 ≡ put 0 sheet (lineOf (m .states ∷ m .letters ∷ m .transitions ∷ []))

@@ -18,7 +18,7 @@ use lib.ListN.{length, take, drop, getD, replicate}
 use lib.Dec.{leb, ltb, eqb}
 use Rattle.columns.specs.Column.{columnNumber, noNumber}
 use Rattle.fsbm.specs.Machine.{maxStates, maxLetters, maxTransitions, named, precedes}
-use Rattle.fsbm.specs.Answers.{refusal}
+use Rattle.fsbm.specs.Answers.{refusal, noMachine}
 use Rattle.fsbm.specs.declared.machine.Machine.{Machine}
 use Rattle.fsbm.specs.declared.machine.Transition.{Transition}
 use Rattle.fsbm.specs.declared.answer.Refusal.{Refusal}
@@ -108,10 +108,6 @@ readRefusal s len =
     cond (eqb (firstFault s) 0)
     (cond (leb (columnAt s 10 * 3) len) (refusal 0) (record { number = 15; needed = columnAt s 10 * 3 }))
     (refusal (firstFault s))
-
--- the machine of a refusal
-unfoldable pub noMachine : Machine
-noMachine = record { states = 0; letters = 0; transitions = 0; marks = replicate maxStates 0 }
 
 unfoldable pub readAnswer : List ℕ → ℕ → Sheet
 readAnswer s len =

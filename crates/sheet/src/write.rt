@@ -7,7 +7,7 @@ ghost use Rattle.columns.specs.Column.{put};
 ghost use Rattle.sheet.specs.Series.{eachBelow};
 ghost use Rattle.fsbm.specs.Machine.{transitionAt};
 ghost use Rattle.sheet.specs.Format.{Short, lineOf, stateLine, transitionLine};
-ghost use Rattle.sheet.specs.Writing.{writeAnswer, writeSheet};
+ghost use Rattle.sheet.specs.Writing.{writeAnswer, writeSheet, writtenValues, writeValues};
 use fsbm::answer::Refusal;
 use fsbm::machine;
 use fsbm::machine::Machine;
@@ -84,7 +84,7 @@ fn write_transitions(sheet: &mut [u8], list: &[u16], start: usize, transitions: 
 // slice as it was; what stands past the sheet stays.
 // Time: the table once to test it, once to write it. Memory: none beside its arguments.
 pub fn write_sheet(m: Machine, list: &[u16], sheet: &mut [u8]) -> Written
-    ensures { λ r. ⌜ (r ≡ writeAnswer m (now (list .entry)) (length (now (sheet .entry)))) × (now (sheet .exit) ≡ writeSheet m (now (list .entry)) (now (sheet .entry))) ⌝ }
+    ensures { λ r. ⌜ (r ≡ writeAnswer m (now (list .entry)) (length (now (sheet .entry)))) × (now (sheet .exit) ≡ writeSheet m (now (list .entry)) (now (sheet .entry))) × (writtenValues r ≡ writeValues m (now (list .entry)) (length (now (sheet .entry)))) ⌝ }
 {
     if !machine::is_well_formed(m, list) {
         return Written::Refused(Refusal {

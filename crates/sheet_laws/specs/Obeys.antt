@@ -1,5 +1,6 @@
 -- What read_sheet reads without refusal obeys the rules of a table.
 --
+-- read-sound == a sheet that is read without refusal has no fault
 -- read-obeys == the machine of the answer and the list afterwards are well formed where the refusal's number is 0
 use Prim.Native.Nat.{ℕ, _*_}
 use mathlib.Core.Path.{_≡_, refl, sym, ap, _∙_, subst₂}
@@ -12,10 +13,10 @@ use borrow.Author.Tests.{eq-eqb, eqb-true, eqb-false}
 use Rattle.graphs.specs.Search.Laws.{true-or-false}
 use Rattle.graphs.specs.Search.Loops.{first, second}
 use Rattle.fsbm.specs.Machine.{wellFormed}
-use Rattle.fsbm.specs.Answers.{refusal}
+use Rattle.fsbm.specs.Answers.{refusal, noMachine}
 use Rattle.fsbm.specs.declared.machine.Machine.{Machine}
 use Rattle.fsbm.specs.declared.answer.Refusal.{Refusal}
-use Rattle.sheet.specs.Reading.{columnAt, firstFault, machineOf, transitionsOf, noMachine, readRefusal, readAnswer, readList}
+use Rattle.sheet.specs.Reading.{columnAt, firstFault, machineOf, transitionsOf, readRefusal, readAnswer, readList}
 use Rattle.sheet_laws.specs.RoundTrip.{sound-table}
 
 module _ (s entry : List ℕ) (good : readAnswer s (length entry) .refusal .number ≡ 0) where
@@ -23,9 +24,9 @@ module _ (s entry : List ℕ) (good : readAnswer s (length entry) .refusal .numb
   unfolding readAnswer
   number-zero = good
 
-  no-fault : firstFault s ≡ 0
+  pub read-sound : firstFault s ≡ 0
   unfolding readRefusal
-  no-fault = at (true-or-false (eqb (firstFault s) 0))
+  read-sound = at (true-or-false (eqb (firstFault s) 0))
     where
       at : (eqb (firstFault s) 0 ≡ true) ⊎ (eqb (firstFault s) 0 ≡ false) → firstFault s ≡ 0
       at (inl t) = eqb-true (firstFault s) 0 t
@@ -36,4 +37,4 @@ module _ (s entry : List ℕ) (good : readAnswer s (length entry) .refusal .numb
   read-obeys =
       let z = eq-eqb (readRefusal s (length entry) .number) 0 number-zero in
       ap (λ (b : Bool). wellFormed (cond b (machineOf s) noMachine) (cond b (transitionsOf s ++ drop (columnAt s 10 * 3) entry) entry)) z
-      ∙ sound-table s no-fault (drop (columnAt s 10 * 3) entry) .obeys
+      ∙ sound-table s read-sound (drop (columnAt s 10 * 3) entry) .obeys

@@ -5,9 +5,10 @@
 -- read-machine, read-transitions == read again, it is the same table
 -- sound-written   == a sheet without fault, read and written, is the same bytes
 -- sound-table     == what is read from a sheet without fault is a table
--- accepted        == a byte string is accepted, if and only if it is the sheet of some table
--- read-written, list-written == read_sheet on what write_sheet wrote: the machine, and its transitions at the front of the list
--- write-read, sheet-read == write_sheet on what read_sheet read: the same bytes at the front of the slice
+-- sheet-iff-table == a byte string is read without fault, if and only if it is the sheet of some table
+-- sheet-length    == the sheet of a table is as long as sheetLength says
+-- read-table, list-table == read_sheet on the sheet of a table: the machine, and its transitions at the front of the list
+-- write-sound, sheet-sound-written == write_sheet on the table of a sheet without fault: the same bytes at the front of the slice
 use Prim.Native.Nat.{ℕ, zero, suc, _+_, _*_, _-_, _/_, _%_, _<_, _≤_}
 use mathlib.Core.Path.{_≡_, refl, sym, ap, _∙_, subst}
 use mathlib.Core.Logic.{_⊎_, inl, inr, _↔_}
@@ -23,7 +24,7 @@ use Rattle.graphs.specs.Search.{allBelow}
 use Rattle.graphs.specs.Search.Laws.{and-true, and-both-true, allBelow-true}
 use Rattle.columns.specs.Column.{noNumber}
 use Rattle.fsbm.specs.Machine.{markOf, transitionAt, goodMark, named, precedes, goodTransition, wellFormed, maxStates}
-use Rattle.fsbm.specs.Answers.{refusal}
+use Rattle.fsbm.specs.Answers.{refusal, noMachine}
 use Rattle.fsbm.specs.declared.machine.Machine.{Machine}
 use Rattle.fsbm.specs.declared.machine.Transition.{Transition}
 use Rattle.fsbm.specs.declared.answer.Refusal.{Refusal}
@@ -33,7 +34,7 @@ use Rattle.sheet.specs.declared.write.Written.the-variants.{Refused, Bytes}
 use Rattle.sheet.specs.Series.{eachBelow}
 use Rattle.sheet.specs.Series.Laws.{each-length, each-same, each-drop, each-elem, each-parts}
 use Rattle.sheet.specs.Format.{lineOf, stateStart, transitionStart, sheetLength, headerLine, stateLine, transitionLine, sheetOf}
-use Rattle.sheet.specs.Reading.{columnAt, firstFault, stateFault, transitionFault, transitionIn, marksOf, machineOf, numbersIn, transitionsOf, noMachine}
+use Rattle.sheet.specs.Reading.{columnAt, firstFault, stateFault, transitionFault, transitionIn, marksOf, machineOf, numbersIn, transitionsOf}
 use Rattle.sheet.specs.Reading.{readRefusal, readAnswer, readList}
 use Rattle.sheet.specs.Reading.Laws.{GoodLine, Counts, Header, GoodState, GoodTransition, Sound, state-none, transition-none, no-fault, goodFlags}
 use Rattle.sheet.specs.Writing.{writeRefusal, writeAnswer, writeSheet}
@@ -95,6 +96,21 @@ transition-wide : (list : List ℕ) (k : ℕ) → length (transitionLine list k)
 unfolding transitionLine
 transition-wide list k = line-length (transitionAt list k .from ∷ transitionAt list k .letter ∷ transitionAt list k .to ∷ [])
 
+header-wide : (m : Machine) → length (headerLine m) ≡ 16
+unfolding headerLine
+header-wide m = line-length (m .states ∷ m .letters ∷ m .transitions ∷ [])
+
+-- for every record and list; what write_sheet leaves past the sheet rests on it
+pub sheet-length : (m : Machine) (list : List ℕ) → length (sheetOf m list) ≡ sheetLength m
+unfolding sheetOf
+sheet-length m list =
+    let states = eachBelow (m .states) (stateLine (m .marks)) in
+    let transitions = eachBelow (m .transitions) (transitionLine list) in
+    let a = header-wide m in
+    let b = each-length 11 (stateLine (m .marks)) (state-wide (m .marks)) (m .states) in
+    let c = each-length 16 (transitionLine list) (transition-wide list) (m .transitions) in
+    omega (arith, length-append (headerLine m) (states ++ transitions), length-append states transitions)
+
 module _ (m : Machine) (list : List ℕ) (r : Rules m list) where
   S : List ℕ
   S = sheetOf m list
@@ -105,18 +121,6 @@ module _ (m : Machine) (list : List ℕ) (r : Rules m list) where
   C : List ℕ
   C = eachBelow (m .transitions) (transitionLine list)
 
-  header-length : length (headerLine m) ≡ 16
-  unfolding headerLine
-  header-length = line-length (m .states ∷ m .letters ∷ m .transitions ∷ [])
-
-  sheet-length : length S ≡ sheetLength m
-  unfolding S B C sheetOf
-  sheet-length =
-      let a = header-length in
-      let b = each-length 11 (stateLine (m .marks)) (state-wide (m .marks)) (m .states) in
-      let c = each-length 16 (transitionLine list) (transition-wide list) (m .transitions) in
-      omega (arith, length-append (headerLine m) (B ++ C), length-append B C)
-
   -- where the lines stand
   header-place : drop 0 S ≡ lineOf (m .states ∷ m .letters ∷ m .transitions ∷ []) ++ (B ++ C)
   unfolding S B C sheetOf headerLine
@@ -126,7 +130,7 @@ module _ (m : Machine) (list : List ℕ) (r : Rules m list) where
   unfolding S B C sheetOf stateLine
   state-place q h =
       let d = each-drop 11 (stateLine (m .marks)) (state-wide (m .marks)) (m .states) q C h in
-      let n : stateStart q ≡ length (headerLine m) + 11 * q = let a = header-length in omega arith in
+      let n : stateStart q ≡ length (headerLine m) + 11 * q = let a = header-wide m in omega arith in
       (d .0, ap (λ (k : ℕ). drop k (headerLine m ++ (B ++ C))) n ∙ (drop-append-add (headerLine m) (B ++ C) (11 * q) ∙ d .1))
 
   transition-place : (k : ℕ) → k < m .transitions
@@ -135,7 +139,7 @@ module _ (m : Machine) (list : List ℕ) (r : Rules m list) where
   transition-place k h =
       let d = each-drop 16 (transitionLine list) (transition-wide list) (m .transitions) k [] h in
       let b = each-length 11 (stateLine (m .marks)) (state-wide (m .marks)) (m .states) in
-      let n : transitionStart (m .states) k ≡ length (headerLine m ++ B) + 16 * k = let a = header-length in omega (arith, length-append (headerLine m) B) in (
+      let n : transitionStart (m .states) k ≡ length (headerLine m ++ B) + 16 * k = let a = header-wide m in omega (arith, length-append (headerLine m) B) in (
         d .0,
         ap (λ (l : List ℕ). drop (transitionStart (m .states) k) l) (sym (append-assoc (headerLine m) B C))
             ∙ (ap (λ (j : ℕ). drop j ((headerLine m ++ B) ++ C)) n
@@ -273,7 +277,7 @@ module _ (m : Machine) (list : List ℕ) (r : Rules m list) where
         header = record { line = line-good (m .states ∷ m .letters ∷ m .transitions ∷ []) S (B ++ C) 0 header-place header-small; counts = counts };
         states = λ q h. state-sound q (subst (λ (n : ℕ). q < n) read-states h);
         transitions = λ k h. transition k (subst (λ (n : ℕ). k < n) read-count h);
-        ends = let a = sheet-length in let b = read-states in let c = read-count in omega arith;
+        ends = let a : length S ≡ sheetLength m = unfold S in sheet-length m list in let b = read-states in let c = read-count in omega arith;
       }
     where
       counts : Counts (columnAt S 0) (columnAt S 5) (columnAt S 10)
@@ -552,9 +556,9 @@ module _ (s : List ℕ) (none : firstFault s ≡ 0) (rest : List ℕ) where
   unfolding list n machineOf
   sound-table = record { obeys = rules (machineOf s) (transitionsOf s ++ rest) .1 (sheet-rules s rest (no-fault s .0 none)); marked = marks-wide s rest (no-fault s .0 none) }
 
--- a byte string is accepted exactly if it is the sheet of some table
-pub accepted : (s : List ℕ) → (firstFault s ≡ 0) ↔ ((m : Machine) × (list : List ℕ) × Table m list × (s ≡ sheetOf m list))
-accepted s = (
+-- a byte string is read without fault exactly if it is the sheet of some table
+pub sheet-iff-table : (s : List ℕ) → (firstFault s ≡ 0) ↔ ((m : Machine) × (list : List ℕ) × Table m list × (s ≡ sheetOf m list))
+sheet-iff-table s = (
   λ none. (machineOf s, transitionsOf s ++ [], sound-table s none [], sym (sound-written s none [])),
   λ w. ap firstFault (w .3) ∙ written-sound (w .0) (w .1) (w .2),
 )
@@ -572,15 +576,15 @@ module _ (m : Machine) (list : List ℕ) (t : Table m list) (entry : List ℕ) (
       (le-leb (columnAt (sheetOf m list) 10 * 3) (length entry) (omega arith))
 
   -- what read_sheet answers to the sheet of a table, and what it leaves in the list
-  pub read-written : readAnswer (sheetOf m list) (length entry) ≡ record { refusal = refusal 0; machine = m }
+  pub read-table : readAnswer (sheetOf m list) (length entry) ≡ record { refusal = refusal 0; machine = m }
   unfolding readAnswer
-  read-written =
+  read-table =
       ap (λ (x : Refusal). record { refusal = x; machine = cond (eqb (x .number) 0) (machineOf (sheetOf m list)) noMachine }) no-refusal
       ∙ ap (λ (x : Machine). record { refusal = refusal 0; machine = x }) (read-machine m list t)
 
-  pub list-written : readList (sheetOf m list) entry ≡ take (m .transitions * 3) list ++ drop (m .transitions * 3) entry
+  pub list-table : readList (sheetOf m list) entry ≡ take (m .transitions * 3) list ++ drop (m .transitions * 3) entry
   unfolding readList
-  list-written =
+  list-table =
       let c : columnAt (sheetOf m list) 10 ≡ m .transitions = unfold S in read-count m list (ruled m list t) in
       ap (λ (x : Refusal). cond (eqb (x .number) 0) (transitionsOf (sheetOf m list) ++ drop (columnAt (sheetOf m list) 10 * 3) entry) entry) no-refusal
       ∙ (ap (λ (l : List ℕ). l ++ drop (columnAt (sheetOf m list) 10 * 3) entry) (read-transitions m list t)
@@ -600,13 +604,13 @@ module _ (s : List ℕ) (none : firstFault s ≡ 0) (rest entry : List ℕ) (lon
       (le-leb (sheetLength (machineOf s)) (length entry) (subst (λ (k : ℕ). k ≤ length entry) (sym length-is) long))
 
   -- what write_sheet answers to the table of a sheet without fault, and what it leaves in the slice
-  pub write-read : writeAnswer (machineOf s) (transitionsOf s ++ rest) (length entry) ≡ Bytes (length s)
+  pub write-sound : writeAnswer (machineOf s) (transitionsOf s ++ rest) (length entry) ≡ Bytes (length s)
   unfolding writeAnswer
-  write-read =
+  write-sound =
       ap (λ (x : Refusal). cond (eqb (x .number) 0) (Bytes (sheetLength (machineOf s))) (Refused x)) fits ∙ ap (λ (k : ℕ). Bytes k) length-is
 
-  pub sheet-read : writeSheet (machineOf s) (transitionsOf s ++ rest) entry ≡ s ++ drop (length s) entry
+  pub sheet-sound-written : writeSheet (machineOf s) (transitionsOf s ++ rest) entry ≡ s ++ drop (length s) entry
   unfolding writeSheet
-  sheet-read =
+  sheet-sound-written =
       ap (λ (x : Refusal). cond (eqb (x .number) 0) (sheetOf (machineOf s) (transitionsOf s ++ rest) ++ drop (sheetLength (machineOf s)) entry) entry) fits
       ∙ (ap (λ (l : List ℕ). l ++ drop (sheetLength (machineOf s)) entry) (sound-written s none rest) ∙ ap (λ (k : ℕ). s ++ drop k entry) length-is)

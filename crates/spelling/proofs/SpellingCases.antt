@@ -3,7 +3,7 @@
 -- letters, letter-rule     == the constant table, and its rule at each byte, by one computed test
 -- letter-none, letter-some == the test of a byte's letter
 -- letters-none, letters-more, letters-done == the loop that writes letters
--- translate-..             == the answer, way by way
+-- translate-..             == the answer, way by way, and its number and values
 use Prim.Native.Nat.{ℕ, zero, suc, _+_, _<_, _≤_}
 use mathlib.Core.Path.{_≡_, refl, sym, ap, _∙_, subst}
 use mathlib.Core.List.{List, [], _∷_, _++_, map, append-assoc}
@@ -15,10 +15,12 @@ use lib.Seq.{drop-cons, take-suc, take-all, set-at, length-take-le, append-snoc}
 use lib.Dec.{leb, eqb, eqb→eq}
 use borrow.Author.Tests.{le-leb, lt-leb, eq-eqb, ne-eqb}
 use Rattle.graphs.specs.Search.{allIn}
+use Rattle.fsbm.specs.Answers.{refusal}
+use Rattle.fsbm.specs.declared.answer.Refusal.{Refusal}
 use Rattle.spelling.specs.declared.Translated.{Translated}
 use Rattle.spelling.specs.declared.Translated.the-variants.{Refused, Letters}
 use Rattle.spelling.proofs.Table.{at}
-use Rattle.spelling.specs.Spelling.{letterOf, hasLetter, translateRefusal, translateAnswer, translateWord}
+use Rattle.spelling.specs.Spelling.{letterOf, hasLetter, translateRefusal, translateAnswer, translateWord, longestWritten, translatedValues, translateValues}
 
 unfoldable pub letters : List ℕ
 letters =
@@ -67,6 +69,24 @@ letters-done bytes word entry i h l e =
     e ∙ (ap (λ (x : List ℕ). map letterOf x ++ drop i entry) (take-all i bytes l) ∙ ap (λ (k : ℕ). map letterOf bytes ++ drop k entry) q)
 
 module _ (bytes word : List ℕ) where
+  pub translate-says : (r : Translated) (after : List ℕ) → (r ≡ translateAnswer bytes (length word)) × (after ≡ translateWord bytes word)
+      → (r ≡ translateAnswer bytes (length word)) × (after ≡ translateWord bytes word) × (translatedValues r ≡ translateValues bytes (length word))
+  unfolding translateAnswer translateRefusal translateValues
+  translate-says r after (a, s) = (a, s, ap translatedValues a ∙ by (leb (length bytes) longestWritten) (allIn hasLetter bytes) (leb (length bytes) (length word)) (length bytes))
+    where
+      refused : Bool → Bool → Bool → ℕ → Refusal
+      refused f k l n = cond f (cond k (cond l (refusal 0) (record { number = 18; needed = n })) (refusal 8)) (refusal 9)
+
+      by : (f k l : Bool) (n : ℕ)
+          → translatedValues (cond (eqb (refused f k l n .number) 0) (Letters n) (Refused (refused f k l n)))
+          ≡ cond f
+          (cond k (cond l (record { refusal = 0; needed = 0; letters = n }) (record { refusal = 18; needed = n; letters = 0 })) (record { refusal = 8; needed = 0; letters = 0 }))
+          (record { refusal = 9; needed = 0; letters = 0 })
+      by true true true n = refl
+      by true true false n = refl
+      by true false l n = refl
+      by false k l n = refl
+
   pub translate-long : 255 < length bytes → (Refused (record { number = 9; needed = 0 }) ≡ translateAnswer bytes (length word)) × (word ≡ translateWord bytes word)
   unfolding translateAnswer translateWord translateRefusal
   translate-long h = let a : leb (length bytes) 255 ≡ false = lt-leb _ _ h in (simp a, simp a)

@@ -4,6 +4,8 @@
 -- translateRefusal bytes len == 9, 8, 18 with the length needed, or 0
 -- translateAnswer bytes len == what translate answers to a word slice of this length
 -- translateWord bytes word == what the word slice holds afterwards
+-- translatedValues r        == document 01's number and values for each case of the answer
+-- translateValues bytes len == the number and values that the rules give
 use Prim.Native.Nat.{ℕ, _-_}
 use mathlib.Core.List.{List, _++_, map}
 use mathlib.Core.Bool.{Bool, true, false, cond, not, _&&_}
@@ -39,3 +41,21 @@ translateAnswer bytes len =
 unfoldable pub translateWord : List ℕ → List ℕ → List ℕ
 translateWord bytes word =
     cond (eqb (translateRefusal bytes (length word) .number) 0) (map letterOf bytes ++ drop (length bytes) word) word
+
+-- the refusal's number or 0, the length needed or 0, and the number of letters written
+pub record TranslatedValues : Type 0 where
+  pub refusal : ℕ
+  pub needed : ℕ
+  pub letters : ℕ
+
+abbrev pub translatedValues : Translated → TranslatedValues
+translatedValues (Refused f) = record { refusal = f .number; needed = f .needed; letters = 0 }
+translatedValues (Letters n) = record { refusal = 0; needed = 0; letters = n }
+
+unfoldable pub translateValues : List ℕ → ℕ → TranslatedValues
+translateValues bytes len =
+    cond (leb (length bytes) longestWritten)
+    (cond (allIn hasLetter bytes)
+    (cond (leb (length bytes) len) (record { refusal = 0; needed = 0; letters = length bytes }) (record { refusal = 18; needed = length bytes; letters = 0 }))
+    (record { refusal = 8; needed = 0; letters = 0 }))
+    (record { refusal = 9; needed = 0; letters = 0 })

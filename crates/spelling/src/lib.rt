@@ -6,7 +6,7 @@ ghost use mathlib.Core.List.{_++_, map};
 ghost use Prim.Native.Nat.{_≤_};
 ghost use lib.ListN.{length, drop};
 ghost use Rattle.graphs.specs.Search.{allIn};
-ghost use Rattle.spelling.specs.Spelling.{letterOf, hasLetter, translateAnswer, translateWord};
+ghost use Rattle.spelling.specs.Spelling.{letterOf, hasLetter, translateAnswer, translateWord, translatedValues, translateValues};
 use fsbm::answer::Refusal;
 
 // The letter of each byte: a to z are 1 to 26, hyphen is 27, apostrophe is 28; 0 where it has none.
@@ -313,7 +313,7 @@ fn write_letters(bytes: &[u8], word: &mut [u8])
 // slice as it was; what stands past the letters stays.
 // Time: the bytes twice. Memory: none beside its arguments.
 pub fn translate(bytes: &[u8], word: &mut [u8]) -> Translated
-    ensures { λ r. ⌜ (r ≡ translateAnswer (now (bytes .entry)) (length (now (word .entry)))) × (now (word .exit) ≡ translateWord (now (bytes .entry)) (now (word .entry))) ⌝ }
+    ensures { λ r. ⌜ (r ≡ translateAnswer (now (bytes .entry)) (length (now (word .entry)))) × (now (word .exit) ≡ translateWord (now (bytes .entry)) (now (word .entry))) × (translatedValues r ≡ translateValues (now (bytes .entry)) (length (now (word .entry)))) ⌝ }
 {
     let n = bytes.len();
     if 255 < n {

@@ -2,7 +2,7 @@ use mathlib.Core.Path.{_≡_, refl, sym, ap, _∙_}
 use native.Mathlib.Omega.{arith}
 use borrow.Author.Tests.{not-true, not-false}
 use Rattle.fsbm.proofs.AnswerCases.{table-good}
-use Rattle.copies.proofs.CopyCases.{count-few, refused-early, refused-run, refused-room, listed}
+use Rattle.copies.proofs.CopyCases.{count-few, refused-early, refused-run, refused-room, listed, copies-says}
 use borrow.Author.Needs.{needs}
 use Rattle.copies.proofs.list_copies.Statement.{statement}
 use Rattle.copies.proofs.list_copies.Tie as tie
@@ -19,7 +19,7 @@ table-and-word-requires c κs = search needs
 
 -- src/lib.rt:87:9
 returns : tie.Need-returns
-returns c = refused-early (c .before .before .before .before .before .before .args .m) ((c .before .before .before .before .before .before .args .list) .now) ((c .before .before .before .before .before .before .args .word) .now) ((c .before .before .before .before .before .before .args .run) .now) ((c .before .before .before .before .before .before .args .copies) .now) (c .before .table-and-word .result) (c .before .table-and-word .ensures) (c .if1 .taken)
+returns c = copies-says _ _ _ _ _ _ _ (refused-early (c .before .before .before .before .before .before .args .m) ((c .before .before .before .before .before .before .args .list) .now) ((c .before .before .before .before .before .before .args .word) .now) ((c .before .before .before .before .before .before .args .run) .now) ((c .before .before .before .before .before .before .args .copies) .now) (c .before .table-and-word .result) (c .before .table-and-word .ensures) (c .if1 .taken))
 
 -- src/lib.rt:89:9
 is-accepting-run-requires : tie.Need-is-accepting-run-requires
@@ -27,7 +27,7 @@ is-accepting-run-requires c κs = table-good 255 (c .before .before .before .bef
 
 -- src/lib.rt:90:9
 returns-2 : tie.Need-returns-2
-returns-2 c = refused-run (c .before .before .before .before .before .before .before .before .args .m) ((c .before .before .before .before .before .before .before .before .args .list) .now) ((c .before .before .before .before .before .before .before .before .args .word) .now) ((c .before .before .before .before .before .before .before .before .args .run) .now) ((c .before .before .before .before .before .before .before .before .args .copies) .now) (c .before .before .before .table-and-word .result) (c .before .before .before .table-and-word .ensures) (c .before .before .if1 .left) (sym (c .before .is-accepting-run .ensures) ∙ not-true _ (c .if2 .taken))
+returns-2 c = copies-says _ _ _ _ _ _ _ (refused-run (c .before .before .before .before .before .before .before .before .args .m) ((c .before .before .before .before .before .before .before .before .args .list) .now) ((c .before .before .before .before .before .before .before .before .args .word) .now) ((c .before .before .before .before .before .before .before .before .args .run) .now) ((c .before .before .before .before .before .before .before .before .args .copies) .now) (c .before .before .before .table-and-word .result) (c .before .before .before .table-and-word .ensures) (c .before .before .if1 .left) (sym (c .before .is-accepting-run .ensures) ∙ not-true _ (c .if2 .taken)))
 
 -- src/lib.rt:92:9
 count-copies-requires : tie.Need-count-copies-requires
@@ -39,7 +39,7 @@ mul-needed c = omega (arith, (c .count-copies .ensures) (c .before .before .befo
 
 -- src/lib.rt:95:9
 returns-3 : tie.Need-returns-3
-returns-3 c = refused-room (c .before .before .before .before .before .before .before .before .before .before .args .m) ((c .before .before .before .before .before .before .before .before .before .before .args .list) .now) ((c .before .before .before .before .before .before .before .before .before .before .args .word) .now) ((c .before .before .before .before .before .before .before .before .before .before .args .run) .now) ((c .before .before .before .before .before .before .before .before .before .before .args .copies) .now) (c .before .before .before .before .before .table-and-word .result) (c .before .before .before .before .before .table-and-word .ensures) (c .before .before .before .before .if1 .left) (sym (c .before .before .before .is-accepting-run .ensures) ∙ not-false _ (c .before .before .if2 .left)) (c .before .count-copies .result) ((c .before .count-copies .ensures) (c .before .before .before .before .before .before .before .before .before .before .args .m) ((c .before .before .before .before .before .before .before .before .before .before .args .list) .now) ((c .before .before .before .before .before .before .before .before .before .before .args .word) .now)) (c .if3 .taken)
+returns-3 c = copies-says _ _ _ _ _ _ _ (refused-room (c .before .before .before .before .before .before .before .before .before .before .args .m) ((c .before .before .before .before .before .before .before .before .before .before .args .list) .now) ((c .before .before .before .before .before .before .before .before .before .before .args .word) .now) ((c .before .before .before .before .before .before .before .before .before .before .args .run) .now) ((c .before .before .before .before .before .before .before .before .before .before .args .copies) .now) (c .before .before .before .before .before .table-and-word .result) (c .before .before .before .before .before .table-and-word .ensures) (c .before .before .before .before .if1 .left) (sym (c .before .before .before .is-accepting-run .ensures) ∙ not-false _ (c .before .before .if2 .left)) (c .before .count-copies .result) ((c .before .count-copies .ensures) (c .before .before .before .before .before .before .before .before .before .before .args .m) ((c .before .before .before .before .before .before .before .before .before .before .args .list) .now) ((c .before .before .before .before .before .before .before .before .before .before .args .word) .now)) (c .if3 .taken))
 
 -- src/lib.rt:97:9
 write-copies-requires : tie.Need-write-copies-requires
@@ -51,7 +51,7 @@ same-length c = search needs
 
 -- src/lib.rt:81:1
 returns-4 : tie.Need-returns-4
-returns-4 c = listed (c .before .before .before .before .before .before .before .before .before .before .before .before .before .before .args .m) ((c .before .before .before .before .before .before .before .before .before .before .before .before .before .before .args .list) .now) ((c .before .before .before .before .before .before .before .before .before .before .before .before .before .before .args .word) .now) ((c .before .before .before .before .before .before .before .before .before .before .before .before .before .before .args .run) .now) ((c .before .before .before .before .before .before .before .before .before .before .before .before .before .before .args .copies) .now) (c .before .before .before .before .before .before .before .before .before .table-and-word .result) (c .before .before .before .before .before .before .before .before .before .table-and-word .ensures) (c .before .before .before .before .before .before .before .before .if1 .left) (sym (c .before .before .before .before .before .before .before .is-accepting-run .ensures) ∙ not-false _ (c .before .before .before .before .before .before .if2 .left)) (c .before .before .before .before .before .count-copies .result) ((c .before .before .before .before .before .count-copies .ensures) (c .before .before .before .before .before .before .before .before .before .before .before .before .before .before .args .m) ((c .before .before .before .before .before .before .before .before .before .before .before .before .before .before .args .list) .now) ((c .before .before .before .before .before .before .before .before .before .before .before .before .before .before .args .word) .now)) (c .before .before .before .before .if3 .left) (c .before .before .write-copies .result) ((c .before .before .write-copies .ensures) .0) _ ((c .before .before .write-copies .ensures) .1)
+returns-4 c = copies-says _ _ _ _ _ _ _ (listed (c .before .before .before .before .before .before .before .before .before .before .before .before .before .before .args .m) ((c .before .before .before .before .before .before .before .before .before .before .before .before .before .before .args .list) .now) ((c .before .before .before .before .before .before .before .before .before .before .before .before .before .before .args .word) .now) ((c .before .before .before .before .before .before .before .before .before .before .before .before .before .before .args .run) .now) ((c .before .before .before .before .before .before .before .before .before .before .before .before .before .before .args .copies) .now) (c .before .before .before .before .before .before .before .before .before .table-and-word .result) (c .before .before .before .before .before .before .before .before .before .table-and-word .ensures) (c .before .before .before .before .before .before .before .before .if1 .left) (sym (c .before .before .before .before .before .before .before .is-accepting-run .ensures) ∙ not-false _ (c .before .before .before .before .before .before .if2 .left)) (c .before .before .before .before .before .count-copies .result) ((c .before .before .before .before .before .count-copies .ensures) (c .before .before .before .before .before .before .before .before .before .before .before .before .before .before .args .m) ((c .before .before .before .before .before .before .before .before .before .before .before .before .before .before .args .list) .now) ((c .before .before .before .before .before .before .before .before .before .before .before .before .before .before .args .word) .now)) (c .before .before .before .before .if3 .left) (c .before .before .write-copies .result) ((c .before .before .write-copies .ensures) .0) _ ((c .before .before .write-copies .ensures) .1))
 
 pub list-copies-spec : {M : Type 1} → statement M
 list-copies-spec =

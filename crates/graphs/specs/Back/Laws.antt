@@ -3,7 +3,7 @@
 -- route-append         == a route, then a route
 -- route-snoc           == a route, then an edge
 -- route-back           == a route is a route of the same weight against the turned edges
-use mathlib.Core.Path.{_≡_, sym, subst}
+use mathlib.Core.Path.{_≡_, subst}
 use Prim.Native.Nat.{ℕ, zero, _+_}
 use native.Mathlib.Omega.{arith}
 use Rattle.graphs.specs.Cost.{Route, stop, via}

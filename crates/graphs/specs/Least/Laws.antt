@@ -3,9 +3,9 @@
 -- least-bound          == it is at most the bound
 -- least-has            == where it is below the bound it has the property
 -- least-first          == no number below it has the property
-use mathlib.Core.Path.{_≡_, refl, sym}
+use mathlib.Core.Path.{_≡_}
 use mathlib.Core.Logic.{_⊎_, inl, inr}
-use mathlib.Core.Bool.{Bool, true, false, cond, true≢false}
+use mathlib.Core.Bool.{Bool, true, false, cond}
 use Prim.Native.Nat.{ℕ, zero, suc, _≤_, _<_}
 use native.Mathlib.Omega.{arith}
 use Rattle.graphs.specs.Search.Laws.{true-or-false, not-both}

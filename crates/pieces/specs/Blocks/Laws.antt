@@ -8,20 +8,20 @@
 use Prim.Native.Nat.{ℕ, zero, suc, _+_, _*_, _≤_, _<_}
 use mathlib.Core.Path.{_≡_, refl, sym, ap, _∙_, subst}
 use mathlib.Core.Logic.{_⊎_, inl, inr}
-use mathlib.Core.Bool.{Bool, true, false, cond, _&&_}
+use mathlib.Core.Bool.{Bool, cond}
 use mathlib.Core.List.{List}
 use native.Mathlib.Omega.{arith}
 use lib.ListN.{getD}
 use lib.Dec.{ltb}
 use borrow.Author.Tests.{lt-ltb, le-ltb}
 use Rattle.graphs.specs.Search.Laws.{and-both-true, and-false-left, and-false-right}
-use Rattle.graphs.specs.Cost.{Route, stop, via, ToGoal, Settled}
+use Rattle.graphs.specs.Cost.{Route, stop, via, Settled}
 use Rattle.graphs.specs.Cost.Laws.{lower-bound, descend, zero-goal}
 use Rattle.graphs.specs.Back.Laws.{route-weight, route-snoc}
 use Rattle.fsbm.specs.Published.{FSBM}
 use Rattle.pieces.specs.Pairs.{Pair, both, PairMove}
 use Rattle.pieces.specs.Pairs.Laws.{pair-positive}
-use Rattle.pieces.specs.Blocks.{mostStates, nothing, costOf, Node, outside, inside, BlockEdge, begins, goes-on, cell, blockOf}
+use Rattle.pieces.specs.Blocks.{mostStates, nothing, costOf, Node, outside, inside, BlockEdge, begins, goes-on, cell}
 
 -- Where the numbers stand
 

@@ -7,20 +7,20 @@
 use Prim.Native.Nat.{ℕ, zero, suc, _+_, _*_, _-_, _≤_, _<_}
 use mathlib.Core.Path.{_≡_, refl, subst}
 use mathlib.Core.Bool.{true}
-use mathlib.Core.List.{List, []}
+use mathlib.Core.List.{List}
 use native.Mathlib.Omega.{arith}
 use lib.ListN.{length}
 use Rattle.graphs.specs.Paths.{Path, here, step}
-use Rattle.graphs.specs.Cost.{Route, stop, via, ToGoal}
+use Rattle.graphs.specs.Cost.{Route, stop, via}
 use Rattle.graphs.specs.Cost.Laws.{Plain, short-route}
 use Rattle.fsbm.specs.Machine.{wellFormed}
 use Rattle.fsbm.specs.Published.{FSBM, fsbmOf, InLanguage}
-use Rattle.fsbm.specs.Rules.{Rules, rules, buffering-below, matching-below}
+use Rattle.fsbm.specs.Rules.{rules, buffering-below, matching-below}
 use Rattle.fsbm.specs.declared.machine.Machine.{Machine}
 use Rattle.language.specs.Agreement.{run-path, path-run}
 use Rattle.pieces.specs.Pieces.{Leads}
 use Rattle.pieces.specs.Pieces.Laws.{path-leads, leads-path}
-use Rattle.pieces.specs.Pairs.{unit, halves, weigh, Pair, both, PairMove, stores-none, matches-none, letter, moves, Piece, moved, copied}
+use Rattle.pieces.specs.Pairs.{unit, halves, weigh, Pair, PairMove, stores-none, matches-none, letter, moves, Piece, moved, copied}
 use Rattle.pieces.specs.Pairs.Laws.{leads-route, route-leads}
 use Rattle.pieces.specs.Blocks.{mostStates}
 use Rattle.pieces.specs.Bound.{wordBound}

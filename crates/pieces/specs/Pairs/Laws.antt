@@ -8,7 +8,7 @@
 -- route-leads          == and a route is pieces, with this weight
 -- piece-positive, pair-positive == every edge weighs something
 use Prim.Native.Nat.{ℕ, zero, suc, _+_, _*_, _<_}
-use mathlib.Core.Path.{_≡_, refl, sym, ap, _∙_, subst, subst₂}
+use mathlib.Core.Path.{_≡_, refl, sym, subst}
 use mathlib.Core.List.{List, [], _∷_, _++_}
 use native.Mathlib.Omega.{arith}
 use lib.ListN.{length, length-append}
@@ -16,7 +16,7 @@ use Rattle.graphs.specs.Cost.{Route, stop, via}
 use Rattle.graphs.specs.Back.Laws.{route-weight}
 use Rattle.fsbm.specs.Published.{FSBM, symbol}
 use Rattle.pieces.specs.Pieces.{Stores, stored, store, Matches, matched, match, Leads, ended, read, copy}
-use Rattle.pieces.specs.Pairs.{unit, halves, weigh, Pair, both, PairMove, stores-none, matches-none, letter, NormalMove, moves, Piece, moved, copied}
+use Rattle.pieces.specs.Pairs.{unit, halves, weigh, Pair, both, PairMove, stores-none, matches-none, letter, moves, Piece, moved, copied}
 
 pub weigh-symbol : (a : ℕ) → weigh a ≡ length (symbol a) * unit + 1
 weigh-symbol zero = refl

@@ -9,8 +9,8 @@
 -- stores-enters        == storing that begins in a buffering and ends in a matching state ends with a move into it from one that is not matching
 -- copy-bound           == a number lowered to a settled block's, for the changes of mode 2 more, is at most the weight of each copy with that guess
 -- copy-origin          == and that number is the weight of one of them
-use Prim.Native.Nat.{ℕ, zero, suc, _+_, _≤_, _<_}
-use mathlib.Core.Path.{_≡_, refl, sym}
+use Prim.Native.Nat.{ℕ, _+_, _≤_, _<_}
+use mathlib.Core.Path.{_≡_, refl}
 use mathlib.Core.Logic.{_⊎_, inl, inr}
 use mathlib.Core.List.{List}
 use native.Mathlib.Omega.{arith}
@@ -19,7 +19,7 @@ use Rattle.graphs.specs.Cost.Laws.{toGoal-edge, realised-start}
 use Rattle.graphs.specs.Back.{Back}
 use Rattle.fsbm.specs.Published.{FSBM}
 use Rattle.pieces.specs.Pieces.{Stores, stored, store}
-use Rattle.pieces.specs.Pairs.{Pair, both, PairMove, NormalMove, moves, Piece, moved, copied}
+use Rattle.pieces.specs.Pairs.{Pair, both, PairMove, NormalMove, Piece, moved, copied}
 use Rattle.pieces.specs.Pairs.Laws.{apart}
 use Rattle.pieces.specs.Blocks.{Node, outside, inside, BlockEdge}
 use Rattle.pieces.specs.Blocks.Laws.{block-copies, block-realised}

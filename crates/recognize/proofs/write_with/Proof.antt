@@ -42,7 +42,7 @@ same-length-6 : tie.Need-same-length-6
 same-length-6 c = search needs
 
 returns-3 : tie.Need-returns-3
-returns-3 c = copied-front (c .before .before .before .before .before .before .before .before .before .before .before .before .before .before .before .before .before .args .m) ((c .before .before .before .before .before .before .before .before .before .before .before .before .before .before .before .before .before .args .list) .now) ((c .before .before .before .before .before .before .before .before .before .before .before .before .before .before .before .before .before .args .word) .now) _ _ _ (c .before .before .before .before .before .before .before .before .before .find-run .result) ((c .before .before .before .before .before .before .before .before .before .find-run .ensures) .fits) (omega (arith, (c .before .before .before .before .before .if2 .left), (c .before .before .before .before .before .before .before .before .before .before .before .before .before .before .before .before .before .pre) .4)) ((c .before .before .before .before .before .before .before .before .before .find-run .ensures) .accepts (omega (arith, (c .before .before .before .before .before .before .if1 .left)))) (c .before .before .copy-front .ensures)
+returns-3 c = copied-front (c .before .before .before .before .before .before .before .before .before .before .before .before .before .before .before .before .before .args .m) ((c .before .before .before .before .before .before .before .before .before .before .before .before .before .before .before .before .before .args .list) .now) ((c .before .before .before .before .before .before .before .before .before .before .before .before .before .before .before .before .before .args .word) .now) _ _ _ (c .before .before .before .before .before .before .before .before .before .find-run .result) ((c .before .before .before .before .before .before .before .before .before .find-run .ensures) .fits) (omega (arith, (c .before .before .before .before .before .if2 .left), (c .before .before .before .before .before .before .before .before .before .before .before .before .before .before .before .before .before .pre) .4)) (omega (arith, (c .before .before .before .before .before .if2 .left), (c .before .before .before .before .before .before .before .before .before .before .before .before .before .before .before .before .before .pre) .3)) ((c .before .before .before .before .before .before .before .before .before .find-run .ensures) .accepts (omega (arith, (c .before .before .before .before .before .before .if1 .left)))) (c .before .before .copy-front .ensures)
 
 pub write-with-spec : {M : Type 1} → statement M
 write-with-spec = tie.close (tie.spec find-run-requires write-slowly-requires same-length same-length-2 returns write-slowly-requires-2 same-length-3 same-length-4 returns-2 copy-front-requires same-length-5 same-length-6 returns-3)

@@ -1,5 +1,7 @@
 use mathlib.Core.Path.{_≡_, refl, sym, ap, _∙_}
-use Rattle.exports.specs.Products.{copyListOf}
+use Rattle.copies.specs.Copies.{copiedValues}
+use Rattle.copies.specs.declared.Copied.{Copied}
+use Rattle.exports.specs.Products.{copyListRecord}
 use borrow.Author.Needs.{needs}
 use Rattle.exports.proofs.products.zagvirk_list_copies.Statement.{statement}
 use Rattle.exports.proofs.products.zagvirk_list_copies.Tie as tie
@@ -25,7 +27,7 @@ same-length c = search needs
 
 -- src/products.rt:50:1
 returns : tie.Need-returns
-returns c = (ap copyListOf (sym ((c .before .answer .given) .1)) ∙ ap copyListOf ((c .before .before .before .before .before .list-copies .ensures) .0), (c .before .before .before .before .before .list-copies .ensures) .1)
+returns c = (ap (λ (a : Copied). copyListRecord (copiedValues a)) (sym ((c .before .answer .given) .1)) ∙ ap copyListRecord ((c .before .before .before .before .before .list-copies .ensures) .2), (c .before .before .before .before .before .list-copies .ensures) .1)
 
 -- src/products.rt:50:1
 same-length-2 : tie.Need-same-length-2
@@ -33,7 +35,7 @@ same-length-2 c = search needs
 
 -- src/products.rt:50:1
 returns-2 : tie.Need-returns-2
-returns-2 c = (ap copyListOf (sym ((c .before .answer2 .given) .1)) ∙ ap copyListOf ((c .before .before .before .before .before .list-copies .ensures) .0), (c .before .before .before .before .before .list-copies .ensures) .1)
+returns-2 c = (ap (λ (a : Copied). copyListRecord (copiedValues a)) (sym ((c .before .answer2 .given) .1)) ∙ ap copyListRecord ((c .before .before .before .before .before .list-copies .ensures) .2), (c .before .before .before .before .before .list-copies .ensures) .1)
 
 pub zagvirk-list-copies-spec : {M : Type 1} → statement M
 zagvirk-list-copies-spec =

@@ -1,5 +1,7 @@
 use mathlib.Core.Path.{sym, ap}
-use Rattle.exports.specs.Recognize.{recordOfAnswer}
+use Rattle.recognize.specs.Recognition.{recognizedValues}
+use Rattle.recognize.specs.declared.Recognized.{Recognized}
+use Rattle.exports.specs.Recognize.{recognizedRecord}
 use borrow.Author.Needs.{needs}
 use Rattle.exports.proofs.recognition.record_of_answer.Statement.{statement}
 use Rattle.exports.proofs.recognition.record_of_answer.Tie as tie
@@ -20,15 +22,15 @@ enum-known-answer-2 c = search needs
 
 -- src/recognition.rt:16:1
 returns : tie.Need-returns
-returns c = ap recordOfAnswer (sym (c .before .answer .given .1))
+returns c = ap (λ (a : Recognized). recognizedRecord (recognizedValues a)) (sym (c .before .answer .given .1))
 
 -- src/recognition.rt:16:1
 returns-2 : tie.Need-returns-2
-returns-2 c = ap recordOfAnswer (sym (c .enum-told .given .1))
+returns-2 c = ap (λ (a : Recognized). recognizedRecord (recognizedValues a)) (sym (c .enum-told .given .1))
 
 -- src/recognition.rt:16:1
 returns-3 : tie.Need-returns-3
-returns-3 c = ap recordOfAnswer (sym (c .before .answer2 .given .1))
+returns-3 c = ap (λ (a : Recognized). recognizedRecord (recognizedValues a)) (sym (c .before .answer2 .given .1))
 
 pub record-of-answer-spec : {M : Type 1} → statement M
 record-of-answer-spec =

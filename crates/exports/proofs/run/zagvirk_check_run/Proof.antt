@@ -1,5 +1,7 @@
 use mathlib.Core.Path.{_≡_, refl, sym, ap, _∙_}
-use Rattle.exports.specs.Run.{checkedOf}
+use Rattle.fsbm.specs.Answers.{checkedValues}
+use Rattle.fsbm.specs.declared.answer.Checked.{Checked}
+use Rattle.exports.specs.Run.{checkedRecord}
 use borrow.Author.Needs.{needs}
 use Rattle.exports.proofs.run.zagvirk_check_run.Statement.{statement}
 use Rattle.exports.proofs.run.zagvirk_check_run.Tie as tie
@@ -25,15 +27,15 @@ enum-told-2 c = search needs
 
 -- src/run.rt:122:1
 returns : tie.Need-returns
-returns c = ap checkedOf (sym (c .before .refusal .given .1) ∙ (c .before .before .before .check-run .ensures))
+returns c = ap (λ (a : Checked). checkedRecord (checkedValues a)) (sym (c .before .refusal .given .1)) ∙ ap checkedRecord (c .before .before .before .check-run .ensures .1)
 
 -- src/run.rt:122:1
 returns-2 : tie.Need-returns-2
-returns-2 c = ap checkedOf (sym (c .enum-told .given .1) ∙ (c .before .before .check-run .ensures))
+returns-2 c = ap (λ (a : Checked). checkedRecord (checkedValues a)) (sym (c .enum-told .given .1)) ∙ ap checkedRecord (c .before .before .check-run .ensures .1)
 
 -- src/run.rt:122:1
 returns-3 : tie.Need-returns-3
-returns-3 c = ap checkedOf (sym (c .enum-told2 .given .1) ∙ (c .before .before .check-run .ensures))
+returns-3 c = ap (λ (a : Checked). checkedRecord (checkedValues a)) (sym (c .enum-told2 .given .1)) ∙ ap checkedRecord (c .before .before .check-run .ensures .1)
 
 pub zagvirk-check-run-spec : {M : Type 1} → statement M
 zagvirk-check-run-spec =

@@ -1,7 +1,7 @@
 use mathlib.Core.Path.{_≡_, refl, sym, ap, _∙_}
 use Rattle.fsbm.specs.declared.config.Config.{Config}
 use Rattle.fsbm.specs.declared.answer.Stepped.{Stepped}
-use Rattle.fsbm.specs.Answers.{stepAnswer}
+use Rattle.fsbm.specs.Answers.{SteppedValues, steppedValues, stepValues}
 use Rattle.exports.specs.Run.{steppedRecord}
 use borrow.Author.Needs.{needs}
 use Rattle.exports.proofs.run.zagvirk_step.Statement.{statement}
@@ -38,15 +38,15 @@ moved-record-requires c κs = search needs
 
 -- src/run.rt:85:1
 returns : tie.Need-returns
-returns c = ap (steppedRecord (c .before .before .before .before .before .before .before .args .config)) (sym (c .before .refusal .given .1) ∙ ((c .before .before .before .step .ensures) ∙ ap (λ (z : Config). stepAnswer (c .before .before .before .before .before .before .before .args .machine) ((c .before .before .before .before .before .before .before .args .list) .now) ((c .before .before .before .before .before .before .before .args .word) .now) z (c .before .before .before .before .before .before .before .args .entry)) (c .before .before .before .before .config-of .ensures)))
+returns c = ap (λ (a : Stepped). steppedRecord (c .before .before .before .before .before .before .before .args .config) (steppedValues (c .before .before .before .before .config-of .result) a)) (sym (c .before .refusal .given .1)) ∙ (ap (steppedRecord (c .before .before .before .before .before .before .before .args .config)) (c .before .before .before .step .ensures .1) ∙ ap (λ (z : Config). steppedRecord (c .before .before .before .before .before .before .before .args .config) (stepValues (c .before .before .before .before .before .before .before .args .machine) ((c .before .before .before .before .before .before .before .args .list) .now) ((c .before .before .before .before .before .before .before .args .word) .now) z (c .before .before .before .before .before .before .before .args .entry))) (c .before .before .before .before .config-of .ensures))
 
 -- src/run.rt:85:1
 returns-2 : tie.Need-returns-2
-returns-2 c = ap (steppedRecord (c .before .before .before .before .before .before .args .config)) (sym (c .enum-told .given .1) ∙ ((c .before .before .step .ensures) ∙ ap (λ (z : Config). stepAnswer (c .before .before .before .before .before .before .args .machine) ((c .before .before .before .before .before .before .args .list) .now) ((c .before .before .before .before .before .before .args .word) .now) z (c .before .before .before .before .before .before .args .entry)) (c .before .before .before .config-of .ensures)))
+returns-2 c = ap (λ (a : Stepped). steppedRecord (c .before .before .before .before .before .before .args .config) (steppedValues (c .before .before .before .config-of .result) a)) (sym (c .enum-told .given .1)) ∙ (ap (steppedRecord (c .before .before .before .before .before .before .args .config)) (c .before .before .step .ensures .1) ∙ ap (λ (z : Config). steppedRecord (c .before .before .before .before .before .before .args .config) (stepValues (c .before .before .before .before .before .before .args .machine) ((c .before .before .before .before .before .before .args .list) .now) ((c .before .before .before .before .before .before .args .word) .now) z (c .before .before .before .before .before .before .args .entry))) (c .before .before .before .config-of .ensures))
 
 -- src/run.rt:85:1
 returns-3 : tie.Need-returns-3
-returns-3 c = (c .moved-record .ensures) ∙ ap (steppedRecord (c .before .before .before .before .before .before .before .before .args .config)) (sym (c .before .before .next .given .1) ∙ ((c .before .before .before .before .step .ensures) ∙ ap (λ (z : Config). stepAnswer (c .before .before .before .before .before .before .before .before .args .machine) ((c .before .before .before .before .before .before .before .before .args .list) .now) ((c .before .before .before .before .before .before .before .before .args .word) .now) z (c .before .before .before .before .before .before .before .before .args .entry)) (c .before .before .before .before .before .config-of .ensures)))
+returns-3 c = (c .moved-record .ensures) ∙ ap (λ (a : Stepped). steppedRecord (c .before .before .before .before .before .before .before .before .args .config) (steppedValues (c .before .before .before .before .before .config-of .result) a)) (sym (c .before .before .next .given .1)) ∙ (ap (steppedRecord (c .before .before .before .before .before .before .before .before .args .config)) (c .before .before .before .before .step .ensures .1) ∙ ap (λ (z : Config). steppedRecord (c .before .before .before .before .before .before .before .before .args .config) (stepValues (c .before .before .before .before .before .before .before .before .args .machine) ((c .before .before .before .before .before .before .before .before .args .list) .now) ((c .before .before .before .before .before .before .before .before .args .word) .now) z (c .before .before .before .before .before .before .before .before .args .entry))) (c .before .before .before .before .before .config-of .ensures))
 
 pub zagvirk-step-spec : {M : Type 1} → statement M
 zagvirk-step-spec =

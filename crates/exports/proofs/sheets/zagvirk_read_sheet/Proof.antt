@@ -1,5 +1,5 @@
 use mathlib.Core.Path.{ap}
-use Rattle.exports.specs.SheetAnswers.{asRead, readSheet}
+use Rattle.exports.specs.SheetAnswers.{readRecord}
 use borrow.Author.Needs.{needs}
 use Rattle.exports.proofs.sheets.zagvirk_read_sheet.Statement.{statement}
 use Rattle.exports.proofs.sheets.zagvirk_read_sheet.Tie as tie
@@ -17,8 +17,7 @@ same-length c = search needs
 
 -- src/sheets.rt:39:1
 returns : tie.Need-returns
-unfolding readSheet
-returns c = (ap asRead ((c .before .before .before .read-sheet .ensures) .0), (c .before .before .before .read-sheet .ensures) .1)
+returns c = (ap readRecord ((c .before .before .before .read-sheet .ensures) .0), (c .before .before .before .read-sheet .ensures) .1)
 
 pub zagvirk-read-sheet-spec : {M : Type 1} → statement M
 zagvirk-read-sheet-spec = tie.close (tie.spec read-sheet-requires same-length returns)

@@ -1,5 +1,7 @@
 use mathlib.Core.Path.{ap, sym, _∙_}
-use Rattle.exports.specs.SheetAnswers.{asTranslation, translation}
+use Rattle.spelling.specs.Spelling.{translatedValues}
+use Rattle.spelling.specs.declared.Translated.{Translated}
+use Rattle.exports.specs.SheetAnswers.{translationRecord}
 use borrow.Author.Needs.{needs}
 use Rattle.exports.proofs.sheets.zagvirk_translate.Statement.{statement}
 use Rattle.exports.proofs.sheets.zagvirk_translate.Tie as tie
@@ -25,8 +27,7 @@ same-length c = search needs
 
 -- src/sheets.rt:73:1
 returns : tie.Need-returns
-unfolding translation
-returns c = (ap asTranslation (sym ((c .before .answer .given) .1)) ∙ ap asTranslation ((c .before .before .before .before .before .translate .ensures) .0), (c .before .before .before .before .before .translate .ensures) .1)
+returns c = (ap (λ (a : Translated). translationRecord (translatedValues a)) (sym ((c .before .answer .given) .1)) ∙ ap translationRecord ((c .before .before .before .before .before .translate .ensures) .2), (c .before .before .before .before .before .translate .ensures) .1)
 
 -- src/sheets.rt:73:1
 same-length-2 : tie.Need-same-length-2
@@ -34,8 +35,7 @@ same-length-2 c = search needs
 
 -- src/sheets.rt:73:1
 returns-2 : tie.Need-returns-2
-unfolding translation
-returns-2 c = (ap asTranslation (sym ((c .before .answer2 .given) .1)) ∙ ap asTranslation ((c .before .before .before .before .before .translate .ensures) .0), (c .before .before .before .before .before .translate .ensures) .1)
+returns-2 c = (ap (λ (a : Translated). translationRecord (translatedValues a)) (sym ((c .before .answer2 .given) .1)) ∙ ap translationRecord ((c .before .before .before .before .before .translate .ensures) .2), (c .before .before .before .before .before .translate .ensures) .1)
 
 pub zagvirk-translate-spec : {M : Type 1} → statement M
 zagvirk-translate-spec =

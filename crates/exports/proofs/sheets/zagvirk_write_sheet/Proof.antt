@@ -1,5 +1,7 @@
 use mathlib.Core.Path.{ap, sym, _∙_}
-use Rattle.exports.specs.SheetAnswers.{asWritten, sheetWritten}
+use Rattle.sheet.specs.Writing.{writtenValues}
+use Rattle.sheet.specs.declared.write.Written.{Written}
+use Rattle.exports.specs.SheetAnswers.{writtenRecord}
 use borrow.Author.Needs.{needs}
 use Rattle.exports.proofs.sheets.zagvirk_write_sheet.Statement.{statement}
 use Rattle.exports.proofs.sheets.zagvirk_write_sheet.Tie as tie
@@ -25,8 +27,7 @@ same-length c = search needs
 
 -- src/sheets.rt:53:1
 returns : tie.Need-returns
-unfolding sheetWritten
-returns c = (ap asWritten (sym ((c .before .answer .given) .1)) ∙ ap asWritten ((c .before .before .before .before .before .write-sheet .ensures) .0), (c .before .before .before .before .before .write-sheet .ensures) .1)
+returns c = (ap (λ (a : Written). writtenRecord (writtenValues a)) (sym ((c .before .answer .given) .1)) ∙ ap writtenRecord ((c .before .before .before .before .before .write-sheet .ensures) .2), (c .before .before .before .before .before .write-sheet .ensures) .1)
 
 -- src/sheets.rt:53:1
 same-length-2 : tie.Need-same-length-2
@@ -34,8 +35,7 @@ same-length-2 c = search needs
 
 -- src/sheets.rt:53:1
 returns-2 : tie.Need-returns-2
-unfolding sheetWritten
-returns-2 c = (ap asWritten (sym ((c .before .answer2 .given) .1)) ∙ ap asWritten ((c .before .before .before .before .before .write-sheet .ensures) .0), (c .before .before .before .before .before .write-sheet .ensures) .1)
+returns-2 c = (ap (λ (a : Written). writtenRecord (writtenValues a)) (sym ((c .before .answer2 .given) .1)) ∙ ap writtenRecord ((c .before .before .before .before .before .write-sheet .ensures) .2), (c .before .before .before .before .before .write-sheet .ensures) .1)
 
 pub zagvirk-write-sheet-spec : {M : Type 1} → statement M
 zagvirk-write-sheet-spec =

@@ -1,4 +1,4 @@
-use Rattle.fsbm.proofs.AnswerCases.{check-refused, check-tried, table-good}
+use Rattle.fsbm.proofs.AnswerCases.{check-refused, check-tried, check-says, table-good}
 use Rattle.fsbm.specs.Answers.{checkedBy}
 use mathlib.Core.Path.{sym, _∙_, ap}
 use borrow.Author.Needs.{needs}
@@ -16,7 +16,7 @@ table-and-word-requires c κs = search needs
 
 -- src/run.rt:82:9
 returns : tie.Need-returns
-returns c = check-refused (c .before .before .before .before .before .args .m) ((c .before .before .before .before .before .args .list) .now) ((c .before .before .before .before .before .args .word) .now) (c .before .table-and-word .result) (c .before .table-and-word .ensures) ((c .before .before .before .before .before .args .run) .now) (c .if1 .taken)
+returns c = check-says _ _ _ _ _ (check-refused (c .before .before .before .before .before .args .m) ((c .before .before .before .before .before .args .list) .now) ((c .before .before .before .before .before .args .word) .now) (c .before .table-and-word .result) (c .before .table-and-word .ensures) ((c .before .before .before .before .before .args .run) .now) (c .if1 .taken))
 
 -- src/run.rt:84:8
 is-accepting-run-requires : tie.Need-is-accepting-run-requires
@@ -24,11 +24,11 @@ is-accepting-run-requires c κs = table-good 1048576 (c .before .before .before 
 
 -- src/run.rt:85:9
 returns-2 : tie.Need-returns-2
-returns-2 c = ap checkedBy (sym (c .if2 .taken)) ∙ check-tried (c .before .before .before .before .before .before .before .args .m) ((c .before .before .before .before .before .before .before .args .list) .now) ((c .before .before .before .before .before .before .before .args .word) .now) (c .before .before .before .table-and-word .result) (c .before .before .before .table-and-word .ensures) ((c .before .before .before .before .before .before .before .args .run) .now) (c .before .before .if1 .left) (c .before .is-accepting-run .result) (c .before .is-accepting-run .ensures)
+returns-2 c = check-says _ _ _ _ _ (ap checkedBy (sym (c .if2 .taken)) ∙ check-tried (c .before .before .before .before .before .before .before .args .m) ((c .before .before .before .before .before .before .before .args .list) .now) ((c .before .before .before .before .before .before .before .args .word) .now) (c .before .before .before .table-and-word .result) (c .before .before .before .table-and-word .ensures) ((c .before .before .before .before .before .before .before .args .run) .now) (c .before .before .if1 .left) (c .before .is-accepting-run .result) (c .before .is-accepting-run .ensures))
 
 -- src/run.rt:77:1
 returns-3 : tie.Need-returns-3
-returns-3 c = ap checkedBy (sym (c .if2 .left)) ∙ check-tried (c .before .before .before .before .before .before .before .args .m) ((c .before .before .before .before .before .before .before .args .list) .now) ((c .before .before .before .before .before .before .before .args .word) .now) (c .before .before .before .table-and-word .result) (c .before .before .before .table-and-word .ensures) ((c .before .before .before .before .before .before .before .args .run) .now) (c .before .before .if1 .left) (c .before .is-accepting-run .result) (c .before .is-accepting-run .ensures)
+returns-3 c = check-says _ _ _ _ _ (ap checkedBy (sym (c .if2 .left)) ∙ check-tried (c .before .before .before .before .before .before .before .args .m) ((c .before .before .before .before .before .before .before .args .list) .now) ((c .before .before .before .before .before .before .before .args .word) .now) (c .before .before .before .table-and-word .result) (c .before .before .before .table-and-word .ensures) ((c .before .before .before .before .before .before .before .args .run) .now) (c .before .before .if1 .left) (c .before .is-accepting-run .result) (c .before .is-accepting-run .ensures))
 
 pub check-run-spec : {M : Type 1} → statement M
 check-run-spec =

@@ -3,7 +3,7 @@ use mathlib.Core.Path.{_≡_, refl, sym, ap, _∙_}
 use native.Mathlib.Omega.{arith}
 use native.Mathlib.Nat.{mul-le-mul}
 use lib.ListN.{length, getD}
-use Rattle.product.specs.Tables.{Table, table}
+use Rattle.product.specs.Tables.{TableRules, table}
 use Rattle.product.proofs.FaultCases.{letter-few, count-is}
 use borrow.Author.Needs.{needs}
 use Rattle.product.proofs.fault.count_joined.Statement.{statement}

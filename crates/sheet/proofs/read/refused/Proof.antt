@@ -1,5 +1,4 @@
 use mathlib.Core.Path.{refl}
-use Rattle.sheet.specs.Reading.{noMachine}
 use Rattle.sheet.proofs.read.refused.Statement.{statement}
 use Rattle.sheet.proofs.read.refused.Tie as tie
 use Rattle.sheet.proofs.read.refused.Reads as reads
@@ -7,7 +6,6 @@ use Rattle.sheet.proofs.read.refused.Lts as lts
 
 -- src/read.rt:19:1
 returns : tie.Need-returns
-unfolding noMachine
 returns c = refl
 
 pub refused-spec : {M : Type 1} → statement M

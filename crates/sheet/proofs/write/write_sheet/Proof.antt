@@ -1,4 +1,4 @@
-use Rattle.sheet.proofs.WriteCases.{write-ill, write-short, write-long, sheet-put, well-formed-counts, well-formed-letters, well-formed-short}
+use Rattle.sheet.proofs.WriteCases.{write-ill, write-short, write-long, write-says, sheet-put, well-formed-counts, well-formed-letters, well-formed-short}
 use borrow.Author.Tests.{not-true, not-false}
 use lib.ListN.{length}
 use native.Mathlib.Omega.{arith}
@@ -19,7 +19,7 @@ is-well-formed-requires c κs = search needs
 
 -- src/write.rt:90:9
 returns : tie.Need-returns
-returns c = write-ill (c .before .before .before .before .args .t1) ((c .before .before .before .before .args .list) .now) ((c .before .before .before .before .args .sheet) .now) (c .before .is-well-formed .result) (c .before .is-well-formed .ensures) (not-true _ (c .if1 .taken))
+returns c = write-says _ _ _ _ _ (write-ill (c .before .before .before .before .args .t1) ((c .before .before .before .before .args .list) .now) ((c .before .before .before .before .args .sheet) .now) (c .before .is-well-formed .result) (c .before .is-well-formed .ensures) (not-true _ (c .if1 .taken)))
 
 -- src/write.rt:95:22
 mul-start : tie.Need-mul-start
@@ -39,7 +39,7 @@ add-needed c = omega (arith, well-formed-counts (c .before .before .before .befo
 
 -- src/write.rt:98:9
 returns-2 : tie.Need-returns-2
-returns-2 c = write-short (c .before .before .before .before .before .args .t1) ((c .before .before .before .before .before .args .list) .now) ((c .before .before .before .before .before .args .sheet) .now) (c .before .before .is-well-formed .result) _ (c .before .before .is-well-formed .ensures) (not-false _ (c .before .if1 .left)) refl (c .if2 .taken)
+returns-2 c = write-says _ _ _ _ _ (write-short (c .before .before .before .before .before .args .t1) ((c .before .before .before .before .before .args .list) .now) ((c .before .before .before .before .before .args .sheet) .now) (c .before .before .is-well-formed .result) _ (c .before .before .is-well-formed .ensures) (not-false _ (c .before .if1 .left)) refl (c .if2 .taken))
 
 -- src/write.rt:100:5
 write-header-requires : tie.Need-write-header-requires
@@ -59,7 +59,7 @@ same-length c = search needs
 
 -- src/write.rt:86:1
 returns-3 : tie.Need-returns-3
-returns-3 c = write-long (c .before .before .before .before .before .before .before .before .before .before .before .before .before .before .before .before .before .before .before .args .t1) ((c .before .before .before .before .before .before .before .before .before .before .before .before .before .before .before .before .before .before .before .args .list) .now) ((c .before .before .before .before .before .before .before .before .before .before .before .before .before .before .before .before .before .before .before .args .sheet) .now) (c .before .before .before .before .before .before .before .before .before .before .before .before .before .before .before .before .is-well-formed .result) _ ((c .before .before .write-transitions .last) .0) (c .before .before .before .before .before .before .before .before .before .before .before .before .before .before .before .before .is-well-formed .ensures) (not-false _ (c .before .before .before .before .before .before .before .before .before .before .before .before .before .before .before .if1 .left)) refl (c .before .before .before .before .before .before .before .before .before .before .before .before .before .before .if2 .left) (sheet-put (c .before .before .before .before .before .before .before .before .before .before .before .before .before .before .before .before .before .before .before .args .t1) ((c .before .before .before .before .before .before .before .before .before .before .before .before .before .before .before .before .before .before .before .args .list) .now) ((c .before .before .before .before .before .before .before .before .before .before .before .before .before .before .before .before .before .before .before .args .sheet) .now) ((c .before .before .before .before .before .before .before .before .before .before .before .before .write-header .last) .0) ((c .before .before .before .before .before .before .write-states .last) .0) ((c .before .before .write-transitions .last) .0) _ (c .before .before .before .before .before .before .before .before .before .before .before .before .write-header .ensures) (c .before .before .before .before .before .before .write-states .ensures) (c .before .before .write-transitions .ensures) refl (c .before .before .before .before .before .before .before .before .before .before .before .before .before .before .if2 .left))
+returns-3 c = write-says _ _ _ _ _ (write-long (c .before .before .before .before .before .before .before .before .before .before .before .before .before .before .before .before .before .before .before .args .t1) ((c .before .before .before .before .before .before .before .before .before .before .before .before .before .before .before .before .before .before .before .args .list) .now) ((c .before .before .before .before .before .before .before .before .before .before .before .before .before .before .before .before .before .before .before .args .sheet) .now) (c .before .before .before .before .before .before .before .before .before .before .before .before .before .before .before .before .is-well-formed .result) _ ((c .before .before .write-transitions .last) .0) (c .before .before .before .before .before .before .before .before .before .before .before .before .before .before .before .before .is-well-formed .ensures) (not-false _ (c .before .before .before .before .before .before .before .before .before .before .before .before .before .before .before .if1 .left)) refl (c .before .before .before .before .before .before .before .before .before .before .before .before .before .before .if2 .left) (sheet-put (c .before .before .before .before .before .before .before .before .before .before .before .before .before .before .before .before .before .before .before .args .t1) ((c .before .before .before .before .before .before .before .before .before .before .before .before .before .before .before .before .before .before .before .args .list) .now) ((c .before .before .before .before .before .before .before .before .before .before .before .before .before .before .before .before .before .before .before .args .sheet) .now) ((c .before .before .before .before .before .before .before .before .before .before .before .before .write-header .last) .0) ((c .before .before .before .before .before .before .write-states .last) .0) ((c .before .before .write-transitions .last) .0) _ (c .before .before .before .before .before .before .before .before .before .before .before .before .write-header .ensures) (c .before .before .before .before .before .before .write-states .ensures) (c .before .before .write-transitions .ensures) refl (c .before .before .before .before .before .before .before .before .before .before .before .before .before .before .if2 .left)))
 
 pub write-sheet-spec : {M : Type 1} → statement M
 write-sheet-spec =

@@ -1,0 +1,1 @@
+// The demands of document 01 as theorems about the public calls, in specs/. No code.
