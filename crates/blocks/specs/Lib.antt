@@ -3,3 +3,4 @@ pub mod Gathered
 pub mod Stretches
 pub mod Works
 pub mod Settling
+pub mod Readers

@@ -1,16 +1,19 @@
 // A block: for one guess of the state where storing ends and matching begins, the least weights of the copies that have begun, as far as
 // each pair of states.
 //
-// block     the numbers of a block, for copies that begin in a state of a set
+// block_by, block   the numbers of a block, for copies that begin in a state of a set
 ghost use Prim.Native.Nat.{ℕ, _+_, _*_, _≤_, _<_};
 ghost use mathlib.Core.Path.{_≡_};
 ghost use lib.ListN.{length, getD};
 ghost use Rattle.stateset.specs.Set.{In};
 ghost use Rattle.fsbm.specs.Machine.{buffering};
+ghost use Rattle.pieces.specs.Blocks.{nothing};
 ghost use Rattle.blocks.specs.Numbers.{Sized, Lowers};
+ghost use Rattle.blocks.specs.Readers.{Readers};
 ghost use Rattle.blocks.specs.Works.{Kind, Ready};
-ghost use Rattle.blocks.specs.Settling.{Scanned, Cleared, Past, Blank, Begin, Begins, Worked, Block};
+ghost use Rattle.blocks.specs.Settling.{Scanned, Cleared, Past, Begin, Begins, Worked, BlockTo, Block};
 use crate::numbers;
+use crate::readers;
 use crate::row;
 use fsbm::machine::Machine;
 
@@ -49,15 +52,17 @@ fn work(
     m: Machine,
     list: &[u16],
     index: &[u16; 16065],
+    readers: &[u64; 251],
     g: u64,
     h: u64,
     b: &mut [u64; 4096],
     d: &mut [u64; 64],
     p: &mut [u64; 64],
+    top: u64,
 )
-    requires { ⌜ Ready m (now list) (now index) h × Kind (buffering (m .marks)) g ⌝ }
-    requires { ⌜ Sized (now b) (now d) × (length (now p) ≡ 64) ⌝ }
-    ensures { λ r. ⌜ Worked m (now (list .entry)) (now (b .entry)) (now (d .entry)) (now (b .exit)) ⌝ }
+    requires { ⌜ Ready m (now list) (now index) h × Kind (buffering (m .marks)) g × Readers m (now list) (now readers) ⌝ }
+    requires { ⌜ Sized (now b) (now d) × (length (now p) ≡ 64) × (top ≤ nothing) ⌝ }
+    ensures { λ r. ⌜ Worked m (now (list .entry)) top (now (b .entry)) (now (d .entry)) (now (b .exit)) ⌝ }
 {
     let mut s: usize = 0;
     loop {
@@ -67,7 +72,7 @@ fn work(
         }
         let set = d[s];
         d[s] = 0;
-        row::row(m, list, index, g, h, b, d, s, set, p);
+        row::row(m, list, index, readers, g, h, b, d, s, set, p, top);
     }
 }
 
@@ -83,50 +88,77 @@ fn clear(b: &mut [u64; 4096], n: usize)
     }
 }
 
-// Lowers the number of (q, guess) to v + 1, if v is less than NONE.
-fn begin(b: &mut [u64; 4096], d: &mut [u64; 64], q: usize, guess: usize, v: u64)
+// Lowers the number of (q, guess) to v + 1, if v is less than top.
+fn begin(b: &mut [u64; 4096], d: &mut [u64; 64], q: usize, guess: usize, v: u64, top: u64)
     requires { ⌜ Sized (now b) (now d) ⌝ }
-    requires { ⌜ (q < 64) × (guess < 64) ⌝ }
-    ensures { λ r. ⌜ Lowers (Begin q guess v) (now (b .entry)) (now (d .entry)) (now (b .exit)) (now (d .exit)) ⌝ }
+    requires { ⌜ (q < 64) × (guess < 64) × (top ≤ nothing) ⌝ }
+    ensures { λ r. ⌜ Lowers (Begin top q guess v) (now (b .entry)) (now (d .entry)) (now (b .exit)) (now (d .exit)) ⌝ }
 {
-    if NONE <= v {
+    if top <= v {
         return;
     }
     numbers::lower(b, d, q, guess, v + 1);
 }
 
 // The same for each state of a set, with its number in costs for v.
-fn begin_all(b: &mut [u64; 4096], d: &mut [u64; 64], set: u64, guess: usize, costs: &[u64; 64])
+fn begin_all(
+    b: &mut [u64; 4096],
+    d: &mut [u64; 64],
+    set: u64,
+    guess: usize,
+    costs: &[u64; 64],
+    top: u64,
+)
     requires { ⌜ Sized (now b) (now d) ⌝ }
-    requires { ⌜ guess < 64 ⌝ }
-    ensures { λ r. ⌜ Lowers (Begins guess (In «set») (now (costs .entry))) (now (b .entry)) (now (d .entry)) (now (b .exit)) (now (d .exit)) ⌝ }
+    requires { ⌜ (guess < 64) × (top ≤ nothing) ⌝ }
+    ensures { λ r. ⌜ Lowers (Begins top guess (In «set») (now (costs .entry))) (now (b .entry)) (now (d .entry)) (now (b .exit)) (now (d .exit)) ⌝ }
 {
     let mut rest = set;
     while rest != 0 {
         let q = stateset::lowest(rest) as usize;
         rest = stateset::without_lowest(rest);
-        begin(b, d, q, guess, costs[q]);
+        begin(b, d, q, guess, costs[q], top);
     }
 }
 
 // A number for each state, all 0.
-pub fn zeros() -> [u64; 64]
+fn zeros() -> [u64; 64]
     ensures { λ r. ⌜ length r ≡ 64 ⌝ }
 {
     [0; 64]
 }
 
-// A block in which nothing stands.
-pub fn no_block() -> [u64; 4096]
-    ensures { λ r. ⌜ Blank r ⌝ }
-{
-    [NONE; 4096]
-}
-
 // The block of the guess, for copies that begin in a buffering state of the set; costs has the least weights at which they begin. g has
-// the buffering states, h the matching states.
+// the buffering states, h the matching states, readers for each letter those that can read it (readers::readers). Numbers of
+// top and above are not looked at any further: they may be too large.
 // Time: for each row that is taken, as often as its numbers are lowered, its transitions and for each of them a step a state; and at
 // first 64 numbers a state.
+pub fn block_by(
+    m: Machine,
+    list: &[u16],
+    index: &[u16; 16065],
+    readers: &[u64; 251],
+    g: u64,
+    h: u64,
+    guess: usize,
+    set: u64,
+    costs: &[u64; 64],
+    b: &mut [u64; 4096],
+    top: u64,
+)
+    requires { ⌜ Ready m (now list) (now index) h × Kind (buffering (m .marks)) g × Readers m (now list) (now readers) ⌝ }
+    requires { ⌜ (length (now b) ≡ 4096) × Past m (now b) × (guess < 64) × (top ≤ nothing) ⌝ }
+    ensures { λ r. ⌜ BlockTo m (now (list .entry)) top guess «set» (now (costs .entry)) (now (b .exit)) ⌝ }
+{
+    clear(b, m.states * 64);
+    let held = stateset::intersection(set, g);
+    let mut d = zeros();
+    let mut p = zeros();
+    begin_all(b, &mut d, held, guess, costs, top);
+    work(m, list, index, readers, g, h, b, &mut d, &mut p, top);
+}
+
+// The same up to NONE, where it is not known which states can read a letter.
 pub fn block(
     m: Machine,
     list: &[u16],
@@ -142,10 +174,6 @@ pub fn block(
     requires { ⌜ (length (now b) ≡ 4096) × Past m (now b) × (guess < 64) ⌝ }
     ensures { λ r. ⌜ Block m (now (list .entry)) guess «set» (now (costs .entry)) (now (b .exit)) ⌝ }
 {
-    clear(b, m.states * 64);
-    let held = stateset::intersection(set, g);
-    let mut d = zeros();
-    let mut p = zeros();
-    begin_all(b, &mut d, held, guess, costs);
-    work(m, list, index, g, h, b, &mut d, &mut p);
+    let readers = readers::readers(m, list, h);
+    block_by(m, list, index, &readers, g, h, guess, set, costs, b, NONE);
 }

@@ -3,11 +3,8 @@ ghost use Prim.Native.Nat.{ℕ, _+_, _*_, _≤_, _<_};
 ghost use mathlib.Core.Path.{_≡_};
 ghost use lib.ListN.{length, getD};
 ghost use Rattle.stateset.specs.Set.{In};
-ghost use Rattle.blocks.specs.Numbers.{Sized};
+ghost use Rattle.pieces.specs.Blocks.{nothing};
 ghost use Rattle.blocks.specs.Gathered.{Adding, Pick, Reach, Far, From, Near, Stay};
-
-// The number that says "no way".
-pub const NONE: u64 = 4611686018427387904;
 
 // The same number as an index.
 pub fn wide(x: u16) -> usize
@@ -49,7 +46,7 @@ fn reach(list: &[u16], lo: usize, hi: usize, may: u64, p: &mut [u64; 64], got: u
     all
 }
 
-// The same for each state that a transition enters of the key `base`, with v + w for v, if v is less than NONE.
+// The same for each state that a transition enters of the key `base`, with v + w for v, if v is less than top.
 fn far(
     list: &[u16],
     index: &[u16; 16065],
@@ -59,13 +56,14 @@ fn far(
     got: u64,
     v: u64,
     w: u64,
+    top: u64,
 ) -> u64
     requires { ⌜ length (now p) ≡ 64 ⌝ }
     requires { ⌜ (base < 16064) × (getD (now index) (base + 1) 0 * 3 ≤ length (now list)) ⌝ }
-    requires { ⌜ w ≤ 8589934594 ⌝ }
-    ensures { λ r. ⌜ Adding (Far (now (list .entry)) (now (index .entry)) base may v w) (now (p .entry)) got (now (p .exit)) r ⌝ }
+    requires { ⌜ (w ≤ 8589934594) × (top ≤ nothing) ⌝ }
+    ensures { λ r. ⌜ Adding (Far (now (list .entry)) (now (index .entry)) top base may v w) (now (p .entry)) got (now (p .exit)) r ⌝ }
 {
-    if NONE <= v {
+    if top <= v {
         return got;
     }
     let lo = wide(index[base]);
@@ -74,7 +72,7 @@ fn far(
 }
 
 // For each member of may that a transition by the letter x enters from a state of the set: the least number in row s of such a state,
-// and w more. The states that have a number then.
+// of those less than top, and w more. The states that have a number then.
 pub fn gather(
     list: &[u16],
     index: &[u16; 16065],
@@ -86,45 +84,56 @@ pub fn gather(
     s: usize,
     set: u64,
     p: &mut [u64; 64],
+    top: u64,
 ) -> u64
     requires { ⌜ length (now p) ≡ 64 ⌝ }
     requires { ⌜ (stride ≤ 251) × (x < stride) × ((t : ℕ) → In «set» t → getD (now index) (t * stride + x + 1) 0 * 3 ≤ length (now list)) ⌝ }
-    requires { ⌜ (w ≤ 8589934594) × (s < 64) ⌝ }
-    ensures { λ r. ⌜ Adding (From (now (list .entry)) (now (index .entry)) stride x w may (now (b .entry)) s (In «set»)) (now (p .entry)) 0 (now (p .exit)) r ⌝ }
+    requires { ⌜ (w ≤ 8589934594) × (s < 64) × (top ≤ nothing) ⌝ }
+    ensures { λ r. ⌜ Adding (From (now (list .entry)) (now (index .entry)) top stride x w may (now (b .entry)) s (In «set»)) (now (p .entry)) 0 (now (p .exit)) r ⌝ }
 {
     let mut got = stateset::empty();
     let mut rest = set;
     while rest != 0 {
         let t = stateset::lowest(rest) as usize;
         rest = stateset::without_lowest(rest);
-        got = far(list, index, t * stride + x, may, p, got, b[s * 64 + t], w);
+        got = far(
+            list,
+            index,
+            t * stride + x,
+            may,
+            p,
+            got,
+            b[s * 64 + t],
+            w,
+            top,
+        );
     }
     got
 }
 
-// Notes v + 1 for t in p, as pick does, if v is less than NONE.
-fn near(may: u64, p: &mut [u64; 64], got: u64, t: usize, v: u64) -> u64
-    requires { ⌜ length (now p) ≡ 64 ⌝ }
-    ensures { λ r. ⌜ Adding (Near may t v) (now (p .entry)) got (now (p .exit)) r ⌝ }
+// Notes v + 1 for t in p, as pick does, if v is less than top.
+fn near(may: u64, p: &mut [u64; 64], got: u64, t: usize, v: u64, top: u64) -> u64
+    requires { ⌜ (length (now p) ≡ 64) × (top ≤ nothing) ⌝ }
+    ensures { λ r. ⌜ Adding (Near top may t v) (now (p .entry)) got (now (p .exit)) r ⌝ }
 {
-    if NONE <= v {
+    if top <= v {
         return got;
     }
     pick(may, p, got, t, v + 1)
 }
 
-// For each state of the set: its number in row s, and 1 more. The states that have a number then.
-pub fn stay(b: &[u64; 4096], s: usize, set: u64, p: &mut [u64; 64]) -> u64
+// For each state of the set: its number in row s, if it is less than top, and 1 more. The states that have a number then.
+pub fn stay(b: &[u64; 4096], s: usize, set: u64, p: &mut [u64; 64], top: u64) -> u64
     requires { ⌜ length (now p) ≡ 64 ⌝ }
-    requires { ⌜ s < 64 ⌝ }
-    ensures { λ r. ⌜ Adding (Stay (now (b .entry)) s (In «set»)) (now (p .entry)) 0 (now (p .exit)) r ⌝ }
+    requires { ⌜ (s < 64) × (top ≤ nothing) ⌝ }
+    ensures { λ r. ⌜ Adding (Stay top (now (b .entry)) s (In «set»)) (now (p .entry)) 0 (now (p .exit)) r ⌝ }
 {
     let mut got = stateset::empty();
     let mut rest = set;
     while rest != 0 {
         let t = stateset::lowest(rest) as usize;
         rest = stateset::without_lowest(rest);
-        got = near(set, p, got, t, b[s * 64 + t]);
+        got = near(set, p, got, t, b[s * 64 + t], top);
     }
     got
 }

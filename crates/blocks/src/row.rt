@@ -6,8 +6,10 @@ ghost use mathlib.Core.Path.{_≡_};
 ghost use lib.ListN.{length, getD};
 ghost use Rattle.stateset.specs.Set.{In};
 ghost use Rattle.fsbm.specs.Machine.{transitionAt, buffering, matching};
+ghost use Rattle.pieces.specs.Blocks.{nothing};
 ghost use Rattle.blocks.specs.Numbers.{Sized};
 ghost use Rattle.blocks.specs.Gathered.{Adding};
+ghost use Rattle.blocks.specs.Readers.{Readers, Covers};
 ghost use Rattle.blocks.specs.Works.{Kind, Ready, Storable, RowSo, RowOn, RowDone, Moves};
 use crate::gather;
 use crate::numbers;
@@ -30,28 +32,30 @@ fn storable(m: Machine, g: u64, h: u64, s: usize) -> u64
 
 // The least numbers of the pairs that row s leads to by the letter x, without their storing halves: for letter 0, by which the storing
 // half moves alone, for each state of the set; for another letter, by which both move, for each member of h that it leads to from one
-// that is in the set too.
+// that is in the set too. read has the members of h from which it leads to one.
 fn moved(
     list: &[u16],
     index: &[u16; 16065],
     stride: usize,
     x: usize,
     h: u64,
+    read: u64,
     b: &[u64; 4096],
     s: usize,
     set: u64,
     p: &mut [u64; 64],
+    top: u64,
 ) -> u64
     requires { ⌜ length (now p) ≡ 64 ⌝ }
     requires { ⌜ (stride ≤ 251) × (x < stride) × ((t : ℕ) → In «set» t → In h t → getD (now index) (t * stride + x + 1) 0 * 3 ≤ length (now list)) ⌝ }
-    requires { ⌜ s < 64 ⌝ }
-    ensures { λ r. ⌜ Adding (Moves (now (list .entry)) (now (index .entry)) stride x h (now (b .entry)) s «set») (now (p .entry)) 0 (now (p .exit)) r ⌝ }
+    requires { ⌜ (s < 64) × (top ≤ nothing) × Covers (now list) (now index) stride x h read ⌝ }
+    ensures { λ r. ⌜ Adding (Moves (now (list .entry)) (now (index .entry)) top stride x h (now (b .entry)) s «set») (now (p .entry)) 0 (now (p .exit)) r ⌝ }
 {
     if x == 0 {
-        return gather::stay(b, s, set, p);
+        return gather::stay(b, s, set, p, top);
     }
-    let held = stateset::intersection(set, h);
-    gather::gather(list, index, stride, x, PAIR, h, b, s, held, p)
+    let held = stateset::intersection(set, read);
+    gather::gather(list, index, stride, x, PAIR, h, b, s, held, p, top)
 }
 
 // Lowers the numbers of row s along the moves of the matching half alone.
@@ -59,19 +63,21 @@ fn alone(
     m: Machine,
     list: &[u16],
     index: &[u16; 16065],
+    readers: &[u64; 251],
     h: u64,
     b: &mut [u64; 4096],
     d: &mut [u64; 64],
     s: usize,
     set: u64,
     p: &mut [u64; 64],
+    top: u64,
 )
-    requires { ⌜ Ready m (now list) (now index) h ⌝ }
-    requires { ⌜ Sized (now b) (now d) × (length (now p) ≡ 64) × (s < m .states) ⌝ }
-    ensures { λ r. ⌜ (length (now (p .exit)) ≡ 64) × RowSo m (now (list .entry)) s «set» (getD (now (index .entry)) (s * (m .letters + 1) + 0) 0) (now (b .entry)) (now (d .entry)) (now (b .exit)) (now (d .exit)) ⌝ }
+    requires { ⌜ Ready m (now list) (now index) h × Readers m (now list) (now readers) ⌝ }
+    requires { ⌜ Sized (now b) (now d) × (length (now p) ≡ 64) × (s < m .states) × (top ≤ nothing) ⌝ }
+    ensures { λ r. ⌜ (length (now (p .exit)) ≡ 64) × RowSo m (now (list .entry)) top s «set» (getD (now (index .entry)) (s * (m .letters + 1) + 0) 0) (now (b .entry)) (now (d .entry)) (now (b .exit)) (now (d .exit)) ⌝ }
 {
-    let held = stateset::intersection(set, h);
-    let got = gather::gather(list, index, m.letters + 1, 0, 1, h, &*b, s, held, p);
+    let held = stateset::intersection(set, readers[0]);
+    let got = gather::gather(list, index, m.letters + 1, 0, 1, h, &*b, s, held, p, top);
     numbers::put(b, d, s, got, &*p);
 }
 
@@ -81,6 +87,7 @@ fn group(
     m: Machine,
     list: &[u16],
     index: &[u16; 16065],
+    readers: &[u64; 251],
     h: u64,
     may: u64,
     b: &mut [u64; 4096],
@@ -89,16 +96,18 @@ fn group(
     set: u64,
     lo: usize,
     p: &mut [u64; 64],
+    top: u64,
 ) -> usize
-    requires { ⌜ Ready m (now list) (now index) h × Storable m s may ⌝ }
-    requires { ⌜ Sized (now b) (now d) × (length (now p) ≡ 64) × (s < m .states) ⌝ }
+    requires { ⌜ Ready m (now list) (now index) h × Storable m s may × Readers m (now list) (now readers) ⌝ }
+    requires { ⌜ Sized (now b) (now d) × (length (now p) ≡ 64) × (s < m .states) × (top ≤ nothing) ⌝ }
     requires { ⌜ (lo < m .transitions) × (transitionAt (now list) lo .from ≡ s) ⌝ }
-    ensures { λ r. ⌜ (length (now (p .exit)) ≡ 64) × (lo < r) × RowOn m (now (list .entry)) s «set» lo (now (b .entry)) (now (d .entry)) r (now (b .exit)) (now (d .exit)) ⌝ }
+    ensures { λ r. ⌜ (length (now (p .exit)) ≡ 64) × (lo < r) × RowOn m (now (list .entry)) top s «set» lo (now (b .entry)) (now (d .entry)) r (now (b .exit)) (now (d .exit)) ⌝ }
 {
     let x = list[lo * 3 + 1] as usize;
     let stride = m.letters + 1;
     let hi = gather::wide(index[s * stride + x + 1]);
-    let got = moved(list, index, stride, x, h, &*b, s, set, p);
+    let read = readers[x];
+    let got = moved(list, index, stride, x, h, read, &*b, s, set, p, top);
     numbers::spread(b, d, list, lo, hi, may, got, &*p);
     hi
 }
@@ -108,6 +117,7 @@ fn groups(
     m: Machine,
     list: &[u16],
     index: &[u16; 16065],
+    readers: &[u64; 251],
     h: u64,
     may: u64,
     b: &mut [u64; 4096],
@@ -117,24 +127,27 @@ fn groups(
     lo: usize,
     end: usize,
     p: &mut [u64; 64],
+    top: u64,
 ) -> usize
-    requires { ⌜ Ready m (now list) (now index) h × Storable m s may ⌝ }
-    requires { ⌜ Sized (now b) (now d) × (length (now p) ≡ 64) × (s < m .states) ⌝ }
+    requires { ⌜ Ready m (now list) (now index) h × Storable m s may × Readers m (now list) (now readers) ⌝ }
+    requires { ⌜ Sized (now b) (now d) × (length (now p) ≡ 64) × (s < m .states) × (top ≤ nothing) ⌝ }
     requires { ⌜ ((k : ℕ) → lo ≤ k → k < end → (k < m .transitions) × (transitionAt (now list) k .from ≡ s)) ⌝ }
-    ensures { λ r. ⌜ (length (now (p .exit)) ≡ 64) × (end ≤ r) × RowOn m (now (list .entry)) s «set» lo (now (b .entry)) (now (d .entry)) r (now (b .exit)) (now (d .exit)) ⌝ }
+    ensures { λ r. ⌜ (length (now (p .exit)) ≡ 64) × (end ≤ r) × RowOn m (now (list .entry)) top s «set» lo (now (b .entry)) (now (d .entry)) r (now (b .exit)) (now (d .exit)) ⌝ }
 {
     let mut k = lo;
     while k < end {
-        k = group(m, list, index, h, may, b, d, s, set, k, p);
+        k = group(m, list, index, readers, h, may, b, d, s, set, k, p, top);
     }
     k
 }
 
-// Lowers numbers along all moves from the pairs (s, t) for t in the set. g has the buffering states, h the matching states.
+// Lowers numbers along all moves from the pairs (s, t) for t in the set whose number is less than top. g has the buffering states, h the matching states,
+// readers for each letter those that can read it (readers::readers).
 pub fn row(
     m: Machine,
     list: &[u16],
     index: &[u16; 16065],
+    readers: &[u64; 251],
     g: u64,
     h: u64,
     b: &mut [u64; 4096],
@@ -142,15 +155,31 @@ pub fn row(
     s: usize,
     set: u64,
     p: &mut [u64; 64],
+    top: u64,
 )
-    requires { ⌜ Ready m (now list) (now index) h × Kind (buffering (m .marks)) g ⌝ }
-    requires { ⌜ Sized (now b) (now d) × (length (now p) ≡ 64) × (s < m .states) ⌝ }
-    ensures { λ r. ⌜ (length (now (p .exit)) ≡ 64) × RowDone m (now (list .entry)) s «set» (now (b .entry)) (now (d .entry)) (now (b .exit)) (now (d .exit)) ⌝ }
+    requires { ⌜ Ready m (now list) (now index) h × Kind (buffering (m .marks)) g × Readers m (now list) (now readers) ⌝ }
+    requires { ⌜ Sized (now b) (now d) × (length (now p) ≡ 64) × (s < m .states) × (top ≤ nothing) ⌝ }
+    ensures { λ r. ⌜ (length (now (p .exit)) ≡ 64) × RowDone m (now (list .entry)) top s «set» (now (b .entry)) (now (d .entry)) (now (b .exit)) (now (d .exit)) ⌝ }
 {
-    alone(m, list, index, h, b, d, s, set, p);
+    alone(m, list, index, readers, h, b, d, s, set, p, top);
     let stride = m.letters + 1;
     let lo = gather::wide(index[s * stride]);
     let end = gather::wide(index[s * stride + stride]);
     let may = storable(m, g, h, s);
-    groups(m, list, index, h, may, b, d, s, set, lo, end, p);
+    groups(
+        m,
+        list,
+        index,
+        readers,
+        h,
+        may,
+        b,
+        d,
+        s,
+        set,
+        lo,
+        end,
+        p,
+        top,
+    );
 }

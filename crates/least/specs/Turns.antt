@@ -7,7 +7,8 @@
 -- NormalTurn m list d fresh d′ started == a turn of normal moves: none waits any more; the states that were lowered are in `started`
 -- Made m list set d z v     == v is the number of a state of the set and the weight of a copy from there to z
 -- Bound m list set d P z v  == the same, less than `nothing`, for a copy with a guess of P
--- Guessed m list h guess set d got d′ got′ b == a block and the numbers lowered by it
+-- Tops h d top              == top is at least the number of each member of h, or `nothing`
+-- Guessed m list h guess set d got d′ got′ b == a block, settled as far as it can lower a number, and the numbers lowered by it
 -- CopyTurn m list started set d d′ fresh == a turn of copies from the states of the set
 -- firstOf b                 == 0 where b is true, else `nothing`
 -- First initial d           == 0 at the initial states, `nothing` elsewhere
@@ -29,7 +30,7 @@ use Rattle.pieces.specs.Pairs.{Pair, both, PairMove, Piece}
 use Rattle.pieces.specs.Blocks.{nothing, costOf}
 use Rattle.pieces.specs.Rounds.{Rounds}
 use Rattle.blocks.specs.Numbers.{total}
-use Rattle.blocks.specs.Settling.{Block}
+use Rattle.blocks.specs.Settling.{BlockTo}
 use Rattle.least.specs.Falls.{Falls, Ends}
 pub mod Laws
 
@@ -86,9 +87,15 @@ pub record Bound (m : Machine) (list : List ℕ) (set : ℕ) (d : List ℕ) (P :
   pub value : v ≡ 3 + weight + costOf d first
   pub small : v < nothing
 
+pub record Tops (h : ℕ) (d : List ℕ) (top : ℕ) : Type 0 where
+  pub small : top ≤ nothing
+  pub bounds : (z : ℕ) → In h z → (costOf d z ≤ top) ⊎ (top ≡ nothing)
+
 pub record Guessed (m : Machine) (list : List ℕ) (h guess set : ℕ) (d : List ℕ) (got : ℕ) (d′ : List ℕ) (got′ : ℕ) (b : List ℕ) : Type 0 where
-  pub block : Block m list guess set d b
-  pub falls : Falls (Ends b guess (In h)) (Ends b guess (In h)) d got d′ got′
+  pub top : ℕ
+  pub tops : Tops h d top
+  pub block : BlockTo m list top guess set d b
+  pub falls : Falls (Ends top b guess (In h)) (Ends top b guess (In h)) d got d′ got′
 
 -- the copies that begin in a started state begin in one of the set
 pub record CopyTurn (m : Machine) (list : List ℕ) (set : ℕ) (d d′ : List ℕ) (fresh : ℕ) : Type 0 where

@@ -9,12 +9,15 @@ ghost use lib.ListN.{length};
 ghost use Rattle.stateset.specs.Set.{In, has};
 ghost use Rattle.fsbm.specs.Machine.{transitionAt, buffering, matching};
 ghost use Rattle.images.specs.Graph.{KindsOf};
+ghost use Rattle.pieces.specs.Blocks.{nothing};
+ghost use Rattle.blocks.specs.Readers.{Readers};
 ghost use Rattle.blocks.specs.Works.{Kind, Ready};
 ghost use Rattle.blocks.specs.Settling.{Past};
 ghost use Rattle.least.specs.Falls.{Falls, End, Ends};
-ghost use Rattle.least.specs.Turns.{Entered, EnteredBelow, EnteredBy, NormalTurn, Guessed, CopyTurn, First, firstOf, Costs};
+ghost use Rattle.least.specs.Turns.{Entered, EnteredBelow, EnteredBy, NormalTurn, Tops, Guessed, CopyTurn, First, firstOf, Costs};
 use crate::fall;
 use blocks::block;
+use blocks::readers;
 use fsbm::machine::Machine;
 use images::Kinds;
 
@@ -76,61 +79,65 @@ fn settle(
     started
 }
 
-// Lowers the number of z to v + 2 and adds z to the set, where that is less and v is less than NONE; the set then.
-fn end(d: &mut [u64; 64], got: u64, z: usize, v: u64) -> u64
-    requires { ⌜ (length (now d) ≡ 64) × (z < 64) ⌝ }
-    ensures { λ r. ⌜ Falls (End z v) (End z v) (now (d .entry)) got (now (d .exit)) r ⌝ }
+// The greater of two numbers.
+fn greater(a: u64, b: u64) -> u64
+    ensures { λ r. ⌜ (a ≤ r) × (b ≤ r) ⌝ }
 {
-    if NONE <= v {
+    if a < b {
+        return b;
+    }
+    a
+}
+
+// The largest number of a member of h, or NONE where it is larger.
+fn largest(h: u64, d: &[u64; 64]) -> u64
+    ensures { λ r. ⌜ Tops h (now (d .entry)) r ⌝ }
+{
+    let mut most: u64 = 0;
+    let mut rest = h;
+    while rest != 0 {
+        let z = stateset::lowest(rest) as usize;
+        rest = stateset::without_lowest(rest);
+        most = greater(most, d[z]);
+    }
+    if NONE < most {
+        return NONE;
+    }
+    most
+}
+
+// Lowers the number of z to v + 2 and adds z to the set, where that is less and v is less than top; the set then.
+fn end(d: &mut [u64; 64], got: u64, z: usize, v: u64, top: u64) -> u64
+    requires { ⌜ (length (now d) ≡ 64) × (z < 64) × (top ≤ nothing) ⌝ }
+    ensures { λ r. ⌜ Falls (End top z v) (End top z v) (now (d .entry)) got (now (d .exit)) r ⌝ }
+{
+    if top <= v {
         return got;
     }
     fall::fall(d, got, z, v + 2)
 }
 
-// Notes the guess for z, where the number of z is reached along a copy with it: v is the number of the copy's last pair. Of the notes
-// nothing is promised.
-fn note(hints: &mut [u8; 64], d: &[u64; 64], guess: u8, z: usize, v: u64) {
-    if 64 <= z {
-        return;
-    }
-    if NONE <= v {
-        return;
-    }
-    if d[z] == v + 2 {
-        hints[z] = guess;
-    }
-}
-
-// The same for each matching state, with its number in row guess of the block for v. h has the matching states. The guess is noted for
-// each state whose number is reached so.
-fn end_all(
-    b: &[u64; 4096],
-    guess: usize,
-    h: u64,
-    d: &mut [u64; 64],
-    hints: &mut [u8; 64],
-    got: u64,
-) -> u64
-    requires { ⌜ (length (now d) ≡ 64) × (guess < 64) ⌝ }
-    ensures { λ r. ⌜ Falls (Ends (now (b .entry)) guess (In h)) (Ends (now (b .entry)) guess (In h)) (now (d .entry)) got (now (d .exit)) r ⌝ }
+// The same for each matching state, with its number in row guess of the block for v. h has the matching states.
+fn end_all(b: &[u64; 4096], guess: usize, h: u64, d: &mut [u64; 64], got: u64, top: u64) -> u64
+    requires { ⌜ (length (now d) ≡ 64) × (guess < 64) × (top ≤ nothing) ⌝ }
+    ensures { λ r. ⌜ Falls (Ends top (now (b .entry)) guess (In h)) (Ends top (now (b .entry)) guess (In h)) (now (d .entry)) got (now (d .exit)) r ⌝ }
 {
     let mut all = got;
     let mut rest = h;
     while rest != 0 {
         let z = stateset::lowest(rest) as usize;
         rest = stateset::without_lowest(rest);
-        let v = b[guess * 64 + z];
-        all = end(d, all, z, v);
-        note(hints, &*d, guess as u8, z, v);
+        all = end(d, all, z, b[guess * 64 + z], top);
     }
     all
 }
 
-// The copies of one guess that begin in a state of the set.
+// The copies of one guess that begin in a state of the set. A copy of a larger number than all matching states have lowers none of them.
 fn guessed(
     m: Machine,
     list: &[u16],
     index: &[u16; 16065],
+    readers: &[u64; 251],
     g: u64,
     h: u64,
     guess: usize,
@@ -140,12 +147,13 @@ fn guessed(
     hints: &mut [u8; 64],
     got: u64,
 ) -> u64
-    requires { ⌜ Ready m (now list) (now index) h × Kind (buffering (m .marks)) g ⌝ }
+    requires { ⌜ Ready m (now list) (now index) h × Kind (buffering (m .marks)) g × Readers m (now list) (now readers) ⌝ }
     requires { ⌜ (length (now d) ≡ 64) × (length (now b) ≡ 4096) × Past m (now b) × (guess < 64) ⌝ }
     ensures { λ r. ⌜ Guessed m (now (list .entry)) h guess «set» (now (d .entry)) got (now (d .exit)) r (now (b .exit)) ⌝ }
 {
-    block::block(m, list, index, g, h, guess, set, &*d, b);
-    end_all(&*b, guess, h, d, hints, got)
+    let top = largest(h, &*d);
+    block::block_by(m, list, index, readers, g, h, guess, set, &*d, b, top);
+    end_all(&*b, guess, h, d, got, top)
 }
 
 // A turn of copies that begin in a state of the set, all of them buffering states; the states that were lowered. storing has the states
@@ -154,6 +162,7 @@ fn copies(
     m: Machine,
     list: &[u16],
     index: &[u16; 16065],
+    readers: &[u64; 251],
     g: u64,
     h: u64,
     storing: u64,
@@ -162,7 +171,7 @@ fn copies(
     d: &mut [u64; 64],
     hints: &mut [u8; 64],
 ) -> u64
-    requires { ⌜ Ready m (now list) (now index) h × Kind (buffering (m .marks)) g ⌝ }
+    requires { ⌜ Ready m (now list) (now index) h × Kind (buffering (m .marks)) g × Readers m (now list) (now readers) ⌝ }
     requires { ⌜ (length (now d) ≡ 64) × (length (now b) ≡ 4096) × Past m (now b) ⌝ }
     requires { ⌜ Entered m (now list) storing × ((q : ℕ) → In «set» q → buffering (m .marks) q ≡ true) ⌝ }
     ensures { λ r. ⌜ (length (now (b .exit)) ≡ 4096) × Past m (now (b .exit)) × CopyTurn m (now (list .entry)) «set» (now (d .entry)) (now (d .exit)) r ⌝ }
@@ -172,7 +181,7 @@ fn copies(
     while rest != 0 {
         let guess = stateset::lowest(rest) as usize;
         rest = stateset::without_lowest(rest);
-        got = guessed(m, list, index, g, h, guess, set, b, d, hints, got);
+        got = guessed(m, list, index, readers, g, h, guess, set, b, d, got);
     }
     got
 }
@@ -204,13 +213,14 @@ fn turns(
     m: Machine,
     list: &[u16],
     index: &[u16; 16065],
+    readers: &[u64; 251],
     kinds: Kinds,
     storing: u64,
     b: &mut [u64; 4096],
     d: &mut [u64; 64],
     hints: &mut [u8; 64],
 )
-    requires { ⌜ Ready m (now list) (now index) (kinds .matching) × Kind (buffering (m .marks)) (kinds .buffering) × KindsOf (m .marks) (m .states) kinds ⌝ }
+    requires { ⌜ Ready m (now list) (now index) (kinds .matching) × Kind (buffering (m .marks)) (kinds .buffering) × KindsOf (m .marks) (m .states) kinds × Readers m (now list) (now readers) ⌝ }
     requires { ⌜ First (kinds .initial) (now d) × (length (now b) ≡ 4096) × Past m (now b) ⌝ }
     requires { ⌜ Entered m (now list) storing ⌝ }
     ensures { λ r. ⌜ (length (now (b .exit)) ≡ 4096) × Past m (now (b .exit)) × Costs m (now (list .entry)) (now (d .exit)) ⌝ }
@@ -224,7 +234,7 @@ fn turns(
         if set == 0 {
             return;
         }
-        fresh = copies(m, list, index, g, h, storing, set, b, d, hints);
+        fresh = copies(m, list, index, readers, g, h, storing, set, b, d);
     }
 }
 
@@ -247,5 +257,6 @@ pub fn costs(
 {
     start(kinds.initial, d);
     let storing = ends(m, list, kinds.matching);
-    turns(m, list, index, kinds, storing, b, d, hints);
+    let readers = readers::readers(m, list, kinds.matching);
+    turns(m, list, index, &readers, kinds, storing, b, d);
 }

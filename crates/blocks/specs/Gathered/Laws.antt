@@ -20,7 +20,7 @@ use lib.Dec.{eqb}
 use borrow.Author.Tests.{eqb-false}
 use Rattle.stateset.specs.Set.{width, In, has, digit, added, SetIs}
 use Rattle.stateset.specs.Set.Laws.{in?, in-lt, has-in, empty-in}
-use Rattle.pieces.specs.Blocks.{nothing, cell}
+use Rattle.pieces.specs.Blocks.{cell}
 use Rattle.blocks.specs.Numbers.Laws.{Left, Rest, Taken, left-start, left-more, left-end}
 use Rattle.blocks.specs.Gathered.{Adding, Pick, Reach, Far, From, Near, Stay}
 
@@ -164,89 +164,89 @@ module _ (list : List ℕ) (may v : ℕ) where
 
 -- One state
 
-module _ (list index : List ℕ) (base may v w : ℕ) where
-  pub far-none : (p : List ℕ) (got : ℕ) → got < 2 ^ width → nothing ≤ v → Adding (Far list index base may v w) p got p got
-  far-none p got h le = adding-none p got h (λ t v′ (c : Far list index base may v w t v′). omega (arith, c .known))
+module _ (list index : List ℕ) (top base may v w : ℕ) where
+  pub far-none : (p : List ℕ) (got : ℕ) → got < 2 ^ width → top ≤ v → Adding (Far list index top base may v w) p got p got
+  far-none p got h le = adding-none p got h (λ t v′ (c : Far list index top base may v w t v′). omega (arith, c .known))
 
-  pub far-reach : {lo hi : ℕ} {p p′ : List ℕ} {got got′ : ℕ} → v < nothing → lo ≡ getD index base 0 → hi ≡ getD index (base + 1) 0 → Adding (Reach list lo hi may (v + w)) p got p′ got′
-      → Adding (Far list index base may v w) p got p′ got′
+  pub far-reach : {lo hi : ℕ} {p p′ : List ℕ} {got got′ : ℕ} → v < top → lo ≡ getD index base 0 → hi ≡ getD index (base + 1) 0 → Adding (Reach list lo hi may (v + w)) p got p′ got′
+      → Adding (Far list index top base may v w) p got p′ got′
   far-reach {lo} {hi} {p} {p′} {got} {got′} l e k f =
       adding-as (λ t v′ c. record { known = l; reach = c }) (λ t v′ c. c .reach)
       (subst (λ (i : ℕ). Adding (Reach list i (getD index (base + 1) 0) may (v + w)) p got p′ got′) e (subst (λ (i : ℕ). Adding (Reach list lo i may (v + w)) p got p′ got′) k f))
 
 -- The states of a set
 
-module _ (list index : List ℕ) (stride x w may : ℕ) (b : List ℕ) (s : ℕ) where
-  pub from-start : (set : ℕ) (p : List ℕ) (got : ℕ) → got ≡ 0 → Adding (From list index stride x w may b s (Left set set)) p 0 p got
+module _ (list index : List ℕ) (top stride x w may : ℕ) (b : List ℕ) (s : ℕ) where
+  pub from-start : (set : ℕ) (p : List ℕ) (got : ℕ) → got ≡ 0 → Adding (From list index top stride x w may b s (Left set set)) p 0 p got
   from-start set p got e = rw e (adding-none p 0 (omega arith) (λ t v c. left-start set (c .source) (c .holds)))
 
   pub from-more : {set rest rest′ q n base : ℕ} {p p₁ p₂ : List ℕ} {got got₁ got₂ : ℕ} → Rest set rest → Taken rest q rest′
       → n ≡ cell b s q → base ≡ q * stride + x
-      → Adding (From list index stride x w may b s (Left set rest)) p got p₁ got₁ → Adding (Far list index base may n w) p₁ got₁ p₂ got₂
-      → Adding (From list index stride x w may b s (Left set rest′)) p got p₂ got₂
+      → Adding (From list index top stride x w may b s (Left set rest)) p got p₁ got₁ → Adding (Far list index top base may n w) p₁ got₁ p₂ got₂
+      → Adding (From list index top stride x w may b s (Left set rest′)) p got p₂ got₂
   from-more {set} {rest} {rest′} {q} {n} {base} r k number place f g = adding-then left right either f g
     where
-      left : (t v : ℕ) → From list index stride x w may b s (Left set rest) t v → From list index stride x w may b s (Left set rest′) t v
+      left : (t v : ℕ) → From list index top stride x w may b s (Left set rest) t v → From list index top stride x w may b s (Left set rest′) t v
       left t v c = record { source = c .source; holds = left-more r k (c .source) .1 (inl (c .holds)); far = c .far }
 
-      right : (t v : ℕ) → Far list index base may n w t v → From list index stride x w may b s (Left set rest′) t v
+      right : (t v : ℕ) → Far list index top base may n w t v → From list index top stride x w may b s (Left set rest′) t v
       right t v c =
           record {
             source = q;
             holds = left-more r k q .1 (inr refl);
-            far = subst (λ (i : ℕ). Far list index i may (cell b s q) w t v) place (subst (λ (i : ℕ). Far list index base may i w t v) number c);
+            far = subst (λ (i : ℕ). Far list index top i may (cell b s q) w t v) place (subst (λ (i : ℕ). Far list index top base may i w t v) number c);
           }
 
-      either : (t v : ℕ) → From list index stride x w may b s (Left set rest′) t v → From list index stride x w may b s (Left set rest) t v ⊎ Far list index base may n w t v
+      either : (t v : ℕ) → From list index top stride x w may b s (Left set rest′) t v → From list index top stride x w may b s (Left set rest) t v ⊎ Far list index top base may n w t v
       either t v c = on (left-more r k (c .source) .0 (c .holds))
         where
-          on : Left set rest (c .source) ⊎ (c .source ≡ q) → From list index stride x w may b s (Left set rest) t v ⊎ Far list index base may n w t v
+          on : Left set rest (c .source) ⊎ (c .source ≡ q) → From list index top stride x w may b s (Left set rest) t v ⊎ Far list index top base may n w t v
           on (inl l) = inl (record { source = c .source; holds = l; far = c .far })
           on (inr e) =
-              inr (subst (λ (i : ℕ). Far list index i may n w t v) (sym place) (subst (λ (i : ℕ). Far list index (q * stride + x) may i w t v) (sym number)
-              (subst (λ (i : ℕ). Far list index (i * stride + x) may (cell b s i) w t v) e (c .far))))
+              inr (subst (λ (i : ℕ). Far list index top i may n w t v) (sym place) (subst (λ (i : ℕ). Far list index top (q * stride + x) may i w t v) (sym number)
+              (subst (λ (i : ℕ). Far list index top (i * stride + x) may (cell b s i) w t v) e (c .far))))
 
-  pub from-end : (set rest : ℕ) {p p′ : List ℕ} {got got′ : ℕ} → rest ≡ 0 → Adding (From list index stride x w may b s (Left set rest)) p got p′ got′
-      → Adding (From list index stride x w may b s (In set)) p got p′ got′
+  pub from-end : (set rest : ℕ) {p p′ : List ℕ} {got got′ : ℕ} → rest ≡ 0 → Adding (From list index top stride x w may b s (Left set rest)) p got p′ got′
+      → Adding (From list index top stride x w may b s (In set)) p got p′ got′
   from-end set rest e f =
       adding-as (λ t v c. record { source = c .source; holds = left-end set rest (c .source) e .0 (c .holds); far = c .far })
       (λ t v c. record { source = c .source; holds = left-end set rest (c .source) e .1 (c .holds); far = c .far }) f
 
 -- The states of a set, where the state stays
 
-module _ (may t v : ℕ) where
-  pub near-none : (p : List ℕ) (got : ℕ) → got < 2 ^ width → nothing ≤ v → Adding (Near may t v) p got p got
-  near-none p got h le = adding-none p got h (λ t′ v′ (c : Near may t v t′ v′). omega (arith, c .known))
+module _ (top may t v : ℕ) where
+  pub near-none : (p : List ℕ) (got : ℕ) → got < 2 ^ width → top ≤ v → Adding (Near top may t v) p got p got
+  near-none p got h le = adding-none p got h (λ t′ v′ (c : Near top may t v t′ v′). omega (arith, c .known))
 
-  pub near-pick : {p p′ : List ℕ} {got got′ : ℕ} → v < nothing → Adding (Pick may t (v + 1)) p got p′ got′ → Adding (Near may t v) p got p′ got′
+  pub near-pick : {p p′ : List ℕ} {got got′ : ℕ} → v < top → Adding (Pick may t (v + 1)) p got p′ got′ → Adding (Near top may t v) p got p′ got′
   near-pick l f = adding-as (λ t′ v′ c. record { known = l; pick = c }) (λ t′ v′ c. c .pick) f
 
-module _ (b : List ℕ) (s : ℕ) where
-  pub stay-start : (set : ℕ) (p : List ℕ) (got : ℕ) → got ≡ 0 → Adding (Stay b s (Left set set)) p 0 p got
+module _ (top : ℕ) (b : List ℕ) (s : ℕ) where
+  pub stay-start : (set : ℕ) (p : List ℕ) (got : ℕ) → got ≡ 0 → Adding (Stay top b s (Left set set)) p 0 p got
   stay-start set p got e = rw e (adding-none p 0 (omega arith) (λ t v c. left-start set t (c .holds)))
 
   pub stay-more : {set rest rest′ q n : ℕ} {p p₁ p₂ : List ℕ} {got got₁ got₂ : ℕ} → Rest set rest → Taken rest q rest′ → n ≡ cell b s q
-      → Adding (Stay b s (Left set rest)) p got p₁ got₁ → Adding (Near set q n) p₁ got₁ p₂ got₂ → Adding (Stay b s (Left set rest′)) p got p₂ got₂
+      → Adding (Stay top b s (Left set rest)) p got p₁ got₁ → Adding (Near top set q n) p₁ got₁ p₂ got₂ → Adding (Stay top b s (Left set rest′)) p got p₂ got₂
   stay-more {set} {rest} {rest′} {q} {n} r k number f g = adding-then left right either f g
     where
-      left : (t v : ℕ) → Stay b s (Left set rest) t v → Stay b s (Left set rest′) t v
+      left : (t v : ℕ) → Stay top b s (Left set rest) t v → Stay top b s (Left set rest′) t v
       left t v c = record { holds = left-more r k t .1 (inl (c .holds)); known = c .known; value = c .value }
 
-      right : (t v : ℕ) → Near set q n t v → Stay b s (Left set rest′) t v
+      right : (t v : ℕ) → Near top set q n t v → Stay top b s (Left set rest′) t v
       right t v c =
           let e : cell b s t ≡ n = ap (cell b s) (c .pick .state) ∙ sym number in
           record { holds = left-more r k t .1 (inr (c .pick .state)); known = omega (arith, c .known); value = omega (arith, c .pick .value) }
 
-      either : (t v : ℕ) → Stay b s (Left set rest′) t v → Stay b s (Left set rest) t v ⊎ Near set q n t v
+      either : (t v : ℕ) → Stay top b s (Left set rest′) t v → Stay top b s (Left set rest) t v ⊎ Near top set q n t v
       either t v c = on (left-more r k t .0 (c .holds))
         where
-          on : Left set rest t ⊎ (t ≡ q) → Stay b s (Left set rest) t v ⊎ Near set q n t v
+          on : Left set rest t ⊎ (t ≡ q) → Stay top b s (Left set rest) t v ⊎ Near top set q n t v
           on (inl l) = inl (record { holds = l; known = c .known; value = c .value })
           on (inr e) =
               let z : cell b s t ≡ n = ap (cell b s) e ∙ sym number in
               inr (record { known = omega (arith, c .known); pick = record { state = e; allowed = r .part q (k .member); value = omega (arith, c .value) } })
 
-  pub stay-end : (set rest : ℕ) {p p′ : List ℕ} {got got′ : ℕ} → rest ≡ 0 → Adding (Stay b s (Left set rest)) p got p′ got′ → Adding (Stay b s (In set)) p got p′ got′
+  pub stay-end : (set rest : ℕ) {p p′ : List ℕ} {got got′ : ℕ} → rest ≡ 0 → Adding (Stay top b s (Left set rest)) p got p′ got′ → Adding (Stay top b s (In set)) p got p′ got′
   stay-end set rest e f =
       adding-as (λ t v c. record { holds = left-end set rest t e .0 (c .holds); known = c .known; value = c .value })
       (λ t v c. record { holds = left-end set rest t e .1 (c .holds); known = c .known; value = c .value }) f

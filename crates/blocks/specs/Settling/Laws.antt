@@ -33,13 +33,13 @@ use Rattle.fsbm.specs.Rules.{Rules, rules, buffering-below}
 use Rattle.fsbm.specs.Published.{Listed, fsbmOf}
 use Rattle.fsbm.specs.declared.machine.Machine.{Machine}
 use Rattle.pieces.specs.Pairs.{Pair, both, PairMove, stores-none, matches-none, letter}
-use Rattle.pieces.specs.Blocks.{nothing, cell, costOf, Node, outside, inside, BlockEdge, begins, goes-on, blockOf, Settles}
+use Rattle.pieces.specs.Blocks.{nothing, cell, costOf, Node, outside, inside, BlockEdge, begins, goes-on, blockOf}
 use Rattle.pieces.specs.Blocks.Laws.{cell-inside, cell-past, cost-inside, inside-not}
 use Rattle.blocks.specs.Numbers.{Marked, Sized, Steps, Lowers, One, total, marked}
 use Rattle.blocks.specs.Numbers.Laws.{Left, Rest, Taken, left-start, left-more, left-end, lowers-none, lowers-then, lowers-as, marked-set}
 use Rattle.blocks.specs.Works.{Kind, Works, Waiting, Busy, RowDone}
-use Rattle.blocks.specs.Works.Laws.{block-inside, block-outside, Edges, works-lowers}
-use Rattle.blocks.specs.Settling.{Scanned, Cleared, Past, blankBlock, Blank, Begin, Begins, WorkOn, Worked, Block}
+use Rattle.blocks.specs.Works.Laws.{block-inside, block-outside, Edges, works-lowers, still-lowers}
+use Rattle.blocks.specs.Settling.{Scanned, Cleared, Past, blankBlock, Blank, Begin, Begins, WorkOn, SettlesTo, Worked, BlockTo}
 
 -- The next row
 
@@ -62,7 +62,7 @@ scanned-all f lt = record { found = f .found; empty = λ le. absurd (omega arith
 
 -- The states of the machine
 
-module _ (m : Machine) (list : List ℕ) (good : wellFormed m list ≡ true) (h x : ℕ) (D : List ℕ) where
+module _ (m : Machine) (list : List ℕ) (good : wellFormed m list ≡ true) (top h x : ℕ) (D : List ℕ) where
   all-rules : Rules m list
   all-rules = rules m list good
 
@@ -87,39 +87,36 @@ module _ (m : Machine) (list : List ℕ) (good : wellFormed m list ≡ true) (h 
       let z : v .storing ≡ u .storing = ap (λ (i : Pair). i .storing) q in
       omega arith
 
-  module _ (b : List ℕ) (real : (u : Node) → blockOf b u < nothing → ToGoal (BlockEdge (fsbmOf m list) h (costOf D) (In x)) (λ u. u ≡ outside) u (blockOf b u)) where
-    pub storing-below : (u : Pair) → m .states ≤ u .storing → nothing ≤ blockOf b (inside u)
-    storing-below u le = on (decLt (blockOf b (inside u)) nothing)
+  module _ (b : List ℕ) (real : (u : Node) → blockOf b u < top → ToGoal (BlockEdge (fsbmOf m list) h (costOf D) (In x)) (λ u. u ≡ outside) u (blockOf b u)) where
+    pub storing-below : (u : Pair) → m .states ≤ u .storing → top ≤ blockOf b (inside u)
+    storing-below u le = on (decLt (blockOf b (inside u)) top)
       where
-        on : Dec (blockOf b (inside u) < nothing) → nothing ≤ blockOf b (inside u)
+        on : Dec (blockOf b (inside u) < top) → top ≤ blockOf b (inside u)
         on (yes l) = let t = real (inside u) l in let k = leads-below u (t .route) (t .isGoal) refl in absurd (omega arith)
         on (no f) = omega arith
 
-    pub real-past : Past m b
-    real-past s t le = let z = storing-below (both s t) le in let y = block-inside b (both s t) in omega arith
-
   -- No row has a mark
 
-  pub work-end : (d b : List ℕ) → ((q : ℕ) → 0 ≤ q → q < m .states → getD d q 0 ≡ 0) → Works m list h x D (Waiting d) b → Settles m list h x D b
+  pub work-end : (d b : List ℕ) → ((q : ℕ) → 0 ≤ q → q < m .states → getD d q 0 ≡ 0) → Works m list top h x D (Waiting d) b → SettlesTo m list top h x D b
   work-end d b empty so-far = working-end (working-looked {Waits′ = λ (u : Node). ⊥} so-far looked) (λ u z. z)
     where
       looked : (v : Node) → (⊥ → ⊥)
-          → (Waiting d v → ⊥) ⊎ ((u : Node) (w : ℕ) → BlockEdge (fsbmOf m list) h (costOf D) (In x) u v w → w + blockOf b v < nothing → blockOf b u ≤ w + blockOf b v)
+          → (Waiting d v → ⊥) ⊎ ((u : Node) (w : ℕ) → BlockEdge (fsbmOf m list) h (costOf D) (In x) u v w → w + blockOf b v < top → blockOf b u ≤ w + blockOf b v)
       looked outside z = inl (λ i. i)
       looked (inside u) z = on (decLt (u .storing) (m .states))
         where
           on : Dec (u .storing < m .states)
-              → (Waiting d (inside u) → ⊥) ⊎ ((y : Node) (w : ℕ) → BlockEdge (fsbmOf m list) h (costOf D) (In x) y (inside u) w → w + blockOf b (inside u) < nothing → blockOf b y ≤ w + blockOf b (inside u))
+              → (Waiting d (inside u) → ⊥) ⊎ ((y : Node) (w : ℕ) → BlockEdge (fsbmOf m list) h (costOf D) (In x) y (inside u) w → w + blockOf b (inside u) < top → blockOf b y ≤ w + blockOf b (inside u))
           on (yes l) = inl (λ k. empty-in (u .matching) (subst (λ (i : ℕ). In i (u .matching)) (empty (u .storing) (omega arith) l) k))
           on (no f) = inr (λ y w e l. let k = storing-below b (so-far .realised) u (omega arith) in absurd (omega arith))
 
 -- A row is taken
 
-pub take-none : (m : Machine) (list b d : List ℕ) → WorkOn m list b d b d
-take-none m list b d = record { size = refl; on = λ h x D k. k }
+pub take-none : (m : Machine) (list : List ℕ) (top : ℕ) (b d : List ℕ) → WorkOn m list top b d b d
+take-none m list top b d = record { size = refl; still = λ s t le. refl; on = λ h x D k. k }
 
-pub take-row : {m : Machine} {list : List ℕ} (s : ℕ) (d : List ℕ) {b₀ d₀ b b′ d′ : List ℕ} → WorkOn m list b₀ d₀ b d → RowDone m list s (getD d s 0) b (set d s 0) b′ d′ → WorkOn m list b₀ d₀ b′ d′
-take-row s d so-far r = record { size = r .steps .size ∙ so-far .size; on = λ h x D k. r .works h x D (working-looked (so-far .on h x D k) (λ u still. inl (waits u still))) }
+pub take-row : {m : Machine} {list : List ℕ} {top : ℕ} (s : ℕ) (d : List ℕ) {b₀ d₀ b b′ d′ : List ℕ} → WorkOn m list top b₀ d₀ b d → RowDone m list top s (getD d s 0) b (set d s 0) b′ d′ → WorkOn m list top b₀ d₀ b′ d′
+take-row s d so-far r = record { size = r .steps .size ∙ so-far .size; still = λ q t le. r .still q t le ∙ so-far .still q t le; on = λ h x D k. r .works h x D (working-looked (so-far .on h x D k) (λ u still. inl (waits u still))) }
   where
     waits : (u : Node) → (Busy (set d s 0) s (getD d s 0) u → ⊥) → Waiting d u → ⊥
     waits outside still z = z
@@ -137,8 +134,8 @@ take-less s d room f some =
     let l : 0 < ones (getD d s 0) = omega arith in
     omega (arith, f .falls)
 
-pub work-done : {m : Machine} {list : List ℕ} {b d b′ d′ : List ℕ} {r : ℕ} → wellFormed m list ≡ true → WorkOn m list b d b′ d′ → Scanned d′ 0 (m .states) r → m .states ≤ r → Worked m list b d b′
-work-done {m} {list} {b′ = b′} {d′ = d′} good w z le = record { size = w .size; ends = λ h x D k. work-end m list good h x D d′ b′ (z .empty le) (w .on h x D k) }
+pub work-done : {m : Machine} {list : List ℕ} {top : ℕ} {b d b′ d′ : List ℕ} {r : ℕ} → wellFormed m list ≡ true → WorkOn m list top b d b′ d′ → Scanned d′ 0 (m .states) r → m .states ≤ r → Worked m list top b d b′
+work-done {m} {list} {top = top} {b′ = b′} {d′ = d′} good w z le = record { size = w .size; still = w .still; ends = λ h x D k. work-end m list good top h x D d′ b′ (z .empty le) (w .on h x D k) }
 
 -- A block is cleared
 
@@ -189,54 +186,54 @@ blank-is b e = rw e (record { size = length-replicate {A = ℕ} 4096 nothing; pa
 
 -- Copies begin
 
-pub begin-not : (g guess v : ℕ) (b d : List ℕ) → nothing ≤ v → Lowers (Begin g guess v) b d b d
-begin-not g guess v b d le = lowers-none b d (λ s t v′ (c : Begin g guess v s t v′). omega (arith, c .known))
+pub begin-not : (top g guess v : ℕ) (b d : List ℕ) → top ≤ v → Lowers (Begin top g guess v) b d b d
+begin-not top g guess v b d le = lowers-none b d (λ s t v′ (c : Begin top g guess v s t v′). omega (arith, c .known))
 
-pub begin-is : {g guess v : ℕ} {b d b′ d′ : List ℕ} → v < nothing → Lowers (One g guess (v + 1)) b d b′ d′ → Lowers (Begin g guess v) b d b′ d′
+pub begin-is : {top g guess v : ℕ} {b d b′ d′ : List ℕ} → v < top → Lowers (One g guess (v + 1)) b d b′ d′ → Lowers (Begin top g guess v) b d b′ d′
 begin-is l f = lowers-as (λ s t v c. record { known = l; one = c }) (λ s t v c. c .one) f
 
-module _ (guess : ℕ) (D : List ℕ) where
-  pub begins-start : (set : ℕ) (b d : List ℕ) → Lowers (Begins guess (Left set set) D) b d b d
+module _ (top guess : ℕ) (D : List ℕ) where
+  pub begins-start : (set : ℕ) (b d : List ℕ) → Lowers (Begins top guess (Left set set) D) b d b d
   begins-start set b d = lowers-none b d (λ s t v c. left-start set s (c .holds))
 
   pub begins-more : {set rest rest′ q w : ℕ} {b d b₁ d₁ b₂ d₂ : List ℕ} → Rest set rest → Taken rest q rest′ → w ≡ costOf D q
-      → Lowers (Begins guess (Left set rest) D) b d b₁ d₁ → Lowers (Begin q guess w) b₁ d₁ b₂ d₂ → Lowers (Begins guess (Left set rest′) D) b d b₂ d₂
+      → Lowers (Begins top guess (Left set rest) D) b d b₁ d₁ → Lowers (Begin top q guess w) b₁ d₁ b₂ d₂ → Lowers (Begins top guess (Left set rest′) D) b d b₂ d₂
   begins-more {set} {rest} {rest′} {q} {w} r k value f g = lowers-then left right either f g
     where
-      left : (s t v : ℕ) → Begins guess (Left set rest) D s t v → Begins guess (Left set rest′) D s t v
+      left : (s t v : ℕ) → Begins top guess (Left set rest) D s t v → Begins top guess (Left set rest′) D s t v
       left s t v c = record { holds = left-more r k s .1 (inl (c .holds)); column = c .column; known = c .known; value = c .value }
 
-      right : (s t v : ℕ) → Begin q guess w s t v → Begins guess (Left set rest′) D s t v
+      right : (s t v : ℕ) → Begin top q guess w s t v → Begins top guess (Left set rest′) D s t v
       right s t v c =
           let e : costOf D s ≡ w = ap (costOf D) (c .one .row) ∙ sym value in
           record { holds = left-more r k s .1 (inr (c .one .row)); column = c .one .column; known = omega (arith, c .known); value = omega (arith, c .one .value) }
 
-      either : (s t v : ℕ) → Begins guess (Left set rest′) D s t v → Begins guess (Left set rest) D s t v ⊎ Begin q guess w s t v
+      either : (s t v : ℕ) → Begins top guess (Left set rest′) D s t v → Begins top guess (Left set rest) D s t v ⊎ Begin top q guess w s t v
       either s t v c = on (left-more r k s .0 (c .holds))
         where
-          on : Left set rest s ⊎ (s ≡ q) → Begins guess (Left set rest) D s t v ⊎ Begin q guess w s t v
+          on : Left set rest s ⊎ (s ≡ q) → Begins top guess (Left set rest) D s t v ⊎ Begin top q guess w s t v
           on (inl l) = inl (record { holds = l; column = c .column; known = c .known; value = c .value })
           on (inr e) =
               let z : costOf D s ≡ w = ap (costOf D) e ∙ sym value in
               inr (record { known = omega (arith, c .known); one = record { row = e; column = c .column; value = omega (arith, c .value) } })
 
-  pub begins-end : (set rest : ℕ) {b d b′ d′ : List ℕ} → rest ≡ 0 → Lowers (Begins guess (Left set rest) D) b d b′ d′ → Lowers (Begins guess (In set) D) b d b′ d′
+  pub begins-end : (set rest : ℕ) {b d b′ d′ : List ℕ} → rest ≡ 0 → Lowers (Begins top guess (Left set rest) D) b d b′ d′ → Lowers (Begins top guess (In set) D) b d b′ d′
   begins-end set rest e f =
       lowers-as (λ s t v c. record { holds = left-end set rest s e .0 (c .holds); column = c .column; known = c .known; value = c .value })
       (λ s t v c. record { holds = left-end set rest s e .1 (c .holds); column = c .column; known = c .known; value = c .value }) f
 
 -- The first numbers of a block
 
-module _ (m : Machine) (list : List ℕ) (g : ℕ) (buffers : Kind (buffering (m .marks)) g) (guess x : ℕ) (D : List ℕ) {b b₁ b₂ d d₂ : List ℕ} (past : Past m b) (cleared : Cleared (m .states * 64) b b₁) {held v : ℕ}
-    (is : SetIs held v (λ q. In x q × In g q)) (f : Lowers (Begins guess (In held) D) b₁ d b₂ d₂) where
-  first : Works m list guess x D (λ (u : Node). u ≡ outside) b₁
+module _ (m : Machine) (list : List ℕ) (g : ℕ) (buffers : Kind (buffering (m .marks)) g) (top guess x : ℕ) (small : top ≤ nothing) (D : List ℕ) {b b₁ b₂ d d₂ : List ℕ} (past : Past m b) (cleared : Cleared (m .states * 64) b b₁) {held v : ℕ}
+    (is : SetIs held v (λ q. In x q × In g q)) (f : Lowers (Begins top guess (In held) D) b₁ d b₂ d₂) where
+  first : Works m list top guess x D (λ (u : Node). u ≡ outside) b₁
   first = working-start (λ (u : Node). u ≡ outside) (blockOf b₁) (λ u e. (e, ap (blockOf b₁) e ∙ block-outside b₁)) else
     where
-      else : (u : Node) → (u ≡ outside) ⊎ (nothing ≤ blockOf b₁ u)
+      else : (u : Node) → (u ≡ outside) ⊎ (top ≤ blockOf b₁ u)
       else outside = inl refl
       else (inside u) = inr (let z = block-inside b₁ u in let k = blank m past cleared (u .storing) (u .matching) in omega arith)
 
-  edges : Edges m list guess x D b₁ (Begins guess (In held) D)
+  edges : Edges m list guess x D b₁ (Begins top guess (In held) D)
   edges s t v c =
       let k = is .members s .0 (c .holds) in
       let e : inside (both s guess) ≡ inside (both s t) = ap (λ (i : ℕ). inside (both s i)) (sym (c .column)) in (
@@ -246,13 +243,13 @@ module _ (m : Machine) (list : List ℕ) (g : ℕ) (buffers : Kind (buffering (m
         (let z = block-outside b₁ in omega (arith, c .value)),
       )
 
-  pub begun-works : Works m list guess x D (Waiting d₂) b₂
+  pub begun-works : Works m list top guess x D (Waiting d₂) b₂
   begun-works = working-looked started looked
     where
-      started : Works m list guess x D (λ (u : Node). (u ≡ outside) ⊎ Waiting d₂ u) b₂
-      started = works-lowers m list guess x D f edges (λ u still. (λ e. still (inl e), λ k. still (inr k))) first
+      started : Works m list top guess x D (λ (u : Node). (u ≡ outside) ⊎ Waiting d₂ u) b₂
+      started = works-lowers m list top guess x D f edges (λ u still. (λ e. still (inl e), λ k. still (inr k))) first
 
-      edge : {y z : Node} {w : ℕ} → BlockEdge (fsbmOf m list) guess (costOf D) (In x) y z w → z ≡ outside → w < nothing → blockOf b₂ y ≤ w
+      edge : {y z : Node} {w : ℕ} → BlockEdge (fsbmOf m list) guess (costOf D) (In x) y z w → z ≡ outside → w < top → blockOf b₂ y ≤ w
       edge (begins {g = q} i j) e l =
           let k = f .settled q guess (costOf D q + 1) (record { holds = is .members q .1 (i, buffers q .1 j); column = refl; known = omega arith; value = refl }) in
           let z = block-inside b₂ (both q guess) in
@@ -260,7 +257,7 @@ module _ (m : Machine) (list : List ℕ) (g : ℕ) (buffers : Kind (buffering (m
       edge (goes-on k) e l = absurd (inside-not e)
 
       looked : (u : Node) → (Waiting d₂ u → ⊥)
-          → ((u ≡ outside) ⊎ Waiting d₂ u → ⊥) ⊎ ((y : Node) (w : ℕ) → BlockEdge (fsbmOf m list) guess (costOf D) (In x) y u w → w + blockOf b₂ u < nothing → blockOf b₂ y ≤ w + blockOf b₂ u)
+          → ((u ≡ outside) ⊎ Waiting d₂ u → ⊥) ⊎ ((y : Node) (w : ℕ) → BlockEdge (fsbmOf m list) guess (costOf D) (In x) y u w → w + blockOf b₂ u < top → blockOf b₂ y ≤ w + blockOf b₂ u)
       looked outside still = inr (λ y w e l. let z = block-outside b₂ in let k = edge e refl (omega arith) in omega arith)
       looked (inside u) still = inl not-waiting
         where
@@ -268,7 +265,13 @@ module _ (m : Machine) (list : List ℕ) (g : ℕ) (buffers : Kind (buffering (m
           not-waiting (inl e) = inside-not e
           not-waiting (inr k) = still k
 
-  pub block-done : {b₃ : List ℕ} → wellFormed m list ≡ true → length b ≡ 4096 → Worked m list b₂ d₂ b₃ → Block m list guess x D b₃
+  pub block-done : {b₃ : List ℕ} → wellFormed m list ≡ true → length b ≡ 4096 → Worked m list top b₂ d₂ b₃ → BlockTo m list top guess x D b₃
   block-done {b₃} good size w =
-      let s = w .ends guess x D begun-works in
-      record { size = w .size ∙ f .steps .size ∙ cleared .size ∙ size; past = real-past m list good guess x D b₃ (s .realised); settles = s }
+      record {
+        size = w .size ∙ f .steps .size ∙ cleared .size ∙ size;
+        past = λ s t le. let z = blank m past cleared s t in let y = still-lowers m f below s t le in let v = w .still s t le in omega arith;
+        settles = w .ends guess x D begun-works;
+      }
+    where
+      below : (s t v : ℕ) → Begins top guess (In held) D s t v → s < m .states
+      below s t v c = buffering-below m list (rules m list good) s (buffers s .0 (is .members s .0 (c .holds) .1))

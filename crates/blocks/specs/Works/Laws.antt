@@ -1,11 +1,11 @@
 -- The laws of specs/Works.antt.
 --
 -- works-lowers        == numbers lowered along edges of the block
+-- still-lowers        == rows past the last state stay
 -- match-listed, listed-match == a candidate of From is a matching transition, and the other way round
 -- so-start            == the row after its matching halves have moved alone
 -- so-more             == the row after the transitions of one letter
 -- ready-stride .. group-past == what the functions ask of the index: its ranges, and where the transitions of a letter end
--- held-from           == the members that are in both sets, as one set
 -- moved-none, moved-letter == the ways through `moved`
 -- row-leaves, row-done == which transitions a row goes through, and the row's end
 -- storable-held, storable-free == the ways through `storable`
@@ -33,14 +33,14 @@ use Rattle.adjacency.specs.Index.Laws.{Sorted, sorted}
 use Rattle.images.specs.Graph.{KindsOf}
 use Rattle.images.specs.declared.Kinds.{Kinds}
 use Rattle.pieces.specs.Pairs.{unit, halves, Pair, both, PairMove, stores-none, matches-none, letter}
-use Rattle.pieces.specs.Blocks.{nothing, cell, costOf, Node, outside, inside, BlockEdge, begins, goes-on, blockOf}
+use Rattle.pieces.specs.Blocks.{cell, costOf, Node, outside, inside, BlockEdge, begins, goes-on, blockOf}
 use Rattle.blocks.specs.Numbers.{Marked, Steps, Lowers, Put, Spread}
 use Rattle.blocks.specs.Numbers.Laws.{steps-none, steps-then}
 use Rattle.blocks.specs.Gathered.{Adding, Reach, Far, From, Stay}
 use Rattle.blocks.specs.Gathered.Laws.{adding-as}
 use Rattle.blocks.specs.Stretches.{Stretches}
 use Rattle.blocks.specs.Stretches.Laws.{key-fits, bounded, bounded-next, stretch, row-stretch}
-use Rattle.blocks.specs.Works.{Kind, Ready, Storable, Works, Waiting, Busy, Early, Looked, RowSo, RowOn, RowDone, Moves, by-none, by-letter}
+use Rattle.blocks.specs.Works.{Kind, Ready, Storable, Works, Waiting, Busy, Early, Looked, Still, RowSo, RowOn, RowDone, Moves, by-none, by-letter}
 
 pub block-inside : (b : List ℕ) (u : Pair) → blockOf b (inside u) ≡ cell b (u .storing) (u .matching)
 unfolding blockOf
@@ -54,10 +54,10 @@ block-outside b = refl
 abbrev pub Edges : Machine → List ℕ → ℕ → ℕ → List ℕ → List ℕ → (ℕ → ℕ → ℕ → Type 0) → Type 0
 Edges m list h x D b C = (s t v : ℕ) → C s t v → (y : Node) × (w : ℕ) × BlockEdge (fsbmOf m list) h (costOf D) (In x) (inside (both s t)) y w × (v ≡ w + blockOf b y)
 
-module _ (m : Machine) (list : List ℕ) (h x : ℕ) (D : List ℕ) {Waits Waits′ : Node → Type 0} {C : ℕ → ℕ → ℕ → Type 0} {b d b′ d′ : List ℕ} where
+module _ (m : Machine) (list : List ℕ) (top h x : ℕ) (D : List ℕ) {Waits Waits′ : Node → Type 0} {C : ℕ → ℕ → ℕ → Type 0} {b d b′ d′ : List ℕ} where
   -- numbers lowered along edges; what is marked waits
-  pub works-lowers : Lowers C b d b′ d′ → Edges m list h x D b C → ((u : Node) → (Waits′ u → ⊥) → (Waits u → ⊥) × (Waiting d′ u → ⊥)) → Works m list h x D Waits b
-      → Works m list h x D Waits′ b′
+  pub works-lowers : Lowers C b d b′ d′ → Edges m list h x D b C → ((u : Node) → (Waits′ u → ⊥) → (Waits u → ⊥) × (Waiting d′ u → ⊥)) → Works m list top h x D Waits b
+      → Works m list top h x D Waits′ b′
   works-lowers f edges waits so-far = working-lowers so-far (blockOf b′) lower origin quiet
     where
       same : (u : Pair) → cell b′ (u .storing) (u .matching) ≡ cell b (u .storing) (u .matching) → blockOf b′ (inside u) ≡ blockOf b (inside u)
@@ -88,6 +88,14 @@ module _ (m : Machine) (list : List ℕ) (h x : ℕ) (D : List ℕ) {Waits Waits
       quiet : (u : Node) → (Waits′ u → ⊥) → (Waits u → ⊥) × (blockOf b′ u ≡ blockOf b u)
       quiet u still = let k = waits u still in (k .0, stays u (k .1))
 
+-- a row past the last state stays, where the candidates stand in other rows
+pub still-lowers : (m : Machine) {C : ℕ → ℕ → ℕ → Type 0} {b d b′ d′ : List ℕ} → Lowers C b d b′ d′ → ((s t v : ℕ) → C s t v → s < m .states) → Still m b b′
+still-lowers m {C} {b} {d} {b′} f below s t le = on (f .origin s t)
+  where
+    on : (cell b′ s t ≡ cell b s t) ⊎ C s t (cell b′ s t) → cell b′ s t ≡ cell b s t
+    on (inl e) = e
+    on (inr c) = let z = below s t (cell b′ s t) c in absurd (omega arith)
+
 -- the marks grow, so whoever does not wait then did not wait before
 busy-grows : {b d b′ d′ : List ℕ} (s set : ℕ) → Steps b d b′ d′ → (u : Node) → (Busy d′ s set u → ⊥) → (Busy d s set u → ⊥) × (Waiting d′ u → ⊥)
 busy-grows s set f outside still = (λ z. z, λ z. z)
@@ -116,8 +124,8 @@ module _ {m : Machine} {list index : List ℕ} {h : ℕ} (r : Ready m list index
     pub enters : matching (m .marks) t′ ≡ true
     pub value : v ≡ cell b s source + w
 
-  pub match-listed : {x set w s t′ v : ℕ} {b : List ℕ} → x ≤ m .letters → From list index (m .letters + 1) x w h b s (λ q. In set q × In h q) t′ v → Found set x b s w t′ v
-  match-listed {x} le c =
+  pub match-listed : {top x set w s t′ v : ℕ} {b : List ℕ} → x ≤ m .letters → From list index top (m .letters + 1) x w h b s (λ q. In set q × In h q) t′ v → Found set x b s w t′ v
+  match-listed {x = x} le c =
       let t = c .source in
       let k = c .far .reach .number in
       let from = r .matches t .0 (c .holds .1) in
@@ -131,9 +139,9 @@ module _ {m : Machine} {list index : List ℕ} {h : ℕ} (r : Ready m list index
         value = c .far .reach .value;
       }
 
-  pub listed-match : {x t t′ : ℕ} (set w s : ℕ) (b : List ℕ) → x ≤ m .letters → In set t → matching (m .marks) t ≡ true → Listed list (m .transitions) t x t′ → matching (m .marks) t′ ≡ true
-      → cell b s t < nothing → From list index (m .letters + 1) x w h b s (λ q. In set q × In h q) t′ (cell b s t + w)
-  listed-match {x} {t} {t′} set w s b le member from e to known =
+  pub listed-match : {x t t′ : ℕ} (top set w s : ℕ) (b : List ℕ) → x ≤ m .letters → In set t → matching (m .marks) t ≡ true → Listed list (m .transitions) t x t′ → matching (m .marks) t′ ≡ true
+      → cell b s t < top → From list index top (m .letters + 1) x w h b s (λ q. In set q × In h q) t′ (cell b s t + w)
+  listed-match {x} {t} {t′} top set w s b le member from e to known =
       let k = stretch m list sorts index (r .starts) t x (e .number) (below t from) le .1 (e .listed, e .from, e .letter) in
       record {
         source = t;
@@ -141,7 +149,7 @@ module _ {m : Machine} {list index : List ℕ} {h : ℕ} (r : Ready m list index
         far = record { known = known; reach = record { number = e .number; from-on = k .0; below = k .1; enters = e .to; allowed = r .matches t′ .1 to; value = refl } };
       }
 
-  module _ (s set : ℕ) (here : s < m .states) where
+  module _ (top s set : ℕ) (here : s < m .states) where
     -- what is gathered is a candidate
     gathered : {C : ℕ → ℕ → Type 0} {p p′ : List ℕ} {got t : ℕ} → Adding C p 0 p′ got → In got t → C t (getD p′ t 0)
     gathered {t = t} f k = on (f .origin t k)
@@ -151,9 +159,9 @@ module _ {m : Machine} {list index : List ℕ} {h : ℕ} (r : Ready m list index
         on (inr z) = z
 
     -- The matching halves move alone
-    pub so-start : {b d p p₁ b₁ d₁ : List ℕ} {got : ℕ} → Adding (From list index (m .letters + 1) 0 1 h b s (λ q. In set q × In h q)) p 0 p₁ got → Lowers (Put s (In got) p₁) b d b₁ d₁
-        → RowSo m list s set (getD index (s * (m .letters + 1) + 0) 0) b d b₁ d₁
-    so-start {b} {d} {p} {p₁} {b₁} {d₁} {got} f g = record { steps = g .steps; works = works; looked = looked }
+    pub so-start : {b d p p₁ b₁ d₁ : List ℕ} {got : ℕ} → Adding (From list index top (m .letters + 1) 0 1 h b s (λ q. In set q × In h q)) p 0 p₁ got → Lowers (Put s (In got) p₁) b d b₁ d₁
+        → RowSo m list top s set (getD index (s * (m .letters + 1) + 0) 0) b d b₁ d₁
+    so-start {b} {d} {p} {p₁} {b₁} {d₁} {got} f g = record { steps = g .steps; still = still-lowers m g (λ s′ t v c. omega (arith, c .row)); works = works; looked = looked }
       where
         edges : (h′ x : ℕ) (D : List ℕ) → Edges m list h′ x D b (Put s (In got) p₁)
         edges h′ x D s′ t′ v c =
@@ -165,14 +173,14 @@ module _ {m : Machine} {list index : List ℕ} {h : ℕ} (r : Ready m list index
               (let z = block-inside b (both s (k .source)) in omega (arith, c .value, k .value)),
             )
 
-        works : (h′ x : ℕ) (D : List ℕ) → Works m list h′ x D (Busy d s set) b → Works m list h′ x D (Busy d₁ s set) b₁
-        works h′ x D = works-lowers m list h′ x D g (edges h′ x D) (busy-grows s set (g .steps))
+        works : (h′ x : ℕ) (D : List ℕ) → Works m list top h′ x D (Busy d s set) b → Works m list top h′ x D (Busy d₁ s set) b₁
+        works h′ x D = works-lowers m list top h′ x D g (edges h′ x D) (busy-grows s set (g .steps))
 
-        looked : Looked m list s set (getD index (s * (m .letters + 1) + 0) 0) b₁ d₁
+        looked : Looked m list top s set (getD index (s * (m .letters + 1) + 0) 0) b₁ d₁
         looked u v w e is member quiet early l = on (g .steps .changed s (u .matching))
           where
             by : {u v : Pair} {w : ℕ} (e : PairMove (fsbmOf m list) u v w) → u .storing ≡ s → In set (u .matching) → Early m list (getD index (s * (m .letters + 1) + 0) 0) e
-                → w + cell b s (u .matching) < nothing → cell b₁ (v .storing) (v .matching) ≤ w + cell b s (u .matching)
+                → w + cell b s (u .matching) < top → cell b₁ (v .storing) (v .matching) ≤ w + cell b s (u .matching)
             by (stores-none e a c) is member early l =
                 let k = row-stretch m list sorts index (r .starts) s (e .number) here .1 (e .listed, e .from ∙ is) in
                 absurd (omega (arith, k .0))
@@ -180,7 +188,7 @@ module _ {m : Machine} {list index : List ℕ} {h : ℕ} (r : Ready m list index
                 let k = row-stretch m list sorts index (r .starts) s (e .number) here .1 (e .listed, e .from ∙ is) in
                 absurd (omega (arith, k .0))
             by (matches-none {s = s′} {t = t} {t′ = t′} e a c) is member early l =
-                let k = f .settled t′ (cell b s t + 1) (listed-match set 1 s b (omega arith) member a e c (omega arith)) in
+                let k = f .settled t′ (cell b s t + 1) (listed-match top set 1 s b (omega arith) member a e c (omega arith)) in
                 let z = g .settled s t′ (getD p₁ t′ 0) (record { row = refl; holds = k .0; value = refl }) in
                 let y : cell b₁ s′ t′ ≡ cell b₁ s t′ = ap (λ (i : ℕ). cell b₁ i t′) is in
                 omega (arith, k .1)
@@ -193,10 +201,15 @@ module _ {m : Machine} {list index : List ℕ} {h : ℕ} (r : Ready m list index
     module _ {may : ℕ} (allowed : Storable m s may) where
       pub so-more : {x lo hi got : ℕ} {b₀ d₀ b d p p₁ b₁ d₁ : List ℕ} → lo < m .transitions → transitionAt list lo .from ≡ s → x ≡ transitionAt list lo .letter
           → hi ≡ getD index (s * (m .letters + 1) + x + 1) 0
-          → Adding (Moves list index (m .letters + 1) x h b s set) p 0 p₁ got → Lowers (Spread list lo hi may got p₁) b d b₁ d₁
-          → RowSo m list s set lo b₀ d₀ b d → RowSo m list s set hi b₀ d₀ b₁ d₁
+          → Adding (Moves list index top (m .letters + 1) x h b s set) p 0 p₁ got → Lowers (Spread list lo hi may got p₁) b d b₁ d₁
+          → RowSo m list top s set lo b₀ d₀ b d → RowSo m list top s set hi b₀ d₀ b₁ d₁
       so-more {x} {lo} {hi} {got} {b₀} {d₀} {b} {d} {p} {p₁} {b₁} {d₁} lt from is end f g so =
-          record { steps = steps-then (so .steps) (g .steps); works = λ h′ y D k. works h′ y D (so .works h′ y D k); looked = looked }
+          record {
+            steps = steps-then (so .steps) (g .steps);
+            still = λ s′ t le. still-lowers m g (λ s″ t′ v c. to-below (stored (c .number) s″ (c .from-on) (c .below) (c .enters))) s′ t le ∙ so .still s′ t le;
+            works = λ h′ y D k. works h′ y D (so .works h′ y D k);
+            looked = looked;
+          }
         where
           fits : x ≤ m .letters
           fits = let z = sorts .letter-below lo lt in omega arith
@@ -211,7 +224,7 @@ module _ {m : Machine} {list index : List ℕ} {h : ℕ} (r : Ready m list index
           stored : (k s′ : ℕ) → lo ≤ k → k < hi → getD list (k * 3 + 2) 0 ≡ s′ → Listed list (m .transitions) s x s′
           stored k s′ le l enters = let t = these k le l in record { number = k; listed = t .0; from = t .1; letter = t .2; to = enters }
 
-          edge : (h′ y : ℕ) (D : List ℕ) {s′ t v k : ℕ} → lo ≤ k → k < hi → getD list (k * 3 + 2) 0 ≡ s′ → In may s′ → Moves list index (m .letters + 1) x h b s set t v
+          edge : (h′ y : ℕ) (D : List ℕ) {s′ t v k : ℕ} → lo ≤ k → k < hi → getD list (k * 3 + 2) 0 ≡ s′ → In may s′ → Moves list index top (m .letters + 1) x h b s set t v
               → (z : Node) × (w : ℕ) × BlockEdge (fsbmOf m list) h′ (costOf D) (In y) (inside (both s′ t)) z w × (v ≡ w + blockOf b z)
           edge h′ y D {s′} {t} {v} {k} le l enters a (by-none z c) =
               let o = allowed .only s′ a in (
@@ -240,14 +253,17 @@ module _ {m : Machine} {list index : List ℕ} {h : ℕ} (r : Ready m list index
               let (z, w, e, value) = edge h′ y D (c .from-on) (c .below) (c .enters) (c .allowed) (gathered f (c .gathered)) in
               (z, w, e, c .value ∙ value)
 
-          works : (h′ y : ℕ) (D : List ℕ) → Works m list h′ y D (Busy d s set) b → Works m list h′ y D (Busy d₁ s set) b₁
-          works h′ y D = works-lowers m list h′ y D g (edges h′ y D) (busy-grows s set (g .steps))
+          works : (h′ y : ℕ) (D : List ℕ) → Works m list top h′ y D (Busy d s set) b → Works m list top h′ y D (Busy d₁ s set) b₁
+          works h′ y D = works-lowers m list top h′ y D g (edges h′ y D) (busy-grows s set (g .steps))
+
+          to-below : {a s′ : ℕ} → Listed list (m .transitions) s a s′ → s′ < m .states
+          to-below e = let z = sorts .to-below (e .number) (e .listed) in omega (arith, e .to)
 
           to-there : {a s′ : ℕ} → (e : Listed list (m .transitions) s a s′) → s′ < 64
           to-there e = let z = sorts .to-below (e .number) (e .listed) in let y = sorts .states-fit in omega (arith, e .to)
 
           spreads : {s′ t v : ℕ} {a : ℕ} (e : Listed list (m .transitions) s a s′) → lo ≤ e .number → e .number < hi → ((matching (m .marks) s ≡ true) × (matching (m .marks) s′ ≡ true) → ⊥)
-              → (buffering (m .marks) s′ ≡ true → ⊥) → Moves list index (m .letters + 1) x h b s set t v → cell b₁ s′ t ≤ v
+              → (buffering (m .marks) s′ ≡ true → ⊥) → Moves list index top (m .letters + 1) x h b s set t v → cell b₁ s′ t ≤ v
           spreads {s′} {t} {v} e le l apart free c =
               let k = f .settled t v c in
               let z = g .settled s′ t (getD p₁ t 0)
@@ -255,7 +271,7 @@ module _ {m : Machine} {list index : List ℕ} {h : ℕ} (r : Ready m list index
               omega (arith, k .1)
 
           new : {u v : Pair} {w : ℕ} (e : PairMove (fsbmOf m list) u v w) → u .storing ≡ s → In set (u .matching) → Early m list hi e → (Early m list lo e → ⊥)
-              → w + cell b s (u .matching) < nothing → cell b₁ (v .storing) (v .matching) ≤ w + cell b s (u .matching)
+              → w + cell b s (u .matching) < top → cell b₁ (v .storing) (v .matching) ≤ w + cell b s (u .matching)
           new (stores-none {s = q} {s′ = s′} {t = t} e a c) z member early late l =
               let le : lo ≤ e .number = (let n : e .number < lo → ⊥ = late in omega arith) in
               let x-is : x ≡ 0 = sym (these (e .number) le early .2) ∙ e .letter in
@@ -270,7 +286,7 @@ module _ {m : Machine} {list index : List ℕ} {h : ℕ} (r : Ready m list index
               let a′ = subst (λ (i : ℕ). (matching (m .marks) i ≡ true) × (matching (m .marks) s′ ≡ true) → ⊥) z a in
               let e₃ = subst (λ (j : ℕ). Listed list (m .transitions) t j t′) (sym x-is) e₂ in
               let k = spreads {t = t′} {v = cell b s t + halves * (unit + 1)} (record { number = e .number; listed = e .listed; from = e .from ∙ z; letter = e .letter; to = e .to }) le early a′ c
-              (by-letter (omega arith) (listed-match set (halves * (unit + 1)) s b fits member m₁ e₃ m₂ (omega arith))) in
+              (by-letter (omega arith) (listed-match top set (halves * (unit + 1)) s b fits member m₁ e₃ m₂ (omega arith))) in
               omega arith
 
           early? : {u v : Pair} {w : ℕ} (e : PairMove (fsbmOf m list) u v w) → Dec (Early m list lo e)
@@ -278,7 +294,7 @@ module _ {m : Machine} {list index : List ℕ} {h : ℕ} (r : Ready m list index
           early? (matches-none e a c) = yes tt
           early? (letter e a c e₂ m₁ m₂) = decLt (e .number) lo
 
-          looked : Looked m list s set hi b₁ d₁
+          looked : Looked m list top s set hi b₁ d₁
           looked u v w e z member quiet early l = on (g .steps .changed s (u .matching)) (early? e)
             where
               on : (cell b₁ s (u .matching) ≡ cell b s (u .matching)) ⊎ Marked d₁ s (u .matching) → Dec (Early m list lo e) → cell b₁ (v .storing) (v .matching) ≤ w + cell b₁ s (u .matching)
@@ -290,8 +306,8 @@ module _ {m : Machine} {list index : List ℕ} {h : ℕ} (r : Ready m list index
               on (inl same) (no n) = let k = new e z member early n (omega arith) in omega arith
 
     -- The row's end
-    pub so-done : {k : ℕ} {b d b′ d′ : List ℕ} → getD index (s * (m .letters + 1) + (m .letters + 1)) 0 ≤ k → RowSo m list s set k b d b′ d′ → RowDone m list s set b d b′ d′
-    so-done {k} {b} {d} {b′} {d′} le so = record { steps = so .steps; works = λ h′ x D so-far. working-looked (so .works h′ x D so-far) (λ u. quiet h′ x D u) }
+    pub so-done : {k : ℕ} {b d b′ d′ : List ℕ} → getD index (s * (m .letters + 1) + (m .letters + 1)) 0 ≤ k → RowSo m list top s set k b d b′ d′ → RowDone m list top s set b d b′ d′
+    so-done {k} {b} {d} {b′} {d′} le so = record { steps = so .steps; still = so .still; works = λ h′ x D so-far. working-looked (so .works h′ x D so-far) (λ u. quiet h′ x D u) }
       where
         early : {u v : Pair} {w : ℕ} (e : PairMove (fsbmOf m list) u v w) → u .storing ≡ s → Early m list k e
         early (stores-none e a c) z = let j = row-stretch m list sorts index (r .starts) s (e .number) here .1 (e .listed, e .from ∙ z) in omega (arith, j .1)
@@ -299,7 +315,7 @@ module _ {m : Machine} {list index : List ℕ} {h : ℕ} (r : Ready m list index
         early (letter e a c e₂ m₁ m₂) z = let j = row-stretch m list sorts index (r .starts) s (e .number) here .1 (e .listed, e .from ∙ z) in omega (arith, j .1)
 
         edge : (h′ x : ℕ) (D : List ℕ) (u : Pair) → u .storing ≡ s → In set (u .matching) → (Marked d′ s (u .matching) → ⊥) → {y z : Node} (w : ℕ)
-            → BlockEdge (fsbmOf m list) h′ (costOf D) (In x) y z w → z ≡ inside u → w + blockOf b′ (inside u) < nothing → blockOf b′ y ≤ w + blockOf b′ (inside u)
+            → BlockEdge (fsbmOf m list) h′ (costOf D) (In x) y z w → z ≡ inside u → w + blockOf b′ (inside u) < top → blockOf b′ y ≤ w + blockOf b′ (inside u)
         edge h′ x D u is member not-marked w (begins i j) e l = absurd (let z : _≡_ {A = ℕ} 0 1 = cc in omega arith)
         edge h′ x D u is member not-marked w (goes-on {u = p} {v = v} n) e l =
             let q : p ≡ u = cc in
@@ -313,12 +329,12 @@ module _ {m : Machine} {list index : List ℕ} {h : ℕ} (r : Ready m list index
             omega arith
 
         quiet : (h′ x : ℕ) (D : List ℕ) (z : Node) → (Waiting d′ z → ⊥)
-            → (Busy d′ s set z → ⊥) ⊎ ((y : Node) (w : ℕ) → BlockEdge (fsbmOf m list) h′ (costOf D) (In x) y z w → w + blockOf b′ z < nothing → blockOf b′ y ≤ w + blockOf b′ z)
+            → (Busy d′ s set z → ⊥) ⊎ ((y : Node) (w : ℕ) → BlockEdge (fsbmOf m list) h′ (costOf D) (In x) y z w → w + blockOf b′ z < top → blockOf b′ y ≤ w + blockOf b′ z)
         quiet h′ x D outside still = inl (λ i. i)
         quiet h′ x D (inside u) still = on (ℕ-discrete (u .storing) s) (in? set (u .matching))
           where
             on : Dec (u .storing ≡ s) → Dec (In set (u .matching))
-                → (Busy d′ s set (inside u) → ⊥) ⊎ ((y : Node) (w : ℕ) → BlockEdge (fsbmOf m list) h′ (costOf D) (In x) y (inside u) w → w + blockOf b′ (inside u) < nothing → blockOf b′ y ≤ w + blockOf b′ (inside u))
+                → (Busy d′ s set (inside u) → ⊥) ⊎ ((y : Node) (w : ℕ) → BlockEdge (fsbmOf m list) h′ (costOf D) (In x) y (inside u) w → w + blockOf b′ (inside u) < top → blockOf b′ y ≤ w + blockOf b′ (inside u))
             on (yes e) (yes k) = inr (λ y w n l. edge h′ x D u e k (λ j. still (subst (λ (i : ℕ). Marked d′ i (u .matching)) (sym e) j)) w n refl l)
             on (no f) k = inl (busy-not (λ i. f (i .0)))
               where
@@ -333,10 +349,10 @@ module _ {m : Machine} {list index : List ℕ} {h : ℕ} (r : Ready m list index
 
 -- Lots of transitions
 
-pub on-none : (m : Machine) (list : List ℕ) (s set k : ℕ) (b d : List ℕ) → RowOn m list s set k b d k b d
-on-none m list s set k b d = record { steps = steps-none b d; on = λ b₀ d₀ so. so }
+pub on-none : (m : Machine) (list : List ℕ) (top s set k : ℕ) (b d : List ℕ) → RowOn m list top s set k b d k b d
+on-none m list top s set k b d = record { steps = steps-none b d; on = λ b₀ d₀ so. so }
 
-pub on-then : {m : Machine} {list : List ℕ} {s set k k₁ k₂ : ℕ} {b d b₁ d₁ b₂ d₂ : List ℕ} → RowOn m list s set k b d k₁ b₁ d₁ → RowOn m list s set k₁ b₁ d₁ k₂ b₂ d₂ → RowOn m list s set k b d k₂ b₂ d₂
+pub on-then : {m : Machine} {list : List ℕ} {top s set k k₁ k₂ : ℕ} {b d b₁ d₁ b₂ d₂ : List ℕ} → RowOn m list top s set k b d k₁ b₁ d₁ → RowOn m list top s set k₁ b₁ d₁ k₂ b₂ d₂ → RowOn m list top s set k b d k₂ b₂ d₂
 on-then f g = record { steps = steps-then (f .steps) (g .steps); on = λ b₀ d₀ so. g .on b₀ d₀ (f .on b₀ d₀ so) }
 
 -- What the functions ask of the index
@@ -383,33 +399,25 @@ module _ {m : Machine} {list index : List ℕ} {h : ℕ} (r : Ready m list index
         let z : getD index (s * (m .letters + 1)) 0 ≡ getD index (s * (m .letters + 1) + 0) 0 = ap (λ (i : ℕ). getD index i 0) (let y : s * (m .letters + 1) ≡ s * (m .letters + 1) + 0 = omega arith in y) in
         row-stretch m list (sorts r) index (r .starts) s k here .0 (omega arith, omega arith)
 
-    pub row-done : {set lo end k : ℕ} {b d b₁ d₁ b₂ d₂ : List ℕ} → lo ≡ getD index (s * (m .letters + 1)) 0 → end ≡ getD index (s * (m .letters + 1) + (m .letters + 1)) 0 → end ≤ k
-        → RowSo m list s set (getD index (s * (m .letters + 1) + 0) 0) b d b₁ d₁ → RowOn m list s set lo b₁ d₁ k b₂ d₂ → RowDone m list s set b d b₂ d₂
-    row-done {set} {lo} {end} {k} {b} {d} {b₁} {d₁} e f le so g =
+    pub row-done : {top set lo end k : ℕ} {b d b₁ d₁ b₂ d₂ : List ℕ} → lo ≡ getD index (s * (m .letters + 1)) 0 → end ≡ getD index (s * (m .letters + 1) + (m .letters + 1)) 0 → end ≤ k
+        → RowSo m list top s set (getD index (s * (m .letters + 1) + 0) 0) b d b₁ d₁ → RowOn m list top s set lo b₁ d₁ k b₂ d₂ → RowDone m list top s set b d b₂ d₂
+    row-done {top} {set} {lo} {end} {k} {b} {d} {b₁} {d₁} e f le so g =
         let z : getD index (s * (m .letters + 1) + 0) 0 ≡ lo = ap (λ (i : ℕ). getD index i 0) (let y : s * (m .letters + 1) + 0 ≡ s * (m .letters + 1) = omega arith in y) ∙ sym e in
-        so-done r s set here (omega arith) (g .on b d (subst (λ (i : ℕ). RowSo m list s set i b d b₁ d₁) z so))
+        so-done r top s set here (omega arith) (g .on b d (subst (λ (i : ℕ). RowSo m list top s set i b d b₁ d₁) z so))
 
--- The members that are in both sets
-
-module _ {list index : List ℕ} {stride x w h : ℕ} {b : List ℕ} {s : ℕ} (set : ℕ) {held v : ℕ} (is : SetIs held v (λ q. In set q × In h q)) where
-  pub held-from : {p p′ : List ℕ} {got got′ : ℕ} → Adding (From list index stride x w h b s (In held)) p got p′ got′ → Adding (From list index stride x w h b s (λ q. In set q × In h q)) p got p′ got′
-  held-from f =
-      adding-as (λ t n c. record { source = c .source; holds = is .members (c .source) .0 (c .holds); far = c .far })
-      (λ t n c. record { source = c .source; holds = is .members (c .source) .1 (c .holds); far = c .far }) f
-
-module _ {list index : List ℕ} {stride x h : ℕ} {b : List ℕ} {s set : ℕ} where
-  pub moved-none : {p p′ : List ℕ} {got : ℕ} → x ≡ 0 → Adding (Stay b s (In set)) p 0 p′ got → Adding (Moves list index stride x h b s set) p 0 p′ got
+module _ {list index : List ℕ} {top stride x h : ℕ} {b : List ℕ} {s set : ℕ} where
+  pub moved-none : {p p′ : List ℕ} {got : ℕ} → x ≡ 0 → Adding (Stay top b s (In set)) p 0 p′ got → Adding (Moves list index top stride x h b s set) p 0 p′ got
   moved-none e f = adding-as (λ t v c. by-none e c) back f
     where
-      back : (t v : ℕ) → Moves list index stride x h b s set t v → Stay b s (In set) t v
+      back : (t v : ℕ) → Moves list index top stride x h b s set t v → Stay top b s (In set) t v
       back t v (by-none z c) = c
       back t v (by-letter z c) = absurd (omega arith)
 
-  pub moved-letter : {p p′ : List ℕ} {got : ℕ} → (x ≡ 0 → ⊥) → Adding (From list index stride x (halves * (unit + 1)) h b s (λ q. In set q × In h q)) p 0 p′ got
-      → Adding (Moves list index stride x h b s set) p 0 p′ got
+  pub moved-letter : {p p′ : List ℕ} {got : ℕ} → (x ≡ 0 → ⊥) → Adding (From list index top stride x (halves * (unit + 1)) h b s (λ q. In set q × In h q)) p 0 p′ got
+      → Adding (Moves list index top stride x h b s set) p 0 p′ got
   moved-letter e f = adding-as (λ t v c. by-letter (omega arith) c) back f
     where
-      back : (t v : ℕ) → Moves list index stride x h b s set t v → From list index stride x (halves * (unit + 1)) h b s (λ q. In set q × In h q) t v
+      back : (t v : ℕ) → Moves list index top stride x h b s set t v → From list index top stride x (halves * (unit + 1)) h b s (λ q. In set q × In h q) t v
       back t v (by-none z c) = absurd (e z)
       back t v (by-letter z c) = c
 

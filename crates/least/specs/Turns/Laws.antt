@@ -2,6 +2,7 @@
 --
 -- so-start, so-more, so-end == the loop of a turn of normal moves: it begins, takes a state, ends
 -- copies-start, copies-more, copies-end == the loop of a turn of copies over the guesses
+-- most-start .. most-end == the loop that finds the largest number of a set of states
 -- first-rounds, initial-is == the first numbers; the set of the initial states
 -- entered-other, entered-inside, entered-is == the ways through `with_entered`
 -- below-start, below-more, below-end == the loop over all transitions
@@ -41,10 +42,9 @@ use Rattle.blocks.specs.Numbers.{total}
 use Rattle.blocks.specs.Numbers.Laws.{added-more, Left, Rest, Taken, left-start, left-more, left-end}
 use Rattle.blocks.specs.Works.{Kind}
 use Rattle.blocks.specs.Works.Laws.{block-inside}
-use Rattle.blocks.specs.Settling.{Block}
 use Rattle.least.specs.Falls.{Falls, NormalFrom, Ends}
 use Rattle.least.specs.Falls.Laws.{falls-none, falls-then, falls-under}
-use Rattle.least.specs.Turns.{Entered, EnteredBelow, EnteredBy, firstOf, RoundsOf, NormalSo, NormalTurn, Made, Bound, Guessed, CopyTurn, First, Costs}
+use Rattle.least.specs.Turns.{Entered, EnteredBelow, EnteredBy, firstOf, RoundsOf, NormalSo, NormalTurn, Made, Bound, Tops, Guessed, CopyTurn, First, Costs}
 
 -- Normal moves
 
@@ -142,7 +142,7 @@ module _ (m : Machine) (list : List ℕ) (good : wellFormed m list ≡ true) (h 
       turns : matching (m .marks) guess ≡ true
       turns = entered .only guess (r .part guess (k .member))
 
-      there : (z v : ℕ) → Ends b guess (In h) z v → Made m list set d₀ z v
+      there : (z v : ℕ) → Ends (g .top) b guess (In h) z v → Made m list set d₀ z v
       there z v c =
           let e = matches z .0 (c .holds) in
           let n = block-inside b (both guess z) in
@@ -151,14 +151,22 @@ module _ (m : Machine) (list : List ℕ) (good : wellFormed m list ≡ true) (h 
           record { ends = e; first = first; weight = w; member = member; piece = piece; value = omega (arith, c .value) }
 
       bound : (z v : ℕ) (c : Bound m list set d₀ (Left ends rest′) z v) → c .guess ≡ guess → costOf d′ z ≤ v
-      bound z v c e =
-          let s = unchanged f (c .first) (c .buffers) in
-          let route = subst (λ (i : ℕ). Route Pair (PairMove (fsbmOf m list)) (both (c .first) i) (both i z) (c .weight)) e (c .route) in
-          let l = block-copies (g .block .settles) (c .member) (c .buffers) route (omega (arith, c .value, c .small)) in
-          let n = block-inside b (both guess z) in
-          let known : cell b guess z < nothing = omega (arith, c .value, c .small) in
-          let j = g .falls .settled z (cell b guess z + 2) (record { holds = matches z .1 (c .ends); known = known; value = refl }) in
-          omega (arith, c .value)
+      bound z v c e = on (decLt v (g .top))
+        where
+          over : (costOf d z ≤ g .top) ⊎ (g .top ≡ nothing) → g .top ≤ v → costOf d′ z ≤ v
+          over (inl l) le = let k = g .falls .down z in omega arith
+          over (inr n) le = absurd (omega (arith, c .small))
+
+          on : Dec (v < g .top) → costOf d′ z ≤ v
+          on (no n) = over (g .tops .bounds z (matches z .1 (c .ends))) (omega arith)
+          on (yes l) =
+              let s = unchanged f (c .first) (c .buffers) in
+              let route = subst (λ (i : ℕ). Route Pair (PairMove (fsbmOf m list)) (both (c .first) i) (both i z) (c .weight)) e (c .route) in
+              let k = block-copies (g .block .settles) (c .member) (c .buffers) route (omega (arith, c .value)) in
+              let n = block-inside b (both guess z) in
+              let known : cell b guess z < g .top = omega (arith, c .value) in
+              let j = g .falls .settled z (cell b guess z + 2) (record { holds = matches z .1 (c .ends); known = known; value = refl }) in
+              omega (arith, c .value)
 
       back : (z v : ℕ) → Bound m list set d₀ (Left ends rest′) z v → Bound m list set d₀ (Left ends rest) z v ⊎ (costOf d′ z ≤ v)
       back z v c = on (left-more r k (c .guess) .0 (c .holds))
@@ -346,3 +354,23 @@ first-yes b e = ap firstOf (sym e)
 pub first-no : (b : Bool) → b ≡ false → nothing ≡ firstOf b
 unfolding firstOf
 first-no b e = ap firstOf (sym e)
+
+-- The largest number of a set of states
+
+module _ (h : ℕ) (d : List ℕ) where
+  pub most-start : (most z : ℕ) → Left h h z → costOf d z ≤ most
+  most-start most z l = absurd (left-start h z l)
+
+  pub most-more : {rest rest′ q most most′ : ℕ} → Rest h rest → Taken rest q rest′ → most ≤ most′ → costOf d q ≤ most′ → ((z : ℕ) → Left h rest z → costOf d z ≤ most)
+      → (z : ℕ) → Left h rest′ z → costOf d z ≤ most′
+  most-more {rest} {rest′} {q} {most} {most′} r k up here f z l = on (left-more r k z .0 l)
+    where
+      on : Left h rest z ⊎ (z ≡ q) → costOf d z ≤ most′
+      on (inl i) = let y = f z i in omega arith
+      on (inr e) = let y : costOf d z ≡ costOf d q = ap (costOf d) e in omega arith
+
+  pub most-over : Tops h d nothing
+  most-over = record { small = omega arith; bounds = λ z k. inr refl }
+
+  pub most-end : (rest most : ℕ) → rest ≡ 0 → most ≤ nothing → ((z : ℕ) → Left h rest z → costOf d z ≤ most) → Tops h d most
+  most-end rest most e small f = record { small = small; bounds = λ z k. inl (f z (left-end h rest z e .1 k)) }

@@ -16,14 +16,14 @@ use Rattle.stateset.proofs.lowest.Reads as lowest-reads
 use Rattle.stateset.proofs.without_lowest.Reads as without-lowest-reads
 
 abbrev Inv-loop : tie.InvT-loop
-Inv-loop b₀ d₀ set guess costs rest₀ b d rest = Rest set rest × Lowers (Begins guess (Left set rest) costs) b₀ d₀ b d
+Inv-loop b₀ d₀ set guess costs top rest₀ b d rest = Rest set rest × Lowers (Begins top guess (Left set rest) costs) b₀ d₀ b d
 
 abbrev μ-loop : tie.MeasureT-loop
-μ-loop b₀ d₀ set guess costs rest₀ b d rest = ones rest
+μ-loop b₀ d₀ set guess costs top rest₀ b d rest = ones rest
 
 -- src/block.rt:105:5
 loop-holds : tie.Need-loop-holds Inv-loop μ-loop
-loop-holds c = (rest-start _ (omega (arith, c .fits .set)), begins-start _ _ _ _ _)
+loop-holds c = (rest-start _ (omega (arith, c .fits .set)), begins-start _ _ _ _ _ _)
 
 -- src/block.rt:106:17
 lowest-requires : tie.Need-lowest-requires Inv-loop μ-loop
@@ -47,7 +47,7 @@ element-copy-out-begin c = omega (arith, lowest-inside _ _ ((c .before .before .
 
 -- src/block.rt:108:9
 begin-requires : tie.Need-begin-requires Inv-loop μ-loop
-begin-requires c κs = (sized-after ((c .before .before .before .before .before .before .before) .pre .0) ((c .before .before .before .before .before .before) .loop .inv .1 .steps), (lowest-inside _ _ ((c .before .before .before .before .before .before) .loop .inv .0 .fits) ((c .before .before .before .before .before) .loop-test .taken) ((c .before .before .before .before) .lowest .ensures), (c .before .before .before .before .before .before .before) .pre .1))
+begin-requires c κs = (sized-after ((c .before .before .before .before .before .before .before) .pre .0) ((c .before .before .before .before .before .before) .loop .inv .1 .steps), (lowest-inside _ _ ((c .before .before .before .before .before .before) .loop .inv .0 .fits) ((c .before .before .before .before .before) .loop-test .taken) ((c .before .before .before .before) .lowest .ensures), (c .before .before .before .before .before .before .before) .pre .1 .0, (c .before .before .before .before .before .before .before) .pre .1 .1))
 
 -- src/block.rt:105:5
 loop-less : tie.Need-loop-less Inv-loop μ-loop
@@ -55,11 +55,11 @@ loop-less c = taken ((c .before .before .before .before .before .before .before)
 
 -- src/block.rt:105:5
 loop-again : tie.Need-loop-again Inv-loop μ-loop
-loop-again c = let k = taken ((c .before .before .before .before .before .before .before) .loop .inv .0 .fits) ((c .before .before .before .before .before .before) .loop-test .taken) ((c .before .before .before .before .before) .lowest .ensures) ((c .before .before .before .before) .without-lowest .ensures) in (rest-more ((c .before .before .before .before .before .before .before) .loop .inv .0) k, begins-more _ _ ((c .before .before .before .before .before .before .before) .loop .inv .0) k (sym (cost-inside _ _ (lowest-inside _ _ ((c .before .before .before .before .before .before .before) .loop .inv .0 .fits) ((c .before .before .before .before .before .before) .loop-test .taken) ((c .before .before .before .before .before) .lowest .ensures)))) ((c .before .before .before .before .before .before .before) .loop .inv .1) (c .begin .ensures))
+loop-again c = let k = taken ((c .before .before .before .before .before .before .before) .loop .inv .0 .fits) ((c .before .before .before .before .before .before) .loop-test .taken) ((c .before .before .before .before .before) .lowest .ensures) ((c .before .before .before .before) .without-lowest .ensures) in (rest-more ((c .before .before .before .before .before .before .before) .loop .inv .0) k, begins-more _ _ _ ((c .before .before .before .before .before .before .before) .loop .inv .0) k (sym (cost-inside _ _ (lowest-inside _ _ ((c .before .before .before .before .before .before .before) .loop .inv .0 .fits) ((c .before .before .before .before .before .before) .loop-test .taken) ((c .before .before .before .before .before) .lowest .ensures)))) ((c .before .before .before .before .before .before .before) .loop .inv .1) (c .begin .ensures))
 
 -- src/block.rt:99:1
 returns : tie.Need-returns Inv-loop μ-loop
-returns c = begins-end _ _ _ _ (c .loop-test .left) ((c .before) .loop .inv .1)
+returns c = begins-end _ _ _ _ _ (c .loop-test .left) ((c .before) .loop .inv .1)
 
 pub begin-all-spec : {M : Type 1} → statement M
 begin-all-spec =

@@ -1,60 +1,23 @@
 use native.Mathlib.Omega.{arith}
-use mathlib.Core.Path.{_≡_, _∙_}
-use Rattle.blocks.specs.Numbers.Laws.{sized-after}
-use Rattle.blocks.specs.Works.Laws.{ready-states}
-use Rattle.blocks.specs.Settling.Laws.{block-done}
 use borrow.Author.Needs.{needs}
 use Rattle.blocks.proofs.block.block.Statement.{statement}
 use Rattle.blocks.proofs.block.block.Tie as tie
 use Rattle.blocks.proofs.block.block.Reads as reads
 use Rattle.blocks.proofs.block.block.Lts as lts
-use Rattle.blocks.proofs.block.begin_all.Reads as begin-all-reads
-use Rattle.blocks.proofs.block.clear.Reads as clear-reads
-use Rattle.blocks.proofs.block.work.Reads as work-reads
-use Rattle.blocks.proofs.block.zeros.Reads as zeros-reads
-use Rattle.stateset.proofs.intersection.Reads as intersection-reads
+use Rattle.blocks.proofs.block.block_by.Reads as block-by-reads
+use Rattle.blocks.proofs.readers.readers.Reads as readers-reads
 
--- src/block.rt:138:14
-mul-clear : tie.Need-mul-clear
-mul-clear c = omega (arith, ready-states ((c .before .before .before) .pre .0 .0))
+-- src/block.rt:166:19
+readers-requires : tie.Need-readers-requires
+readers-requires c κs = ((c .before) .pre .0 .0 .good, (c .before) .pre .0 .0 .matches)
 
--- src/block.rt:138:5
-clear-requires : tie.Need-clear-requires
-clear-requires c κs = ((c .before .before .before) .pre .1 .0, omega (arith, ready-states ((c .before .before .before) .pre .0 .0)))
+-- src/block.rt:167:5
+block-by-requires : tie.Need-block-by-requires
+block-by-requires c κs = (((c .before .before .before .before) .pre .0 .0, (c .before .before .before .before) .pre .0 .1, (c .before .before) .readers .ensures), ((c .before .before .before .before) .pre .1 .0, (c .before .before .before .before) .pre .1 .1, (c .before .before .before .before) .pre .1 .2, omega arith))
 
--- src/block.rt:139:9
-intersection-requires : tie.Need-intersection-requires
-intersection-requires c κs = search needs
-
--- src/block.rt:140:17
-zeros-requires : tie.Need-zeros-requires
-zeros-requires c κs = search needs
-
--- src/block.rt:141:17
-zeros-requires-2 : tie.Need-zeros-requires-2
-zeros-requires-2 c κs = search needs
-
--- src/block.rt:142:5
-begin-all-requires : tie.Need-begin-all-requires
-begin-all-requires c κs = search needs
-
--- src/block.rt:143:5
-work-requires : tie.Need-work-requires
-work-requires c κs = ((c .before .before .before .before .before .before .before .before .before .before .before .before .before) .pre .0, (sized-after (record { numbers = (c .before .before .before .before .before .before .before .before .before) .clear .ensures .size ∙ (c .before .before .before .before .before .before .before .before .before .before .before .before .before) .pre .1 .0; rows = (c .before .before .before .before .before .before .before) .zeros .ensures }) ((c .before .before .before) .begin-all .ensures .steps), (c .before .before .before .before .before .before) .zeros2 .ensures))
-
--- src/block.rt:123:1
+-- src/block.rt:151:1
 returns : tie.Need-returns
-returns c = block-done _ _ _ ((c .before .before .before .before .before .before .before .before .before .before .before .before .before .before) .pre .0 .1) _ _ _ ((c .before .before .before .before .before .before .before .before .before .before .before .before .before .before) .pre .1 .1) ((c .before .before .before .before .before .before .before .before .before .before) .clear .ensures) ((c .before .before .before .before .before .before .before .before .before) .intersection .ensures) ((c .before .before .before .before) .begin-all .ensures) ((c .before .before .before .before .before .before .before .before .before .before .before .before .before .before) .pre .0 .0 .good) ((c .before .before .before .before .before .before .before .before .before .before .before .before .before .before) .pre .1 .0) (c .work .ensures)
+returns c = c .block-by .ensures
 
 pub block-spec : {M : Type 1} → statement M
-block-spec =
-    tie.close
-    (tie.spec
-    mul-clear
-    clear-requires
-    intersection-requires
-    zeros-requires
-    zeros-requires-2
-    begin-all-requires
-    work-requires
-    returns)
+block-spec = tie.close (tie.spec readers-requires block-by-requires returns)

@@ -15,14 +15,14 @@ use Rattle.blocks.proofs.block.next_row.Reads as next-row-reads
 use Rattle.blocks.proofs.row.row.Reads as row-reads
 
 abbrev Inv-loop : tie.InvT-loop
-Inv-loop m list index g h b₀ d₀ p₀ s₀ b d p s = (length p ≡ 64) × Sized b d × WorkOn m list b₀ d₀ b d
+Inv-loop m list index readers g h b₀ d₀ p₀ top s₀ b d p s = (length p ≡ 64) × Sized b d × WorkOn m list top b₀ d₀ b d
 
 abbrev μ-loop : tie.MeasureT-loop
-μ-loop m list index g h b₀ d₀ p₀ s₀ b d p s = 2 * total b + marked d
+μ-loop m list index readers g h b₀ d₀ p₀ top s₀ b d p s = 2 * total b + marked d
 
 -- src/block.rt:63:5
 loop-holds : tie.Need-loop-holds Inv-loop μ-loop
-loop-holds c = ((c .before) .pre .1 .1, (c .before) .pre .1 .0, take-none _ _ _ _)
+loop-holds c = ((c .before) .pre .1 .1, (c .before) .pre .1 .0, take-none _ _ _ _ _)
 
 -- src/block.rt:64:9
 next-row-requires : tie.Need-next-row-requires Inv-loop μ-loop
@@ -50,7 +50,7 @@ element-write-d c = omega (arith, ready-state ((c .before .before .before .befor
 
 -- src/block.rt:70:9
 row-requires : tie.Need-row-requires Inv-loop μ-loop
-row-requires c κs = ((c .before .before .before .before .before .before .before .before .before .before) .pre .0, (sized-set _ _ ((c .before .before .before .before .before .before .before .before) .loop .inv .1), (c .before .before .before .before .before .before .before .before) .loop .inv .0, (c .before .before .before .before) .if1 .left))
+row-requires c κs = ((c .before .before .before .before .before .before .before .before .before .before) .pre .0, (sized-set _ _ ((c .before .before .before .before .before .before .before .before) .loop .inv .1), (c .before .before .before .before .before .before .before .before) .loop .inv .0, (c .before .before .before .before) .if1 .left, (c .before .before .before .before .before .before .before .before .before .before) .pre .1 .2))
 
 -- src/block.rt:63:5
 loop-less : tie.Need-loop-less Inv-loop μ-loop

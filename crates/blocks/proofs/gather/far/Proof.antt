@@ -13,7 +13,7 @@ use Rattle.blocks.proofs.gather.wide.Reads as wide-reads
 
 -- src/gather.rt:69:9
 returns : tie.Need-returns
-returns c = far-none _ _ _ _ _ _ _ _ (omega (arith, (c .before .before) .fits .got)) (c .if1 .taken)
+returns c = far-none _ _ _ _ _ _ _ _ _ (omega (arith, (c .before .before) .fits .got)) (c .if1 .taken)
 
 -- src/gather.rt:71:19
 mul-wide : tie.Need-mul-wide
@@ -45,7 +45,7 @@ wide-requires-2 c κs = search needs
 
 -- src/gather.rt:73:38
 add-reach : tie.Need-add-reach
-add-reach c = omega (arith, (c .before .before .before .before .before) .if1 .left, (c .before .before .before .before .before .before .before) .pre .1 .1)
+add-reach c = omega (arith, (c .before .before .before .before .before) .if1 .left, (c .before .before .before .before .before .before .before) .pre .1 .1 .0, (c .before .before .before .before .before .before .before) .pre .1 .1 .1)
 
 -- src/gather.rt:73:5
 reach-requires : tie.Need-reach-requires
@@ -53,7 +53,7 @@ reach-requires c κs = ((c .before .before .before .before .before .before .befo
 
 -- src/gather.rt:53:1
 returns-2 : tie.Need-returns-2
-returns-2 c = far-reach _ _ _ _ _ _ (omega (arith, (c .before .before .before .before .before .before) .if1 .left)) ((c .before .before .before .before) .wide .ensures .0) ((c .before .before) .wide2 .ensures .0) (c .reach .ensures)
+returns-2 c = far-reach _ _ _ _ _ _ _ (omega (arith, (c .before .before .before .before .before .before) .if1 .left)) ((c .before .before .before .before) .wide .ensures .0) ((c .before .before) .wide2 .ensures .0) (c .reach .ensures)
 
 pub far-spec : {M : Type 1} → statement M
 far-spec =

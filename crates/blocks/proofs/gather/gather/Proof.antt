@@ -18,10 +18,10 @@ use Rattle.stateset.proofs.lowest.Reads as lowest-reads
 use Rattle.stateset.proofs.without_lowest.Reads as without-lowest-reads
 
 abbrev Inv-loop : tie.InvT-loop
-Inv-loop list index stride x w may b s set p₀ got₀ rest₀ p got rest = Rest set rest × Adding (From list index stride x w may b s (Left set rest)) p₀ 0 p got
+Inv-loop list index stride x w may b s set p₀ top got₀ rest₀ p got rest = Rest set rest × Adding (From list index top stride x w may b s (Left set rest)) p₀ 0 p got
 
 abbrev μ-loop : tie.MeasureT-loop
-μ-loop list index stride x w may b s set p₀ got₀ rest₀ p got rest = ones rest
+μ-loop list index stride x w may b s set p₀ top got₀ rest₀ p got rest = ones rest
 
 -- src/gather.rt:95:9
 empty-requires : tie.Need-empty-requires Inv-loop μ-loop
@@ -29,7 +29,7 @@ empty-requires c κs = search needs
 
 -- src/gather.rt:97:5
 loop-holds : tie.Need-loop-holds Inv-loop μ-loop
-loop-holds c = (rest-start _ (omega (arith, (c .before .before) .fits .set)), from-start _ _ _ _ _ _ _ _ _ _ _ (c .empty .ensures .value))
+loop-holds c = (rest-start _ (omega (arith, (c .before .before) .fits .set)), from-start _ _ _ _ _ _ _ _ _ _ _ _ (c .empty .ensures .value))
 
 -- src/gather.rt:98:17
 lowest-requires : tie.Need-lowest-requires Inv-loop μ-loop
@@ -69,7 +69,7 @@ element-copy-out-far c = omega (arith, (c .before .before .before .before .befor
 
 -- src/gather.rt:100:9
 far-requires : tie.Need-far-requires Inv-loop μ-loop
-far-requires c κs = ((c .before .before .before .before .before) .loop .inv .1 .size ∙ (c .before .before .before .before .before .before .before .before) .pre .0, ((key-fits _ _ _ (lowest-inside _ _ ((c .before .before .before .before .before) .loop .inv .0 .fits) ((c .before .before .before .before) .loop-test .taken) ((c .before .before .before) .lowest .ensures)) ((c .before .before .before .before .before .before .before .before) .pre .1 .0 .0) ((c .before .before .before .before .before .before .before .before) .pre .1 .0 .1) .1, (c .before .before .before .before .before .before .before .before) .pre .1 .0 .2 _ ((c .before .before .before .before .before) .loop .inv .0 .part _ ((c .before .before .before) .lowest .ensures .member (omega (arith, (c .before .before .before .before) .loop-test .taken))))), (c .before .before .before .before .before .before .before .before) .pre .1 .1 .0))
+far-requires c κs = ((c .before .before .before .before .before) .loop .inv .1 .size ∙ (c .before .before .before .before .before .before .before .before) .pre .0, ((key-fits _ _ _ (lowest-inside _ _ ((c .before .before .before .before .before) .loop .inv .0 .fits) ((c .before .before .before .before) .loop-test .taken) ((c .before .before .before) .lowest .ensures)) ((c .before .before .before .before .before .before .before .before) .pre .1 .0 .0) ((c .before .before .before .before .before .before .before .before) .pre .1 .0 .1) .1, (c .before .before .before .before .before .before .before .before) .pre .1 .0 .2 _ ((c .before .before .before .before .before) .loop .inv .0 .part _ ((c .before .before .before) .lowest .ensures .member (omega (arith, (c .before .before .before .before) .loop-test .taken))))), ((c .before .before .before .before .before .before .before .before) .pre .1 .1 .0, (c .before .before .before .before .before .before .before .before) .pre .1 .1 .2)))
 
 -- src/gather.rt:97:5
 loop-less : tie.Need-loop-less Inv-loop μ-loop
@@ -77,11 +77,11 @@ loop-less c = taken ((c .before .before .before .before .before .before) .loop .
 
 -- src/gather.rt:97:5
 loop-again : tie.Need-loop-again Inv-loop μ-loop
-loop-again c = let k = taken ((c .before .before .before .before .before .before) .loop .inv .0 .fits) ((c .before .before .before .before .before) .loop-test .taken) ((c .before .before .before .before) .lowest .ensures) ((c .before .before .before) .without-lowest .ensures) in (rest-more ((c .before .before .before .before .before .before) .loop .inv .0) k, from-more _ _ _ _ _ _ _ _ ((c .before .before .before .before .before .before) .loop .inv .0) k (sym (cell-inside _ _ _ ((c .before .before .before .before .before .before .before .before .before) .pre .1 .1 .1) (lowest-inside _ _ ((c .before .before .before .before .before .before) .loop .inv .0 .fits) ((c .before .before .before .before .before) .loop-test .taken) ((c .before .before .before .before) .lowest .ensures)))) refl ((c .before .before .before .before .before .before) .loop .inv .1) (c .far .ensures))
+loop-again c = let k = taken ((c .before .before .before .before .before .before) .loop .inv .0 .fits) ((c .before .before .before .before .before) .loop-test .taken) ((c .before .before .before .before) .lowest .ensures) ((c .before .before .before) .without-lowest .ensures) in (rest-more ((c .before .before .before .before .before .before) .loop .inv .0) k, from-more _ _ _ _ _ _ _ _ _ ((c .before .before .before .before .before .before) .loop .inv .0) k (sym (cell-inside _ _ _ ((c .before .before .before .before .before .before .before .before .before) .pre .1 .1 .1) (lowest-inside _ _ ((c .before .before .before .before .before .before) .loop .inv .0 .fits) ((c .before .before .before .before .before) .loop-test .taken) ((c .before .before .before .before) .lowest .ensures)))) refl ((c .before .before .before .before .before .before) .loop .inv .1) (c .far .ensures))
 
 -- src/gather.rt:78:1
 returns : tie.Need-returns Inv-loop μ-loop
-returns c = from-end _ _ _ _ _ _ _ _ _ _ (c .loop-test .left) ((c .before) .loop .inv .1)
+returns c = from-end _ _ _ _ _ _ _ _ _ _ _ (c .loop-test .left) ((c .before) .loop .inv .1)
 
 pub gather-spec : {M : Type 1} → statement M
 gather-spec =

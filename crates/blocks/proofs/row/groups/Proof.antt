@@ -12,18 +12,18 @@ use Rattle.blocks.proofs.row.groups.Lts as lts
 use Rattle.blocks.proofs.row.group.Reads as group-reads
 
 abbrev Inv-loop : tie.InvT-loop
-Inv-loop m list index h may b₀ d₀ s set lo end p₀ k₀ b d p k = (length p ≡ 64) × (lo ≤ k) × RowOn m list s set lo b₀ d₀ k b d
+Inv-loop m list index readers h may b₀ d₀ s set lo end p₀ top k₀ b d p k = (length p ≡ 64) × (lo ≤ k) × RowOn m list top s set lo b₀ d₀ k b d
 
 abbrev μ-loop : tie.MeasureT-loop
-μ-loop m list index h may b₀ d₀ s set lo end p₀ k₀ b d p k = end - k
+μ-loop m list index readers h may b₀ d₀ s set lo end p₀ top k₀ b d p k = end - k
 
 -- src/row.rt:127:5
 loop-holds : tie.Need-loop-holds Inv-loop μ-loop
-loop-holds c = ((c .before) .pre .1 .0 .1, omega arith, on-none _ _ _ _ _ _ _)
+loop-holds c = ((c .before) .pre .1 .0 .1, omega arith, on-none _ _ _ _ _ _ _ _)
 
 -- src/row.rt:128:9
 group-requires : tie.Need-group-requires Inv-loop μ-loop
-group-requires c κs = ((c .before .before .before .before .before .before) .pre .0, ((sized-after ((c .before .before .before .before .before .before) .pre .1 .0 .0) ((c .before .before .before .before) .loop .inv .2 .steps), (c .before .before .before .before) .loop .inv .0, (c .before .before .before .before .before .before) .pre .1 .0 .2), (c .before .before .before .before .before .before) .pre .1 .1 _ ((c .before .before .before .before) .loop .inv .1) ((c .before .before .before) .loop-test .taken)))
+group-requires c κs = ((c .before .before .before .before .before .before) .pre .0, ((sized-after ((c .before .before .before .before .before .before) .pre .1 .0 .0) ((c .before .before .before .before) .loop .inv .2 .steps), (c .before .before .before .before) .loop .inv .0, (c .before .before .before .before .before .before) .pre .1 .0 .2, (c .before .before .before .before .before .before) .pre .1 .0 .3), (c .before .before .before .before .before .before) .pre .1 .1 _ ((c .before .before .before .before) .loop .inv .1) ((c .before .before .before) .loop-test .taken)))
 
 -- src/row.rt:127:5
 loop-less : tie.Need-loop-less Inv-loop μ-loop

@@ -1,5 +1,6 @@
+use Rattle.blocks.specs.Readers.Laws.{covers-from}
+use Rattle.blocks.specs.Works.Laws.{moved-none, moved-letter}
 use native.Mathlib.Omega.{arith}
-use Rattle.blocks.specs.Works.Laws.{held-from, moved-none, moved-letter}
 use borrow.Author.Needs.{needs}
 use Rattle.blocks.proofs.row.moved.Statement.{statement}
 use Rattle.blocks.proofs.row.moved.Tie as tie
@@ -23,11 +24,11 @@ intersection-requires c κs = search needs
 
 -- src/row.rt:54:5
 gather-requires : tie.Need-gather-requires
-gather-requires c κs = ((c .before .before .before .before) .pre .0, (((c .before .before .before .before) .pre .1 .0 .0, (c .before .before .before .before) .pre .1 .0 .1, λ t k. (c .before .before .before .before) .pre .1 .0 .2 t ((c .before) .intersection .ensures .members t .0 k .0) ((c .before) .intersection .ensures .members t .0 k .1)), (omega arith, (c .before .before .before .before) .pre .1 .1)))
+gather-requires c κs = ((c .before .before .before .before) .pre .0, (((c .before .before .before .before) .pre .1 .0 .0, (c .before .before .before .before) .pre .1 .0 .1, λ t k. (c .before .before .before .before) .pre .1 .0 .2 t ((c .before) .intersection .ensures .members t .0 k .0) ((c .before .before .before .before) .pre .1 .1 .2 .only t ((c .before) .intersection .ensures .members t .0 k .1))), (omega arith, (c .before .before .before .before) .pre .1 .1 .0, (c .before .before .before .before) .pre .1 .1 .1)))
 
 -- src/row.rt:34:1
 returns-2 : tie.Need-returns-2
-returns-2 c = moved-letter ((c .before .before .before) .if1 .left) (held-from _ ((c .before .before) .intersection .ensures) (c .gather .ensures))
+returns-2 c = moved-letter ((c .before .before .before) .if1 .left) (covers-from _ _ ((c .before .before .before .before .before) .pre .1 .1 .2) ((c .before .before) .intersection .ensures) (c .gather .ensures))
 
 pub moved-spec : {M : Type 1} → statement M
 moved-spec =

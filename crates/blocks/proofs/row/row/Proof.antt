@@ -63,7 +63,7 @@ storable-requires c κs = search needs
 
 -- src/row.rt:155:5
 groups-requires : tie.Need-groups-requires
-groups-requires c κs = (((c .before .before .before .before .before .before .before .before .before .before .before .before .before .before) .pre .0 .0, (c .before .before .before) .storable .ensures), ((sized-after ((c .before .before .before .before .before .before .before .before .before .before .before .before .before .before) .pre .1 .0) ((c .before .before .before .before .before .before .before .before .before) .alone .ensures .1 .steps), (c .before .before .before .before .before .before .before .before .before) .alone .ensures .0, (c .before .before .before .before .before .before .before .before .before .before .before .before .before .before) .pre .1 .2), row-leaves ((c .before .before .before .before .before .before .before .before .before .before .before .before .before .before) .pre .0 .0) _ ((c .before .before .before .before .before .before .before .before .before .before .before .before .before .before) .pre .1 .2) _ _ ((c .before .before .before .before .before .before) .wide .ensures .0) ((c .before .before .before .before) .wide2 .ensures .0)))
+groups-requires c κs = (((c .before .before .before .before .before .before .before .before .before .before .before .before .before .before) .pre .0 .0, (c .before .before .before) .storable .ensures, (c .before .before .before .before .before .before .before .before .before .before .before .before .before .before) .pre .0 .2), ((sized-after ((c .before .before .before .before .before .before .before .before .before .before .before .before .before .before) .pre .1 .0) ((c .before .before .before .before .before .before .before .before .before) .alone .ensures .1 .steps), (c .before .before .before .before .before .before .before .before .before) .alone .ensures .0, (c .before .before .before .before .before .before .before .before .before .before .before .before .before .before) .pre .1 .2, (c .before .before .before .before .before .before .before .before .before .before .before .before .before .before) .pre .1 .3), row-leaves ((c .before .before .before .before .before .before .before .before .before .before .before .before .before .before) .pre .0 .0) _ ((c .before .before .before .before .before .before .before .before .before .before .before .before .before .before) .pre .1 .2) _ _ ((c .before .before .before .before .before .before) .wide .ensures .0) ((c .before .before .before .before) .wide2 .ensures .0)))
 
 -- src/row.rt:134:1
 returns : tie.Need-returns

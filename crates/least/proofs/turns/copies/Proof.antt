@@ -18,10 +18,10 @@ use Rattle.stateset.proofs.lowest.Reads as lowest-reads
 use Rattle.stateset.proofs.without_lowest.Reads as without-lowest-reads
 
 abbrev Inv-loop : tie.InvT-loop
-Inv-loop m list index g h storing set b₀ d₀ hints₀ got₀ rest₀ b d hints got rest = (length b ≡ 4096) × Past m b × Rest storing rest × Falls (Made m list set d₀) (Bound m list set d₀ (Left storing rest)) d₀ 0 d got
+Inv-loop m list index readers g h storing set b₀ d₀ got₀ rest₀ b d got rest = (length b ≡ 4096) × Past m b × Rest storing rest × Falls (Made m list set d₀) (Bound m list set d₀ (Left storing rest)) d₀ 0 d got
 
 abbrev μ-loop : tie.MeasureT-loop
-μ-loop m list index g h storing set b₀ d₀ hints₀ got₀ rest₀ b d hints got rest = ones rest
+μ-loop m list index readers g h storing set b₀ d₀ got₀ rest₀ b d got rest = ones rest
 
 -- src/turns.rt:170:9
 empty-requires : tie.Need-empty-requires Inv-loop μ-loop

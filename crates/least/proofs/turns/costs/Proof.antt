@@ -4,25 +4,31 @@ use Rattle.least.proofs.turns.costs.Statement.{statement}
 use Rattle.least.proofs.turns.costs.Tie as tie
 use Rattle.least.proofs.turns.costs.Reads as reads
 use Rattle.least.proofs.turns.costs.Lts as lts
+use Rattle.blocks.proofs.readers.readers.Reads as readers-reads
 use Rattle.least.proofs.turns.ends.Reads as ends-reads
 use Rattle.least.proofs.turns.start.Reads as start-reads
 use Rattle.least.proofs.turns.turns.Reads as turns-reads
 
--- src/turns.rt:248:5
+-- src/turns.rt:224:5
 start-requires : tie.Need-start-requires
 start-requires c κs = search needs
 
--- src/turns.rt:249:9
+-- src/turns.rt:225:9
 ends-requires : tie.Need-ends-requires
 ends-requires c κs = (rules _ _ ((c .before .before .before) .pre .0 .0 .good) .list-fits, (c .before .before .before) .pre .0 .0 .matches)
 
--- src/turns.rt:250:5
+-- src/turns.rt:226:19
+readers-requires : tie.Need-readers-requires
+readers-requires c κs = search needs
+
+-- src/turns.rt:227:5
 turns-requires : tie.Need-turns-requires
 turns-requires c κs = search needs
 
--- src/turns.rt:235:1
+-- src/turns.rt:212:1
 returns : tie.Need-returns
 returns c = search needs
 
 pub costs-spec : {M : Type 1} → statement M
-costs-spec = tie.close (tie.spec start-requires ends-requires turns-requires returns)
+costs-spec =
+    tie.close (tie.spec start-requires ends-requires readers-requires turns-requires returns)

@@ -9,7 +9,7 @@ use Rattle.least.proofs.fall.fall.Reads as fall-reads
 
 -- src/turns.rt:85:9
 returns : tie.Need-returns
-returns c = end-not _ _ _ _ (omega (arith, (c .before) .fits .got)) (c .if1 .taken)
+returns c = end-not _ _ _ _ _ (omega (arith, (c .before) .fits .got)) (c .if1 .taken)
 
 -- src/turns.rt:87:27
 add-fall : tie.Need-add-fall

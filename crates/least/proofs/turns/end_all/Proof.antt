@@ -16,14 +16,14 @@ use Rattle.stateset.proofs.lowest.Reads as lowest-reads
 use Rattle.stateset.proofs.without_lowest.Reads as without-lowest-reads
 
 abbrev Inv-loop : tie.InvT-loop
-Inv-loop b guess h d₀ hints₀ got all₀ rest₀ d hints all rest = Rest h rest × Falls (Ends b guess (Left h rest)) (Ends b guess (Left h rest)) d₀ got d all
+Inv-loop b guess h d₀ got top all₀ rest₀ d all rest = Rest h rest × Falls (Ends top b guess (Left h rest)) (Ends top b guess (Left h rest)) d₀ got d all
 
 abbrev μ-loop : tie.MeasureT-loop
-μ-loop b guess h d₀ hints₀ got all₀ rest₀ d hints all rest = ones rest
+μ-loop b guess h d₀ got top all₀ rest₀ d all rest = ones rest
 
 -- src/turns.rt:119:5
 loop-holds : tie.Need-loop-holds Inv-loop μ-loop
-loop-holds c = (rest-start _ (omega (arith, c .fits .h)), ends-start _ _ _ _ _ (omega (arith, c .fits .got)))
+loop-holds c = (rest-start _ (omega (arith, c .fits .h)), ends-start _ _ _ _ _ _ (omega (arith, c .fits .got)))
 
 -- src/turns.rt:120:17
 lowest-requires : tie.Need-lowest-requires Inv-loop μ-loop
@@ -55,7 +55,7 @@ element-copy-out-v c = omega (arith, (c .before .before .before .before) .pre .1
 
 -- src/turns.rt:123:9
 end-requires : tie.Need-end-requires Inv-loop μ-loop
-end-requires c κs = ((c .before .before .before .before .before) .loop .inv .1 .size ∙ (c .before .before .before .before .before .before) .pre .0, lowest-inside _ _ ((c .before .before .before .before .before) .loop .inv .0 .fits) ((c .before .before .before .before) .loop-test .taken) ((c .before .before .before) .lowest .ensures))
+end-requires c κs = ((c .before .before .before .before .before) .loop .inv .1 .size ∙ (c .before .before .before .before .before .before) .pre .0, lowest-inside _ _ ((c .before .before .before .before .before) .loop .inv .0 .fits) ((c .before .before .before .before) .loop-test .taken) ((c .before .before .before) .lowest .ensures), (c .before .before .before .before .before .before) .pre .2)
 
 -- src/turns.rt:124:26
 cast-note : tie.Need-cast-note Inv-loop μ-loop
@@ -71,11 +71,11 @@ loop-less c = taken ((c .before .before .before .before .before .before .before 
 
 -- src/turns.rt:119:5
 loop-again : tie.Need-loop-again Inv-loop μ-loop
-loop-again c = let k = taken ((c .before .before .before .before .before .before .before .before .before) .loop .inv .0 .fits) ((c .before .before .before .before .before .before .before .before) .loop-test .taken) ((c .before .before .before .before .before .before .before) .lowest .ensures) ((c .before .before .before .before .before .before) .without-lowest .ensures) in (rest-more ((c .before .before .before .before .before .before .before .before .before) .loop .inv .0) k, ends-more _ _ ((c .before .before .before .before .before .before .before .before .before) .loop .inv .0) k (sym (cell-inside _ _ _ ((c .before .before .before .before .before .before .before .before .before .before) .pre .1) (lowest-inside _ _ ((c .before .before .before .before .before .before .before .before .before) .loop .inv .0 .fits) ((c .before .before .before .before .before .before .before .before) .loop-test .taken) ((c .before .before .before .before .before .before .before) .lowest .ensures)))) ((c .before .before .before .before .before .before .before .before .before) .loop .inv .1) ((c .before .before .before) .end .ensures))
+loop-again c = let k = taken ((c .before .before .before .before .before .before) .loop .inv .0 .fits) ((c .before .before .before .before .before) .loop-test .taken) ((c .before .before .before .before) .lowest .ensures) ((c .before .before .before) .without-lowest .ensures) in (rest-more ((c .before .before .before .before .before .before) .loop .inv .0) k, ends-more _ _ _ ((c .before .before .before .before .before .before) .loop .inv .0) k (sym (cell-inside _ _ _ ((c .before .before .before .before .before .before .before) .pre .1) (lowest-inside _ _ ((c .before .before .before .before .before .before) .loop .inv .0 .fits) ((c .before .before .before .before .before) .loop-test .taken) ((c .before .before .before .before) .lowest .ensures)))) ((c .before .before .before .before .before .before) .loop .inv .1) (c .end .ensures))
 
 -- src/turns.rt:106:1
 returns : tie.Need-returns Inv-loop μ-loop
-returns c = ends-end _ _ _ _ (c .loop-test .left) ((c .before) .loop .inv .1)
+returns c = ends-end _ _ _ _ _ (c .loop-test .left) ((c .before) .loop .inv .1)
 
 pub end-all-spec : {M : Type 1} → statement M
 end-all-spec =

@@ -18,10 +18,10 @@ use Rattle.least.proofs.turns.settle.Reads as settle-reads
 use Rattle.stateset.proofs.intersection.Reads as intersection-reads
 
 abbrev Inv-loop : tie.InvT-loop
-Inv-loop m list index storing b₀ d₀ hints₀ g h fresh₀ b d hints fresh = (length b ≡ 4096) × Past m b × (length d ≡ 64) × RoundsOf m list (In fresh) (In fresh) d
+Inv-loop m list index readers storing b₀ d₀ g h fresh₀ b d fresh = (length b ≡ 4096) × Past m b × (length d ≡ 64) × RoundsOf m list (In fresh) (In fresh) d
 
 abbrev μ-loop : tie.MeasureT-loop
-μ-loop m list index storing b₀ d₀ hints₀ g h fresh₀ b d hints fresh = 3 * total d + 2 * ones fresh
+μ-loop m list index readers storing b₀ d₀ g h fresh₀ b d fresh = 3 * total d + 2 * ones fresh
 
 -- src/turns.rt:221:5
 loop-holds : tie.Need-loop-holds Inv-loop μ-loop
@@ -41,7 +41,7 @@ returns c = ((c .before .before .before .before) .loop .inv .0, (c .before .befo
 
 -- src/turns.rt:227:9
 copies-requires : tie.Need-copies-requires Inv-loop μ-loop
-copies-requires c κs = (((c .before .before .before .before .before .before .before .before .before) .pre .0 .0, (c .before .before .before .before .before .before .before .before .before) .pre .0 .1), (((c .before .before .before .before .before) .settle .ensures .size ∙ (c .before .before .before .before .before .before .before) .loop .inv .2, (c .before .before .before .before .before .before .before) .loop .inv .0, (c .before .before .before .before .before .before .before) .loop .inv .1), ((c .before .before .before .before .before .before .before .before .before) .pre .1 .1, turns-buffer ((c .before .before .before .before .before .before .before .before .before) .args .m) ((c .before .before .before .before .before .before .before .before .before) .args .list .now) _ ((c .before .before .before .before .before .before .before .before .before) .pre .0 .1) _ _ ((c .before .before .before .before) .intersection .ensures))))
+copies-requires c κs = (((c .before .before .before .before .before .before .before .before) .pre .0 .0, (c .before .before .before .before .before .before .before .before) .pre .0 .1, (c .before .before .before .before .before .before .before .before) .pre .0 .3), (((c .before .before .before .before) .settle .ensures .size ∙ (c .before .before .before .before .before .before) .loop .inv .2, (c .before .before .before .before .before .before) .loop .inv .0, (c .before .before .before .before .before .before) .loop .inv .1), ((c .before .before .before .before .before .before .before .before) .pre .1 .1, turns-buffer ((c .before .before .before .before .before .before .before .before) .args .m) ((c .before .before .before .before .before .before .before .before) .args .list .now) _ ((c .before .before .before .before .before .before .before .before) .pre .0 .1) _ _ ((c .before .before .before) .intersection .ensures))))
 
 -- src/turns.rt:221:5
 loop-less : tie.Need-loop-less Inv-loop μ-loop
