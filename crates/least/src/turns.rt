@@ -144,7 +144,6 @@ fn guessed(
     set: u64,
     b: &mut [u64; 4096],
     d: &mut [u64; 64],
-    hints: &mut [u8; 64],
     got: u64,
 ) -> u64
     requires { ⌜ Ready m (now list) (now index) h × Kind (buffering (m .marks)) g × Readers m (now list) (now readers) ⌝ }
@@ -169,7 +168,6 @@ fn copies(
     set: u64,
     b: &mut [u64; 4096],
     d: &mut [u64; 64],
-    hints: &mut [u8; 64],
 ) -> u64
     requires { ⌜ Ready m (now list) (now index) h × Kind (buffering (m .marks)) g × Readers m (now list) (now readers) ⌝ }
     requires { ⌜ (length (now d) ≡ 64) × (length (now b) ≡ 4096) × Past m (now b) ⌝ }
@@ -218,7 +216,6 @@ fn turns(
     storing: u64,
     b: &mut [u64; 4096],
     d: &mut [u64; 64],
-    hints: &mut [u8; 64],
 )
     requires { ⌜ Ready m (now list) (now index) (kinds .matching) × Kind (buffering (m .marks)) (kinds .buffering) × KindsOf (m .marks) (m .states) kinds × Readers m (now list) (now readers) ⌝ }
     requires { ⌜ First (kinds .initial) (now d) × (length (now b) ≡ 4096) × Past m (now b) ⌝ }
@@ -239,8 +236,7 @@ fn turns(
 }
 
 // The least weight from a start to each state in normal mode, or NONE: letters × 2^32 + moves. index is the index of the list
-// (blocks::index), kinds has its sets of states (images::kinds_of), b is a block in which nothing stands past the last state. hints gets for
-// each state a guess with which a copy reaches its number, if there is one; of it nothing is promised.
+// (blocks::index), kinds has its sets of states (images::kinds_of), b is a block in which nothing stands past the last state.
 // Time: the normal moves, as often as a number is lowered; and in each turn of copies a block for each state where storing can end.
 pub fn costs(
     m: Machine,
@@ -249,7 +245,6 @@ pub fn costs(
     kinds: Kinds,
     b: &mut [u64; 4096],
     d: &mut [u64; 64],
-    hints: &mut [u8; 64],
 )
     requires { ⌜ Ready m (now list) (now index) (kinds .matching) × Kind (buffering (m .marks)) (kinds .buffering) × KindsOf (m .marks) (m .states) kinds ⌝ }
     requires { ⌜ (length (now d) ≡ 64) × (length (now b) ≡ 4096) × Past m (now b) ⌝ }

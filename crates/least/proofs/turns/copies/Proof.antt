@@ -23,39 +23,39 @@ Inv-loop m list index readers g h storing set b₀ d₀ got₀ rest₀ b d got r
 abbrev μ-loop : tie.MeasureT-loop
 μ-loop m list index readers g h storing set b₀ d₀ got₀ rest₀ b d got rest = ones rest
 
--- src/turns.rt:170:9
+-- src/turns.rt:144:9
 empty-requires : tie.Need-empty-requires Inv-loop μ-loop
 empty-requires c κs = search needs
 
--- src/turns.rt:172:5
+-- src/turns.rt:146:5
 loop-holds : tie.Need-loop-holds Inv-loop μ-loop
 loop-holds c = ((c .before .before) .pre .1 .0 .1, (c .before .before) .pre .1 .0 .2, rest-start _ (omega (arith, (c .before .before) .fits .storing)), copies-start _ _ ((c .before .before) .pre .0 .0 .good) _ ((c .before .before) .pre .0 .0 .matches) _ _ _ _ (c .empty .ensures .value))
 
--- src/turns.rt:173:21
+-- src/turns.rt:147:21
 lowest-requires : tie.Need-lowest-requires Inv-loop μ-loop
 lowest-requires c κs = search needs
 
--- src/turns.rt:173:21
+-- src/turns.rt:147:21
 cast-guess : tie.Need-cast-guess Inv-loop μ-loop
 cast-guess c = search needs
 
--- src/turns.rt:174:9
+-- src/turns.rt:148:9
 without-lowest-requires : tie.Need-without-lowest-requires Inv-loop μ-loop
 without-lowest-requires c κs = search needs
 
--- src/turns.rt:175:9
+-- src/turns.rt:149:9
 guessed-requires : tie.Need-guessed-requires Inv-loop μ-loop
-guessed-requires c κs = ((c .before .before .before .before .before .before .before .before .before) .pre .0, ((c .before .before .before .before .before .before) .loop .inv .3 .size ∙ (c .before .before .before .before .before .before .before .before .before) .pre .1 .0 .0, (c .before .before .before .before .before .before) .loop .inv .0, (c .before .before .before .before .before .before) .loop .inv .1, lowest-inside _ _ ((c .before .before .before .before .before .before) .loop .inv .2 .fits) ((c .before .before .before .before .before) .loop-test .taken) ((c .before .before .before .before) .lowest .ensures)))
+guessed-requires c κs = ((c .before .before .before .before .before .before .before .before) .pre .0, ((c .before .before .before .before .before) .loop .inv .3 .size ∙ (c .before .before .before .before .before .before .before .before) .pre .1 .0 .0, (c .before .before .before .before .before) .loop .inv .0, (c .before .before .before .before .before) .loop .inv .1, lowest-inside _ _ ((c .before .before .before .before .before) .loop .inv .2 .fits) ((c .before .before .before .before) .loop-test .taken) ((c .before .before .before) .lowest .ensures)))
 
--- src/turns.rt:172:5
+-- src/turns.rt:146:5
 loop-less : tie.Need-loop-less Inv-loop μ-loop
-loop-less c = taken ((c .before .before .before .before .before .before .before) .loop .inv .2 .fits) ((c .before .before .before .before .before .before) .loop-test .taken) ((c .before .before .before .before .before) .lowest .ensures) ((c .before .before .before .before) .without-lowest .ensures) .fewer
+loop-less c = taken ((c .before .before .before .before .before .before) .loop .inv .2 .fits) ((c .before .before .before .before .before) .loop-test .taken) ((c .before .before .before .before) .lowest .ensures) ((c .before .before .before) .without-lowest .ensures) .fewer
 
--- src/turns.rt:172:5
+-- src/turns.rt:146:5
 loop-again : tie.Need-loop-again Inv-loop μ-loop
-loop-again c = let k = taken ((c .before .before .before .before .before .before .before) .loop .inv .2 .fits) ((c .before .before .before .before .before .before) .loop-test .taken) ((c .before .before .before .before .before) .lowest .ensures) ((c .before .before .before .before) .without-lowest .ensures) in (c .guessed .ensures .block .size, c .guessed .ensures .block .past, rest-more ((c .before .before .before .before .before .before .before) .loop .inv .2) k, copies-more _ _ ((c .before .before .before .before .before .before .before .before .before .before) .pre .0 .0 .good) _ ((c .before .before .before .before .before .before .before .before .before .before) .pre .0 .0 .matches) _ _ ((c .before .before .before .before .before .before .before .before .before .before) .pre .1 .1 .0) ((c .before .before .before .before .before .before .before .before .before .before) .pre .1 .1 .1) ((c .before .before .before .before .before .before .before) .loop .inv .2) k ((c .before .before .before .before .before .before .before) .loop .inv .3) (c .guessed .ensures))
+loop-again c = let k = taken ((c .before .before .before .before .before .before) .loop .inv .2 .fits) ((c .before .before .before .before .before) .loop-test .taken) ((c .before .before .before .before) .lowest .ensures) ((c .before .before .before) .without-lowest .ensures) in (c .guessed .ensures .block .size, c .guessed .ensures .block .past, rest-more ((c .before .before .before .before .before .before) .loop .inv .2) k, copies-more _ _ ((c .before .before .before .before .before .before .before .before .before) .pre .0 .0 .good) _ ((c .before .before .before .before .before .before .before .before .before) .pre .0 .0 .matches) _ _ ((c .before .before .before .before .before .before .before .before .before) .pre .1 .1 .0) ((c .before .before .before .before .before .before .before .before .before) .pre .1 .1 .1) ((c .before .before .before .before .before .before) .loop .inv .2) k ((c .before .before .before .before .before .before) .loop .inv .3) (c .guessed .ensures))
 
--- src/turns.rt:153:1
+-- src/turns.rt:128:1
 returns : tie.Need-returns Inv-loop μ-loop
 returns c = ((c .before) .loop .inv .0, (c .before) .loop .inv .1, copies-end _ _ ((c .before .before .before .before) .pre .0 .0 .good) _ ((c .before .before .before .before) .pre .0 .0 .matches) _ _ ((c .before .before .before .before) .pre .1 .1 .0) (c .loop-test .left) ((c .before) .loop .inv .3))
 

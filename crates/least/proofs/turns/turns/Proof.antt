@@ -23,33 +23,33 @@ Inv-loop m list index readers storing b₀ d₀ g h fresh₀ b d fresh = (length
 abbrev μ-loop : tie.MeasureT-loop
 μ-loop m list index readers storing b₀ d₀ g h fresh₀ b d fresh = 3 * total d + 2 * ones fresh
 
--- src/turns.rt:221:5
+-- src/turns.rt:194:5
 loop-holds : tie.Need-loop-holds Inv-loop μ-loop
 loop-holds c = ((c .before) .pre .1 .0 .1, (c .before) .pre .1 .0 .2, (c .before) .pre .1 .0 .0 .size, first-rounds ((c .before) .args .m) ((c .before) .args .list .now) (initial-is ((c .before) .args .m) ((c .before) .args .list .now) _ ((c .before) .pre .0 .2)) ((c .before) .pre .1 .0 .0))
 
--- src/turns.rt:222:13
+-- src/turns.rt:195:13
 settle-requires : tie.Need-settle-requires Inv-loop μ-loop
 settle-requires c κs = (((c .before .before .before) .pre .0 .0, (c .before .before .before) .pre .0 .1), (c .before) .loop .inv .2)
 
--- src/turns.rt:223:13
+-- src/turns.rt:196:13
 intersection-requires : tie.Need-intersection-requires Inv-loop μ-loop
 intersection-requires c κs = search needs
 
--- src/turns.rt:225:13
+-- src/turns.rt:198:13
 returns : tie.Need-returns Inv-loop μ-loop
 returns c = ((c .before .before .before .before) .loop .inv .0, (c .before .before .before .before) .loop .inv .1, record { size = (c .before .before) .settle .ensures .size ∙ (c .before .before .before .before) .loop .inv .2; settled = turns-end ((c .before .before .before .before .before .before) .args .m) ((c .before .before .before .before .before .before) .args .list .now) _ ((c .before .before .before .before .before .before) .pre .0 .1) _ _ ((c .before) .intersection .ensures) _ (c .if1 .taken) ((c .before .before) .settle .ensures .rounds ((c .before .before .before .before) .loop .inv .3)) })
 
--- src/turns.rt:227:9
+-- src/turns.rt:200:9
 copies-requires : tie.Need-copies-requires Inv-loop μ-loop
 copies-requires c κs = (((c .before .before .before .before .before .before .before .before) .pre .0 .0, (c .before .before .before .before .before .before .before .before) .pre .0 .1, (c .before .before .before .before .before .before .before .before) .pre .0 .3), (((c .before .before .before .before) .settle .ensures .size ∙ (c .before .before .before .before .before .before) .loop .inv .2, (c .before .before .before .before .before .before) .loop .inv .0, (c .before .before .before .before .before .before) .loop .inv .1), ((c .before .before .before .before .before .before .before .before) .pre .1 .1, turns-buffer ((c .before .before .before .before .before .before .before .before) .args .m) ((c .before .before .before .before .before .before .before .before) .args .list .now) _ ((c .before .before .before .before .before .before .before .before) .pre .0 .1) _ _ ((c .before .before .before) .intersection .ensures))))
 
--- src/turns.rt:221:5
+-- src/turns.rt:194:5
 loop-less : tie.Need-loop-less Inv-loop μ-loop
-loop-less c = turns-less _ _ _ ((c .before .before .before .before .before .before .before .before .before .before) .pre .0 .1) _ _ ((c .before .before .before .before .before) .intersection .ensures) ((c .before .before .before .before) .if1 .left) ((c .before .before .before .before .before .before) .settle .ensures) (c .copies .ensures .2)
+loop-less c = turns-less _ _ _ ((c .before .before .before .before .before .before .before .before .before) .pre .0 .1) _ _ ((c .before .before .before .before) .intersection .ensures) ((c .before .before .before) .if1 .left) ((c .before .before .before .before .before) .settle .ensures) (c .copies .ensures .2)
 
--- src/turns.rt:221:5
+-- src/turns.rt:194:5
 loop-again : tie.Need-loop-again Inv-loop μ-loop
-loop-again c = (c .copies .ensures .0, c .copies .ensures .1, c .copies .ensures .2 .size ∙ ((c .before .before .before .before .before .before) .settle .ensures .size ∙ (c .before .before .before .before .before .before .before .before) .loop .inv .2), c .copies .ensures .2 .rounds _ (turns-part ((c .before .before .before .before .before .before .before .before .before .before) .args .m) ((c .before .before .before .before .before .before .before .before .before .before) .args .list .now) _ ((c .before .before .before .before .before .before .before .before .before .before) .pre .0 .1) _ _ ((c .before .before .before .before .before) .intersection .ensures)) ((c .before .before .before .before .before .before) .settle .ensures .rounds ((c .before .before .before .before .before .before .before .before) .loop .inv .3)))
+loop-again c = (c .copies .ensures .0, c .copies .ensures .1, c .copies .ensures .2 .size ∙ ((c .before .before .before .before .before) .settle .ensures .size ∙ (c .before .before .before .before .before .before .before) .loop .inv .2), c .copies .ensures .2 .rounds _ (turns-part ((c .before .before .before .before .before .before .before .before .before) .args .m) ((c .before .before .before .before .before .before .before .before .before) .args .list .now) _ ((c .before .before .before .before .before .before .before .before .before) .pre .0 .1) _ _ ((c .before .before .before .before) .intersection .ensures)) ((c .before .before .before .before .before) .settle .ensures .rounds ((c .before .before .before .before .before .before .before) .loop .inv .3)))
 
 pub turns-spec : {M : Type 1} → statement M
 turns-spec =
