@@ -117,8 +117,31 @@ fn end(d: &mut [u64; 64], got: u64, z: usize, v: u64, top: u64) -> u64
     fall::fall(d, got, z, v + 2)
 }
 
-// The same for each matching state, with its number in row guess of the block for v. h has the matching states.
-fn end_all(b: &[u64; 4096], guess: usize, h: u64, d: &mut [u64; 64], got: u64, top: u64) -> u64
+// Notes the guess for z, where the number of z is reached along a copy with it: v is the number of the copy's last pair. Of the notes
+// nothing is promised.
+fn note(hints: &mut [u8; 64], d: &[u64; 64], guess: u8, z: usize, v: u64) {
+    if 64 <= z {
+        return;
+    }
+    if NONE <= v {
+        return;
+    }
+    if d[z] == v + 2 {
+        hints[z] = guess;
+    }
+}
+
+// The same for each matching state, with its number in row guess of the block for v. h has the matching states. The guess is noted for
+// each state whose number is reached so.
+fn end_all(
+    b: &[u64; 4096],
+    guess: usize,
+    h: u64,
+    d: &mut [u64; 64],
+    hints: &mut [u8; 64],
+    got: u64,
+    top: u64,
+) -> u64
     requires { ⌜ (length (now d) ≡ 64) × (guess < 64) × (top ≤ nothing) ⌝ }
     ensures { λ r. ⌜ Falls (Ends top (now (b .entry)) guess (In h)) (Ends top (now (b .entry)) guess (In h)) (now (d .entry)) got (now (d .exit)) r ⌝ }
 {
@@ -127,7 +150,9 @@ fn end_all(b: &[u64; 4096], guess: usize, h: u64, d: &mut [u64; 64], got: u64, t
     while rest != 0 {
         let z = stateset::lowest(rest) as usize;
         rest = stateset::without_lowest(rest);
-        all = end(d, all, z, b[guess * 64 + z], top);
+        let v = b[guess * 64 + z];
+        all = end(d, all, z, v, top);
+        note(hints, &*d, guess as u8, z, v);
     }
     all
 }
@@ -144,6 +169,7 @@ fn guessed(
     set: u64,
     b: &mut [u64; 4096],
     d: &mut [u64; 64],
+    hints: &mut [u8; 64],
     got: u64,
 ) -> u64
     requires { ⌜ Ready m (now list) (now index) h × Kind (buffering (m .marks)) g × Readers m (now list) (now readers) ⌝ }
@@ -152,7 +178,7 @@ fn guessed(
 {
     let top = largest(h, &*d);
     block::block_by(m, list, index, readers, g, h, guess, set, &*d, b, top);
-    end_all(&*b, guess, h, d, got, top)
+    end_all(&*b, guess, h, d, hints, got, top)
 }
 
 // A turn of copies that begin in a state of the set, all of them buffering states; the states that were lowered. storing has the states
@@ -168,6 +194,7 @@ fn copies(
     set: u64,
     b: &mut [u64; 4096],
     d: &mut [u64; 64],
+    hints: &mut [u8; 64],
 ) -> u64
     requires { ⌜ Ready m (now list) (now index) h × Kind (buffering (m .marks)) g × Readers m (now list) (now readers) ⌝ }
     requires { ⌜ (length (now d) ≡ 64) × (length (now b) ≡ 4096) × Past m (now b) ⌝ }
@@ -179,7 +206,7 @@ fn copies(
     while rest != 0 {
         let guess = stateset::lowest(rest) as usize;
         rest = stateset::without_lowest(rest);
-        got = guessed(m, list, index, readers, g, h, guess, set, b, d, got);
+        got = guessed(m, list, index, readers, g, h, guess, set, b, d, hints, got);
     }
     got
 }
@@ -216,6 +243,7 @@ fn turns(
     storing: u64,
     b: &mut [u64; 4096],
     d: &mut [u64; 64],
+    hints: &mut [u8; 64],
 )
     requires { ⌜ Ready m (now list) (now index) (kinds .matching) × Kind (buffering (m .marks)) (kinds .buffering) × KindsOf (m .marks) (m .states) kinds × Readers m (now list) (now readers) ⌝ }
     requires { ⌜ First (kinds .initial) (now d) × (length (now b) ≡ 4096) × Past m (now b) ⌝ }
@@ -231,12 +259,13 @@ fn turns(
         if set == 0 {
             return;
         }
-        fresh = copies(m, list, index, readers, g, h, storing, set, b, d);
+        fresh = copies(m, list, index, readers, g, h, storing, set, b, d, hints);
     }
 }
 
 // The least weight from a start to each state in normal mode, or NONE: letters × 2^32 + moves. index is the index of the list
-// (blocks::index), kinds has its sets of states (images::kinds_of), b is a block in which nothing stands past the last state.
+// (blocks::index), kinds has its sets of states (images::kinds_of), b is a block in which nothing stands past the last state. hints gets for
+// each state a guess with which a copy reaches its number, if there is one; of it nothing is promised.
 // Time: the normal moves, as often as a number is lowered; and in each turn of copies a block for each state where storing can end.
 pub fn costs(
     m: Machine,
@@ -245,6 +274,7 @@ pub fn costs(
     kinds: Kinds,
     b: &mut [u64; 4096],
     d: &mut [u64; 64],
+    hints: &mut [u8; 64],
 )
     requires { ⌜ Ready m (now list) (now index) (kinds .matching) × Kind (buffering (m .marks)) (kinds .buffering) × KindsOf (m .marks) (m .states) kinds ⌝ }
     requires { ⌜ (length (now d) ≡ 64) × (length (now b) ≡ 4096) × Past m (now b) ⌝ }
@@ -253,5 +283,5 @@ pub fn costs(
     start(kinds.initial, d);
     let storing = ends(m, list, kinds.matching);
     let readers = readers::readers(m, list, kinds.matching);
-    turns(m, list, index, &readers, kinds, storing, b, d);
+    turns(m, list, index, &readers, kinds, storing, b, d, hints);
 }
