@@ -47,9 +47,12 @@ fn search(
     requires { ⌜ Joined first (now «first_list») second (now «second_list») m (now list) ⌝ }
     ensures { λ r. ⌜ CommonWord first (now («first_list» .entry)) second (now («second_list» .entry)) (now (word .entry)) (now (word .exit)) (now («first_run» .entry)) (now («first_run» .exit)) (now («second_run» .entry)) (now («second_run» .exit)) r ⌝ }
 {
+    let kinds = images::kinds_of(&m.marks, m.states);
+    if emptiness::is_barren(m, list, kinds) {
+        return Common::NoCommonWord;
+    }
     let mut starts = no_index();
     index::index(m, list, &mut starts);
-    let kinds = images::kinds_of(&m.marks, m.states);
     let mut b = block::no_block();
     let mut d = block::zeros();
     turns::costs(m, list, &starts, kinds, &mut b, &mut d);

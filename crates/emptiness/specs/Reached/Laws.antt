@@ -7,15 +7,14 @@
 -- swept-start, swept-more, swept-end == the loop of a pass
 -- begun-more           == a pass keeps the initial states
 -- same-closed, same-empty == a pass that adds nothing leaves sets that no run leaves; with no final state among them no word is accepted
-use Prim.Native.Nat.{ℕ, _+_, _*_, _/_, _%_, _≤_, _<_}
-use mathlib.Core.Path.{_≡_, refl, sym, ap, _∙_, subst}
+use Prim.Native.Nat.{ℕ, _+_, _/_, _%_, _≤_, _<_}
+use mathlib.Core.Path.{_≡_, refl, sym, subst}
 use mathlib.Core.Logic.{_⊎_, inl, inr, _↔_}
 use mathlib.Core.Bool.{Bool, true, false}
 use mathlib.Core.List.{List}
 use native.Mathlib.Omega.{arith}
 use native.Mathlib.Decide.{decLt}
 use lib.Bits.{bitAnd, bitOr}
-use lib.Dec.{eqb}
 use borrow.Author.Tests.{eqb-true, eqb-false, eq-eqb}
 use Rattle.graphs.specs.Search.Laws.{not-both}
 use Rattle.stateset.specs.Set.{width, digit, In, has, added, SetIs}
@@ -26,7 +25,7 @@ use Rattle.fsbm.specs.Published.{Listed, fsbmOf, InLanguage}
 use Rattle.fsbm.specs.declared.machine.Machine.{Machine}
 use Rattle.fsbm.specs.declared.config.Mode.{Mode}
 use Rattle.fsbm.specs.declared.config.Mode.the-variants.{Normal, Buffering, Emptying}
-use Rattle.images.specs.Graph.{Kind, KindsOf, May}
+use Rattle.images.specs.Graph.{KindsOf, May}
 use Rattle.images.specs.declared.Kinds.{Kinds}
 use Rattle.emptiness.specs.Closed.{Allowed, Changeable, nextMode, Closed}
 use Rattle.emptiness.specs.Closed.Laws.{closed-empty}
