@@ -1,3 +1,4 @@
+pub mod BarrenCases
 pub mod SearchCases
 pub mod FoundCases
 pub mod AnswerCases

@@ -6,9 +6,9 @@
 // write        a shortest common word with a run of each machine, written from the least weights
 ghost use mathlib.Core.Path.{_≡_};
 ghost use lib.ListN.{length};
+ghost use Rattle.blocks.specs.Settling.{Blank};
 ghost use Rattle.common.specs.Common.{CommonWord};
 ghost use Rattle.search.specs.Joined.{Joined};
-use blocks::block;
 use blocks::index;
 use common::Common;
 use fsbm::machine::Machine;
@@ -32,6 +32,20 @@ fn no_index() -> [u16; 16065]
     [0; 16065]
 }
 
+// A block in which nothing stands.
+fn no_block() -> [u64; 4096]
+    ensures { λ r. ⌜ Blank r ⌝ }
+{
+    [best::NOTHING; 4096]
+}
+
+// Room for a number of each state.
+fn no_numbers() -> [u64; 64]
+    ensures { λ r. ⌜ 64 ≡ length r ⌝ }
+{
+    [0; 64]
+}
+
 // A shortest common word of two machines whose product is m, its transitions at the front of list.
 fn search(
     first: Machine,
@@ -47,11 +61,14 @@ fn search(
     requires { ⌜ Joined first (now «first_list») second (now «second_list») m (now list) ⌝ }
     ensures { λ r. ⌜ CommonWord first (now («first_list» .entry)) second (now («second_list» .entry)) (now (word .entry)) (now (word .exit)) (now («first_run» .entry)) (now («first_run» .exit)) (now («second_run» .entry)) (now («second_run» .exit)) r ⌝ }
 {
+    let kinds = images::kinds_of(&m.marks, m.states);
+    if emptiness::is_barren(m, list, kinds) {
+        return Common::NoCommonWord;
+    }
     let mut starts = no_index();
     index::index(m, list, &mut starts);
-    let kinds = images::kinds_of(&m.marks, m.states);
-    let mut b = block::no_block();
-    let mut d = block::zeros();
+    let mut b = no_block();
+    let mut d = no_numbers();
     let mut hints = [0u8; 64];
     turns::costs(m, list, &starts, kinds, &mut b, &mut d, &mut hints);
     let f = best::best(&m.marks, &d);

@@ -1,83 +1,94 @@
-use native.Mathlib.Omega.{arith}
-use mathlib.Core.Path.{_≡_, refl, sym, _∙_}
+use mathlib.Core.Path.{_≡_, sym}
 use Rattle.fsbm.specs.Rules.{rules}
 use Rattle.blocks.specs.Works.Laws.{kind-buffering, ready-of}
-use Rattle.search.proofs.SearchCases.{joined-good}
+use Rattle.search.proofs.SearchCases.{joined-good, none}
+use Rattle.search.proofs.BarrenCases.{barren-past}
 use borrow.Author.Needs.{needs}
 use Rattle.search.proofs.search.Statement.{statement}
 use Rattle.search.proofs.search.Tie as tie
 use Rattle.search.proofs.search.Reads as reads
 use Rattle.search.proofs.search.Lts as lts
-use Rattle.blocks.proofs.block.no_block.Reads as no-block-reads
-use Rattle.blocks.proofs.block.zeros.Reads as zeros-reads
 use Rattle.blocks.proofs.index.index.Reads as index-reads
+use Rattle.emptiness.proofs.is_barren.Reads as is-barren-reads
 use Rattle.images.proofs.kinds_of.Reads as kinds-of-reads
 use Rattle.least.proofs.turns.costs.Reads as costs-reads
 use Rattle.search.proofs.answer.answer.Reads as answer-reads
 use Rattle.search.proofs.best.best.Reads as best-reads
+use Rattle.search.proofs.no_block.Reads as no-block-reads
 use Rattle.search.proofs.no_index.Reads as no-index-reads
+use Rattle.search.proofs.no_numbers.Reads as no-numbers-reads
 
--- src/lib.rt:50:22
+-- src/lib.rt:64:9
+kinds-of-requires : tie.Need-kinds-of-requires
+kinds-of-requires c κs = rules ((c .before .before .before .before .before .before .before .before) .args .t5) (((c .before .before .before .before .before .before .before .before) .args .list) .now) (joined-good ((c .before .before .before .before .before .before .before .before) .pre)) .states-fit
+
+-- src/lib.rt:65:8
+is-barren-requires : tie.Need-is-barren-requires
+is-barren-requires c κs = (joined-good ((c .before .before .before .before .before .before .before .before .before) .pre), c .kinds-of .ensures)
+
+-- src/lib.rt:66:9
+returns : tie.Need-returns
+returns c = none ((c .before .before .before .before .before .before .before .before .before .before .before) .args .first) (((c .before .before .before .before .before .before .before .before .before .before .before) .args .first-list) .now) ((c .before .before .before .before .before .before .before .before .before .before .before) .args .second) (((c .before .before .before .before .before .before .before .before .before .before .before) .args .second-list) .now) (((c .before .before .before .before .before .before .before .before .before .before .before) .args .word) .now) (((c .before .before .before .before .before .before .before .before .before .before .before) .args .first-run) .now) (((c .before .before .before .before .before .before .before .before .before .before .before) .args .second-run) .now) ((c .before .before .before .before .before .before .before .before .before .before .before) .pre .fine) (barren-past ((c .before .before .before .before .before .before .before .before .before .before .before) .pre) ((c .before) .is-barren .ensures (c .if1 .taken)))
+
+-- src/lib.rt:68:22
 no-index-requires : tie.Need-no-index-requires
 no-index-requires c κs = search needs
 
--- src/lib.rt:51:5
+-- src/lib.rt:69:5
 index-requires : tie.Need-index-requires
-index-requires c κs = (joined-good ((c .before .before .before .before .before .before .before .before) .pre), sym ((c .before) .no-index .ensures))
+index-requires c κs = (joined-good ((c .before .before .before .before .before .before .before .before .before .before .before .before .before) .pre), sym ((c .before) .no-index .ensures))
 
--- src/lib.rt:52:9
-kinds-of-requires : tie.Need-kinds-of-requires
-kinds-of-requires c κs = rules ((c .before .before .before .before .before .before .before .before .before .before .before) .args .t5) (((c .before .before .before .before .before .before .before .before .before .before .before) .args .list) .now) (joined-good ((c .before .before .before .before .before .before .before .before .before .before .before) .pre)) .states-fit
-
--- src/lib.rt:53:17
+-- src/lib.rt:70:17
 no-block-requires : tie.Need-no-block-requires
 no-block-requires c κs = search needs
 
--- src/lib.rt:54:17
-zeros-requires : tie.Need-zeros-requires
-zeros-requires c κs = search needs
+-- src/lib.rt:71:17
+no-numbers-requires : tie.Need-no-numbers-requires
+no-numbers-requires c κs = search needs
 
--- src/lib.rt:56:5
+-- src/lib.rt:73:5
 costs-requires : tie.Need-costs-requires
-costs-requires c κs = let good = joined-good ((c .before .before .before .before .before .before .before .before .before .before .before .before .before .before .before .before .before .before) .pre) in ((ready-of ((c .before .before .before .before .before .before .before .before .before .before .before .before .before .before .before .before .before .before) .args .t5) (((c .before .before .before .before .before .before .before .before .before .before .before .before .before .before .before .before .before .before) .args .list) .now) good ((c .before .before .before .before .before .before) .kinds-of .result) ((c .before .before .before .before .before .before) .kinds-of .ensures) _ ((c .before .before .before .before .before .before .before .before .before) .index .ensures), kind-buffering ((c .before .before .before .before .before .before .before .before .before .before .before .before .before .before .before .before .before .before) .args .t5) (((c .before .before .before .before .before .before .before .before .before .before .before .before .before .before .before .before .before .before) .args .list) .now) good ((c .before .before .before .before .before .before) .kinds-of .result) ((c .before .before .before .before .before .before) .kinds-of .ensures), (c .before .before .before .before .before .before) .kinds-of .ensures), ((c .before .before .before .before) .zeros .ensures, (c .before .before .before .before .before) .no-block .ensures .size, (c .before .before .before .before .before) .no-block .ensures .past ((c .before .before .before .before .before .before .before .before .before .before .before .before .before .before .before .before .before .before) .args .t5)))
+costs-requires c κs = let good = joined-good ((c .before .before .before .before .before .before .before .before .before .before .before .before .before .before .before .before .before .before .before .before) .pre) in ((ready-of ((c .before .before .before .before .before .before .before .before .before .before .before .before .before .before .before .before .before .before .before .before) .args .t5) (((c .before .before .before .before .before .before .before .before .before .before .before .before .before .before .before .before .before .before .before .before) .args .list) .now) good ((c .before .before .before .before .before .before .before .before .before .before .before) .kinds-of .result) ((c .before .before .before .before .before .before .before .before .before .before .before) .kinds-of .ensures) _ ((c .before .before .before .before .before .before) .index .ensures), kind-buffering ((c .before .before .before .before .before .before .before .before .before .before .before .before .before .before .before .before .before .before .before .before) .args .t5) (((c .before .before .before .before .before .before .before .before .before .before .before .before .before .before .before .before .before .before .before .before) .args .list) .now) good ((c .before .before .before .before .before .before .before .before .before .before .before) .kinds-of .result) ((c .before .before .before .before .before .before .before .before .before .before .before) .kinds-of .ensures), (c .before .before .before .before .before .before .before .before .before .before .before) .kinds-of .ensures), (sym ((c .before .before .before .before) .no-numbers .ensures), (c .before .before .before .before .before) .no-block .ensures .size, (c .before .before .before .before .before) .no-block .ensures .past ((c .before .before .before .before .before .before .before .before .before .before .before .before .before .before .before .before .before .before .before .before) .args .t5)))
 
--- src/lib.rt:57:9
+-- src/lib.rt:74:9
 best-requires : tie.Need-best-requires
 best-requires c κs = search needs
 
--- src/lib.rt:58:5
+-- src/lib.rt:75:5
 answer-requires : tie.Need-answer-requires
-answer-requires c κs = let good = joined-good ((c .before .before .before .before .before .before .before .before .before .before .before .before .before .before .before .before .before .before .before .before .before .before .before .before .before .before .before .before .before .before) .pre) in record { joined = (c .before .before .before .before .before .before .before .before .before .before .before .before .before .before .before .before .before .before .before .before .before .before .before .before .before .before .before .before .before .before) .pre; ready = ready-of ((c .before .before .before .before .before .before .before .before .before .before .before .before .before .before .before .before .before .before .before .before .before .before .before .before .before .before .before .before .before .before) .args .t5) (((c .before .before .before .before .before .before .before .before .before .before .before .before .before .before .before .before .before .before .before .before .before .before .before .before .before .before .before .before .before .before) .args .list) .now) good ((c .before .before .before .before .before .before .before .before .before .before .before .before .before .before .before .before .before .before) .kinds-of .result) ((c .before .before .before .before .before .before .before .before .before .before .before .before .before .before .before .before .before .before) .kinds-of .ensures) _ ((c .before .before .before .before .before .before .before .before .before .before .before .before .before .before .before .before .before .before .before .before .before) .index .ensures); buffers = kind-buffering ((c .before .before .before .before .before .before .before .before .before .before .before .before .before .before .before .before .before .before .before .before .before .before .before .before .before .before .before .before .before .before) .args .t5) (((c .before .before .before .before .before .before .before .before .before .before .before .before .before .before .before .before .before .before .before .before .before .before .before .before .before .before .before .before .before .before) .args .list) .now) good ((c .before .before .before .before .before .before .before .before .before .before .before .before .before .before .before .before .before .before) .kinds-of .result) ((c .before .before .before .before .before .before .before .before .before .before .before .before .before .before .before .before .before .before) .kinds-of .ensures); size = (c .before .before .before .before .before .before .before .before .before .before .before) .costs .ensures .0; past = (c .before .before .before .before .before .before .before .before .before .before .before) .costs .ensures .1; least = (c .before .before .before .before .before .before .before .before .before .before .before) .costs .ensures .2 .settled; best = (c .before .before .before .before .before .before .before) .best .ensures }
+answer-requires c κs = let good = joined-good ((c .before .before .before .before .before .before .before .before .before .before .before .before .before .before .before .before .before .before .before .before .before .before .before .before .before .before .before .before .before .before .before .before) .pre) in record { joined = (c .before .before .before .before .before .before .before .before .before .before .before .before .before .before .before .before .before .before .before .before .before .before .before .before .before .before .before .before .before .before .before .before) .pre; ready = ready-of ((c .before .before .before .before .before .before .before .before .before .before .before .before .before .before .before .before .before .before .before .before .before .before .before .before .before .before .before .before .before .before .before .before) .args .t5) (((c .before .before .before .before .before .before .before .before .before .before .before .before .before .before .before .before .before .before .before .before .before .before .before .before .before .before .before .before .before .before .before .before) .args .list) .now) good ((c .before .before .before .before .before .before .before .before .before .before .before .before .before .before .before .before .before .before .before .before .before .before .before) .kinds-of .result) ((c .before .before .before .before .before .before .before .before .before .before .before .before .before .before .before .before .before .before .before .before .before .before .before) .kinds-of .ensures) _ ((c .before .before .before .before .before .before .before .before .before .before .before .before .before .before .before .before .before .before) .index .ensures); buffers = kind-buffering ((c .before .before .before .before .before .before .before .before .before .before .before .before .before .before .before .before .before .before .before .before .before .before .before .before .before .before .before .before .before .before .before .before) .args .t5) (((c .before .before .before .before .before .before .before .before .before .before .before .before .before .before .before .before .before .before .before .before .before .before .before .before .before .before .before .before .before .before .before .before) .args .list) .now) good ((c .before .before .before .before .before .before .before .before .before .before .before .before .before .before .before .before .before .before .before .before .before .before .before) .kinds-of .result) ((c .before .before .before .before .before .before .before .before .before .before .before .before .before .before .before .before .before .before .before .before .before .before .before) .kinds-of .ensures); size = (c .before .before .before .before .before .before .before .before .before .before .before) .costs .ensures .0; past = (c .before .before .before .before .before .before .before .before .before .before .before) .costs .ensures .1; least = (c .before .before .before .before .before .before .before .before .before .before .before) .costs .ensures .2 .settled; best = (c .before .before .before .before .before .before .before) .best .ensures }
 
--- src/lib.rt:36:1
+-- src/lib.rt:50:1
 same-length : tie.Need-same-length
 same-length c = search needs
 
--- src/lib.rt:36:1
+-- src/lib.rt:50:1
 same-length-2 : tie.Need-same-length-2
 same-length-2 c = search needs
 
--- src/lib.rt:36:1
+-- src/lib.rt:50:1
 same-length-3 : tie.Need-same-length-3
 same-length-3 c = search needs
 
--- src/lib.rt:36:1
-returns : tie.Need-returns
-returns c = search needs
+-- src/lib.rt:50:1
+returns-2 : tie.Need-returns-2
+returns-2 c = search needs
 
 pub search-spec : {M : Type 1} → statement M
 search-spec =
     tie.close
     (tie.spec
+    kinds-of-requires
+    is-barren-requires
+    returns
     no-index-requires
     index-requires
-    kinds-of-requires
     no-block-requires
-    zeros-requires
+    no-numbers-requires
     costs-requires
     best-requires
     answer-requires
     same-length
     same-length-2
     same-length-3
-    returns)
+    returns-2)
