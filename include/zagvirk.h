@@ -275,8 +275,8 @@ typedef struct {
  * first x (n + 1), 17 if second_run has fewer than n + 1. A shortest common word has at most 515,970 letters.
  *
  * Time: that of zagvirk_join; then the product's moves, as often as a least weight is lowered, and for each round of
- * copies a table of pairs of states for each state where storing can end; then the word and its runs. The slowest
- * input known takes 30 ms. Memory: 208 KB of stack, no heap.
+ * copies a table of pairs of states for each state where storing can end; then the word and its runs. Memory: 216 KB
+ * of stack, no heap.
  */
 zagvirk_common zagvirk_common_word(zagvirk_machine first, const uint16_t *first_list, size_t first_len,
                                    zagvirk_machine second, const uint16_t *second_list, size_t second_len,
