@@ -18,46 +18,46 @@ use Rattle.stateset.proofs.lowest.Reads as lowest-reads
 use Rattle.stateset.proofs.without_lowest.Reads as without-lowest-reads
 
 abbrev Inv-loop : tie.InvT-loop
-Inv-loop m list index readers g h storing set b₀ d₀ hints₀ got₀ rest₀ b d hints got rest = (length b ≡ 4096) × Past m b × Rest storing rest × Falls (Made m list set d₀) (Bound m list set d₀ (Left storing rest)) d₀ 0 d got
+Inv-loop m list index readers g h storing set b₀ d₀ hints₀ limit got₀ rest₀ b d hints got rest = (length b ≡ 4096) × Past m b × Rest storing rest × Falls (Made m list set d₀) (Bound m list limit set d₀ (Left storing rest)) d₀ 0 d got
 
 abbrev μ-loop : tie.MeasureT-loop
-μ-loop m list index readers g h storing set b₀ d₀ hints₀ got₀ rest₀ b d hints got rest = ones rest
+μ-loop m list index readers g h storing set b₀ d₀ hints₀ limit got₀ rest₀ b d hints got rest = ones rest
 
--- src/turns.rt:204:9
+-- src/turns.rt:208:9
 empty-requires : tie.Need-empty-requires Inv-loop μ-loop
 empty-requires c κs = search needs
 
--- src/turns.rt:206:5
+-- src/turns.rt:210:5
 loop-holds : tie.Need-loop-holds Inv-loop μ-loop
-loop-holds c = ((c .before .before) .pre .1 .0 .1, (c .before .before) .pre .1 .0 .2, rest-start _ (omega (arith, (c .before .before) .fits .storing)), copies-start _ _ ((c .before .before) .pre .0 .0 .good) _ ((c .before .before) .pre .0 .0 .matches) _ _ _ _ (c .empty .ensures .value))
+loop-holds c = ((c .before .before) .pre .1 .0 .1, (c .before .before) .pre .1 .0 .2, rest-start _ (omega (arith, (c .before .before) .fits .storing)), copies-start _ _ ((c .before .before) .pre .0 .0 .good) _ ((c .before .before) .pre .0 .0 .matches) _ _ _ _ _ (c .empty .ensures .value))
 
--- src/turns.rt:207:21
+-- src/turns.rt:211:21
 lowest-requires : tie.Need-lowest-requires Inv-loop μ-loop
 lowest-requires c κs = search needs
 
--- src/turns.rt:207:21
+-- src/turns.rt:211:21
 cast-guess : tie.Need-cast-guess Inv-loop μ-loop
 cast-guess c = search needs
 
--- src/turns.rt:208:9
+-- src/turns.rt:212:9
 without-lowest-requires : tie.Need-without-lowest-requires Inv-loop μ-loop
 without-lowest-requires c κs = search needs
 
--- src/turns.rt:209:9
+-- src/turns.rt:213:9
 guessed-requires : tie.Need-guessed-requires Inv-loop μ-loop
-guessed-requires c κs = ((c .before .before .before .before .before .before .before .before .before) .pre .0, ((c .before .before .before .before .before .before) .loop .inv .3 .size ∙ (c .before .before .before .before .before .before .before .before .before) .pre .1 .0 .0, (c .before .before .before .before .before .before) .loop .inv .0, (c .before .before .before .before .before .before) .loop .inv .1, lowest-inside _ _ ((c .before .before .before .before .before .before) .loop .inv .2 .fits) ((c .before .before .before .before .before) .loop-test .taken) ((c .before .before .before .before) .lowest .ensures)))
+guessed-requires c κs = ((c .before .before .before .before .before .before .before .before .before) .pre .0, ((c .before .before .before .before .before .before) .loop .inv .3 .size ∙ (c .before .before .before .before .before .before .before .before .before) .pre .1 .0 .0, (c .before .before .before .before .before .before) .loop .inv .0, (c .before .before .before .before .before .before) .loop .inv .1, lowest-inside _ _ ((c .before .before .before .before .before .before) .loop .inv .2 .fits) ((c .before .before .before .before .before) .loop-test .taken) ((c .before .before .before .before) .lowest .ensures), (c .before .before .before .before .before .before .before .before .before) .pre .1 .1 .2))
 
--- src/turns.rt:206:5
+-- src/turns.rt:210:5
 loop-less : tie.Need-loop-less Inv-loop μ-loop
 loop-less c = taken ((c .before .before .before .before .before .before .before) .loop .inv .2 .fits) ((c .before .before .before .before .before .before) .loop-test .taken) ((c .before .before .before .before .before) .lowest .ensures) ((c .before .before .before .before) .without-lowest .ensures) .fewer
 
--- src/turns.rt:206:5
+-- src/turns.rt:210:5
 loop-again : tie.Need-loop-again Inv-loop μ-loop
-loop-again c = let k = taken ((c .before .before .before .before .before .before .before) .loop .inv .2 .fits) ((c .before .before .before .before .before .before) .loop-test .taken) ((c .before .before .before .before .before) .lowest .ensures) ((c .before .before .before .before) .without-lowest .ensures) in (c .guessed .ensures .block .size, c .guessed .ensures .block .past, rest-more ((c .before .before .before .before .before .before .before) .loop .inv .2) k, copies-more _ _ ((c .before .before .before .before .before .before .before .before .before .before) .pre .0 .0 .good) _ ((c .before .before .before .before .before .before .before .before .before .before) .pre .0 .0 .matches) _ _ ((c .before .before .before .before .before .before .before .before .before .before) .pre .1 .1 .0) ((c .before .before .before .before .before .before .before .before .before .before) .pre .1 .1 .1) ((c .before .before .before .before .before .before .before) .loop .inv .2) k ((c .before .before .before .before .before .before .before) .loop .inv .3) (c .guessed .ensures))
+loop-again c = let k = taken ((c .before .before .before .before .before .before .before) .loop .inv .2 .fits) ((c .before .before .before .before .before .before) .loop-test .taken) ((c .before .before .before .before .before) .lowest .ensures) ((c .before .before .before .before) .without-lowest .ensures) in (c .guessed .ensures .block .size, c .guessed .ensures .block .past, rest-more ((c .before .before .before .before .before .before .before) .loop .inv .2) k, copies-more _ _ ((c .before .before .before .before .before .before .before .before .before .before) .pre .0 .0 .good) _ ((c .before .before .before .before .before .before .before .before .before .before) .pre .0 .0 .matches) _ _ _ ((c .before .before .before .before .before .before .before .before .before .before) .pre .1 .1 .0) ((c .before .before .before .before .before .before .before .before .before .before) .pre .1 .1 .1) ((c .before .before .before .before .before .before .before) .loop .inv .2) k ((c .before .before .before .before .before .before .before) .loop .inv .3) (c .guessed .ensures))
 
--- src/turns.rt:186:1
+-- src/turns.rt:189:1
 returns : tie.Need-returns Inv-loop μ-loop
-returns c = ((c .before) .loop .inv .0, (c .before) .loop .inv .1, copies-end _ _ ((c .before .before .before .before) .pre .0 .0 .good) _ ((c .before .before .before .before) .pre .0 .0 .matches) _ _ ((c .before .before .before .before) .pre .1 .1 .0) (c .loop-test .left) ((c .before) .loop .inv .3))
+returns c = ((c .before) .loop .inv .0, (c .before) .loop .inv .1, copies-end _ _ ((c .before .before .before .before) .pre .0 .0 .good) _ ((c .before .before .before .before) .pre .0 .0 .matches) _ _ _ ((c .before .before .before .before) .pre .1 .1 .0) (c .loop-test .left) ((c .before) .loop .inv .3))
 
 pub copies-spec : {M : Type 1} → statement M
 copies-spec =
