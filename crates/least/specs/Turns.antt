@@ -101,8 +101,20 @@ pub record Guessed (m : Machine) (list : List ℕ) (limit h guess set : ℕ) (d 
   pub block : BlockTo m list top guess set d b
   pub falls : Falls (Ends top b guess (In h)) (Ends top b guess (In h)) d got d′ got′
 
+-- a limit of the numbers: `nothing`, or more than some final state has
+pub record Limit (marks d : List ℕ) (top : ℕ) : Type 0 where
+  pub small : top ≤ nothing
+  pub reached : (top ≡ nothing) ⊎ ((f : ℕ) × (final marks f ≡ true) × (costOf d f < top))
+
+-- a limit that is no larger
+pub record Lowered (marks d : List ℕ) (limit r : ℕ) : Type 0 where
+  pub keeps : Limit marks d limit → Limit marks d r
+  pub less : r ≤ limit
+
 -- the copies that begin in a started state begin in one of the set
-pub record CopyTurn (m : Machine) (list : List ℕ) (limit set : ℕ) (d d′ : List ℕ) (fresh : ℕ) : Type 0 where
+pub record CopyTurn (m : Machine) (list : List ℕ) (limit₀ set : ℕ) (d d′ : List ℕ) (fresh limit : ℕ) : Type 0 where
+  pub no-larger : limit ≤ limit₀
+  pub keeps : Limit (m .marks) d limit₀ → Limit (m .marks) d′ limit
   pub size : length d′ ≡ length d
   pub down : (q : ℕ) → costOf d′ q ≤ costOf d q
   pub rounds : (started : ℕ) → ((q : ℕ) → In started q → buffering (m .marks) q ≡ true → In set q) → RoundsOf limit m list (λ q. ⊥) (In started) d → RoundsOf limit m list (In fresh) (In fresh) d′
@@ -116,16 +128,6 @@ pub record First (initial : ℕ) (d : List ℕ) : Type 0 where
   pub size : length d ≡ 64
   pub zero-there : (q : ℕ) → In initial q → costOf d q ≡ 0
   pub none-elsewhere : (q : ℕ) → (In initial q → ⊥) → nothing ≤ costOf d q
-
--- a limit of the numbers: `nothing`, or more than some final state has
-pub record Limit (marks d : List ℕ) (top : ℕ) : Type 0 where
-  pub small : top ≤ nothing
-  pub reached : (top ≡ nothing) ⊎ ((f : ℕ) × (final marks f ≡ true) × (costOf d f < top))
-
--- a limit that is no larger
-pub record Lowered (marks d : List ℕ) (limit r : ℕ) : Type 0 where
-  pub keeps : Limit marks d limit → Limit marks d r
-  pub less : r ≤ limit
 
 pub record Costs (m : Machine) (list d : List ℕ) : Type 0 where
   pub size : length d ≡ 64

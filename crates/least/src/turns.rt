@@ -184,73 +184,6 @@ fn guessed(
     end_all(&*b, guess, h, d, hints, got, top)
 }
 
-// A turn of copies that begin in a state of the set, all of them buffering states; the states that were lowered. storing has the states
-// where storing can end.
-fn copies(
-    m: Machine,
-    list: &[u16],
-    index: &[u16; 16065],
-    readers: &[u64; 251],
-    g: u64,
-    h: u64,
-    storing: u64,
-    set: u64,
-    b: &mut [u64; 4096],
-    d: &mut [u64; 64],
-    hints: &mut [u8; 64],
-    limit: u64,
-) -> u64
-    requires { ⌜ Ready m (now list) (now index) h × Kind (buffering (m .marks)) g × Readers m (now list) (now readers) ⌝ }
-    requires { ⌜ (length (now d) ≡ 64) × (length (now b) ≡ 4096) × Past m (now b) ⌝ }
-    requires { ⌜ Entered m (now list) storing × ((q : ℕ) → In «set» q → buffering (m .marks) q ≡ true) × (limit ≤ nothing) ⌝ }
-    ensures { λ r. ⌜ (length (now (b .exit)) ≡ 4096) × Past m (now (b .exit)) × CopyTurn m (now (list .entry)) limit «set» (now (d .entry)) (now (d .exit)) r ⌝ }
-{
-    let mut got = stateset::empty();
-    let mut rest = storing;
-    while rest != 0 {
-        let guess = stateset::lowest(rest) as usize;
-        rest = stateset::without_lowest(rest);
-        got = guessed(
-            m,
-            list,
-            index,
-            readers,
-            g,
-            h,
-            guess,
-            set,
-            b,
-            d,
-            hints,
-            got,
-            limit,
-        );
-    }
-    got
-}
-
-// The first number of q: 0 where it is initial, else NONE.
-fn first(initial: u64, q: usize) -> u64
-    ensures { λ r. ⌜ r ≡ firstOf (has initial q) ⌝ }
-{
-    if stateset::member(initial, q) {
-        return 0;
-    }
-    NONE
-}
-
-// The first numbers of all states.
-fn start(initial: u64, d: &mut [u64; 64])
-    requires { ⌜ length (now d) ≡ 64 ⌝ }
-    ensures { λ r. ⌜ First initial (now (d .exit)) ⌝ }
-{
-    let mut q: usize = 0;
-    while q < 64 {
-        d[q] = first(initial, q);
-        q += 1;
-    }
-}
-
 // The limit, or one more than the number of the final state f, where that is less.
 fn lower_limit(marks: &[u8; 64], d: &[u64; 64], f: usize, limit: u64) -> u64
     requires { ⌜ f < 64 ⌝ }
@@ -282,6 +215,81 @@ fn lowered(marks: &[u8; 64], d: &[u64; 64], limit: u64) -> u64
     least
 }
 
+// What a turn of copies leaves: the states that were lowered, and the limit then.
+pub struct Turned {
+    pub fresh: u64,
+    pub limit: u64,
+}
+
+// A turn of copies that begin in a state of the set, all of them buffering states. storing has the states where storing can end. The limit
+// is lowered before each guess.
+fn copies(
+    m: Machine,
+    list: &[u16],
+    index: &[u16; 16065],
+    readers: &[u64; 251],
+    g: u64,
+    h: u64,
+    storing: u64,
+    set: u64,
+    b: &mut [u64; 4096],
+    d: &mut [u64; 64],
+    hints: &mut [u8; 64],
+    first: u64,
+) -> Turned
+    requires { ⌜ Ready m (now list) (now index) h × Kind (buffering (m .marks)) g × Readers m (now list) (now readers) ⌝ }
+    requires { ⌜ (length (now d) ≡ 64) × (length (now b) ≡ 4096) × Past m (now b) ⌝ }
+    requires { ⌜ Entered m (now list) storing × ((q : ℕ) → In «set» q → buffering (m .marks) q ≡ true) × (first ≤ nothing) ⌝ }
+    ensures { λ r. ⌜ (length (now (b .exit)) ≡ 4096) × Past m (now (b .exit)) × CopyTurn m (now (list .entry)) first «set» (now (d .entry)) (now (d .exit)) (r .fresh) (r .limit) ⌝ }
+{
+    let mut got = stateset::empty();
+    let mut limit = first;
+    let mut rest = storing;
+    while rest != 0 {
+        let guess = stateset::lowest(rest) as usize;
+        rest = stateset::without_lowest(rest);
+        limit = lowered(&m.marks, &*d, limit);
+        got = guessed(
+            m,
+            list,
+            index,
+            readers,
+            g,
+            h,
+            guess,
+            set,
+            b,
+            d,
+            hints,
+            got,
+            limit,
+        );
+    }
+    Turned { fresh: got, limit }
+}
+
+// The first number of q: 0 where it is initial, else NONE.
+fn first(initial: u64, q: usize) -> u64
+    ensures { λ r. ⌜ r ≡ firstOf (has initial q) ⌝ }
+{
+    if stateset::member(initial, q) {
+        return 0;
+    }
+    NONE
+}
+
+// The first numbers of all states.
+fn start(initial: u64, d: &mut [u64; 64])
+    requires { ⌜ length (now d) ≡ 64 ⌝ }
+    ensures { λ r. ⌜ First initial (now (d .exit)) ⌝ }
+{
+    let mut q: usize = 0;
+    while q < 64 {
+        d[q] = first(initial, q);
+        q += 1;
+    }
+}
+
 // The turns from the first numbers on.
 fn turns(
     m: Machine,
@@ -309,8 +317,7 @@ fn turns(
         if set == 0 {
             return;
         }
-        limit = lowered(&m.marks, &*d, limit);
-        fresh = copies(
+        let turned = copies(
             m,
             list,
             index,
@@ -324,6 +331,8 @@ fn turns(
             hints,
             limit,
         );
+        fresh = turned.fresh;
+        limit = turned.limit;
     }
 }
 

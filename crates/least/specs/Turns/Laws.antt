@@ -1,7 +1,7 @@
 -- The laws of specs/Turns.antt.
 --
 -- so-start, so-more, so-end == the loop of a turn of normal moves: it begins, takes a state, ends
--- copies-start, copies-more, copies-end == the loop of a turn of copies over the guesses
+-- copies-start, copies-more, copies-under, copies-end == the loop of a turn of copies over the guesses: it begins, takes a guess, lowers its limit, ends
 -- most-start .. most-end == the loop that finds the largest number of a set of states
 -- first-rounds, initial-is == the first numbers; the set of the initial states
 -- entered-other, entered-inside, entered-is == the ways through `with_entered`
@@ -194,9 +194,41 @@ module _ (m : Machine) (list : List ℕ) (good : wellFormed m list ≡ true) (h 
               })
           on (inr e) = inr (bound z v c e)
 
-  pub copies-end : {ends₀ rest : ℕ} {d : List ℕ} {fresh : ℕ} → Entered m list ends₀ → rest ≡ 0 → Falls (Made m list set d₀) (Bound m list limit set d₀ (Left ends₀ rest)) d₀ 0 d fresh → CopyTurn m list limit set d₀ d fresh
-  copies-end {ends₀} {rest} {d} {fresh} entered e f =
+  -- what holds of all copies below a limit holds of those below a smaller one
+  pub copies-under : {P : ℕ → Type 0} {d : List ℕ} {got : ℕ} (less : ℕ) → less ≤ limit → Falls (Made m list set d₀) (Bound m list limit set d₀ P) d₀ 0 d got
+      → Falls (Made m list set d₀) (Bound m list less set d₀ P) d₀ 0 d got
+  copies-under {P} less le f =
       record {
+        size = f .size;
+        fits = f .fits;
+        down = f .down;
+        stays = f .stays;
+        changed = f .changed;
+        less = f .less;
+        origin = f .origin;
+        settled = λ q v c.
+            f .settled q v
+            (record {
+              first = c .first;
+              guess = c .guess;
+              weight = c .weight;
+              member = c .member;
+              buffers = c .buffers;
+              holds = c .holds;
+              turns = c .turns;
+              ends = c .ends;
+              route = c .route;
+              value = c .value;
+              small = let k = c .small in omega arith;
+            });
+      }
+
+  pub copies-end : {ends₀ rest : ℕ} {d : List ℕ} {fresh : ℕ} → Entered m list ends₀ → rest ≡ 0 → Falls (Made m list set d₀) (Bound m list limit set d₀ (Left ends₀ rest)) d₀ 0 d fresh → {limit₀ : ℕ} → limit ≤ limit₀ → (Limit (m .marks) d₀ limit₀ → Limit (m .marks) d limit)
+      → CopyTurn m list limit₀ set d₀ d fresh limit
+  copies-end {ends₀} {rest} {d} {fresh} entered e f {limit₀} le keeps =
+      record {
+        no-larger = le;
+        keeps = keeps;
         size = f .size;
         down = f .down;
         rounds = λ started part r. rounds-turn r (costOf d) (f .down) (λ z. origin z (f .origin z)) (λ p quiet. inl (λ k. k, same p quiet (f .changed p)))
@@ -268,9 +300,9 @@ module _ (m : Machine) (list : List ℕ) where
         looked q (no n) = inl n
         looked q (yes k) = inr (λ h z n b i j route l. absurd (empty-in q (subst (λ (x : ℕ). In x q) e (turns-part q k b))))
 
-    pub turns-less : {d d′ d″ : List ℕ} {fresh fresh″ : ℕ} → (set ≡ 0 → ⊥) → NormalTurn m list d fresh d′ started → {limit : ℕ} → CopyTurn m list limit set d′ d″ fresh″
+    pub turns-less : {d d′ d″ : List ℕ} {fresh fresh″ : ℕ} → (set ≡ 0 → ⊥) → NormalTurn m list d fresh d′ started → {limit₀ limit : ℕ} → CopyTurn m list limit₀ set d′ d″ fresh″ limit
         → 3 * total d″ + 2 * ones fresh″ < 3 * total d + 2 * ones fresh
-    turns-less some f {limit} h =
+    turns-less some f {limit₀} {limit} h =
         let z = ones-mono set started (λ q k. is .members q .0 k .0) in
         let y : ones set ≡ 0 → ⊥ = λ e. some (ones-zero set e) in
         omega (arith, f .less, h .less)
