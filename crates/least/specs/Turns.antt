@@ -2,14 +2,15 @@
 --
 -- Entered m list ends       == the matching states that some transition from another kind of state enters: storing can end in no others
 -- EnteredBelow, EnteredBy   == the same for the first transitions of a list, and for one of them
--- RoundsOf m list Fresh Started d == Rounds of a machine and its list, with the numbers of a list
+-- RoundsOf top m list Fresh Started d == Rounds of a machine and its list as far as top, with the numbers of a list
 -- NormalSo ..               == a turn of normal moves, not yet done: the states that were taken from `fresh` are in `started`
 -- NormalTurn m list d fresh d′ started == a turn of normal moves: none waits any more; the states that were lowered are in `started`
 -- Made m list set d z v     == v is the number of a state of the set and the weight of a copy from there to z
--- Bound m list set d P z v  == the same, less than `nothing`, for a copy with a guess of P
--- Tops h d top              == top is at least the number of each member of h, or `nothing`
--- Guessed m list h guess set d got d′ got′ b == a block, settled as far as it can lower a number, and the numbers lowered by it
--- CopyTurn m list started set d d′ fresh == a turn of copies from the states of the set
+-- Bound m list limit set d P z v == the same, less than the limit, for a copy with a guess of P
+-- Tops limit h d top        == top is at least the number of each member of h, or the limit
+-- Guessed m list limit h guess set d got d′ got′ b == a block, settled as far as it can lower a number, and the numbers lowered by it
+-- CopyTurn m list limit₀ set d d′ fresh limit == a turn of copies from the states of the set: the limit is lowered on the way, and the turn is
+--                              whole as far as the limit that is left
 -- firstOf b                 == 0 where b is true, else `nothing`
 -- First initial d           == 0 at the initial states, `nothing` elsewhere
 -- Limit marks d top         == numbers of top and above need not be known: some final state has a smaller one, or top is `nothing`

@@ -90,7 +90,7 @@ fn greater(a: u64, b: u64) -> u64
     a
 }
 
-// The largest number of a member of h, or NONE where it is larger.
+// The largest number of a member of h, or the limit where that is less.
 fn largest(h: u64, d: &[u64; 64], limit: u64) -> u64
     requires { ⌜ limit ≤ nothing ⌝ }
     ensures { λ r. ⌜ Tops limit h (now (d .entry)) r ⌝ }
@@ -336,7 +336,8 @@ fn turns(
     }
 }
 
-// The least weight from a start to each state in normal mode, or NONE: letters × 2^32 + moves. index is the index of the list
+// The least weight from a start to each state in normal mode, or NONE: letters × 2^32 + moves. They are known as far as the least one of a
+// final state; larger numbers may stand above the least weight. index is the index of the list
 // (blocks::index), kinds has its sets of states (images::kinds_of), b is a block in which nothing stands past the last state. hints gets for
 // each state a guess with which a copy reaches its number, if there is one; of it nothing is promised.
 // Time: the normal moves, as often as a number is lowered; and in each turn of copies a block for each state where storing can end.
