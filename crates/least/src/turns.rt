@@ -14,10 +14,11 @@ ghost use Rattle.blocks.specs.Readers.{Readers};
 ghost use Rattle.blocks.specs.Works.{Kind, Ready};
 ghost use Rattle.blocks.specs.Settling.{Past};
 ghost use Rattle.least.specs.Falls.{Falls, End, Ends};
-ghost use Rattle.least.specs.Turns.{Entered, EnteredBelow, EnteredBy, NormalTurn, Tops, Guessed, CopyTurn, First, firstOf, Costs};
+ghost use Rattle.least.specs.Turns.{Entered, EnteredBelow, EnteredBy, NormalTurn, Lowered, Tops, Guessed, CopyTurn, First, firstOf, Costs};
 use crate::fall;
 use blocks::block;
 use blocks::readers;
+use fsbm::machine;
 use fsbm::machine::Machine;
 use images::Kinds;
 
@@ -89,9 +90,10 @@ fn greater(a: u64, b: u64) -> u64
     a
 }
 
-// The largest number of a member of h, or NONE where it is larger.
-fn largest(h: u64, d: &[u64; 64]) -> u64
-    ensures { λ r. ⌜ Tops h (now (d .entry)) r ⌝ }
+// The largest number of a member of h, or the limit where that is less.
+fn largest(h: u64, d: &[u64; 64], limit: u64) -> u64
+    requires { ⌜ limit ≤ nothing ⌝ }
+    ensures { λ r. ⌜ Tops limit h (now (d .entry)) r ⌝ }
 {
     let mut most: u64 = 0;
     let mut rest = h;
@@ -100,8 +102,8 @@ fn largest(h: u64, d: &[u64; 64]) -> u64
         rest = stateset::without_lowest(rest);
         most = greater(most, d[z]);
     }
-    if NONE < most {
-        return NONE;
+    if limit < most {
+        return limit;
     }
     most
 }
@@ -171,18 +173,56 @@ fn guessed(
     d: &mut [u64; 64],
     hints: &mut [u8; 64],
     got: u64,
+    limit: u64,
 ) -> u64
     requires { ⌜ Ready m (now list) (now index) h × Kind (buffering (m .marks)) g × Readers m (now list) (now readers) ⌝ }
-    requires { ⌜ (length (now d) ≡ 64) × (length (now b) ≡ 4096) × Past m (now b) × (guess < 64) ⌝ }
-    ensures { λ r. ⌜ Guessed m (now (list .entry)) h guess «set» (now (d .entry)) got (now (d .exit)) r (now (b .exit)) ⌝ }
+    requires { ⌜ (length (now d) ≡ 64) × (length (now b) ≡ 4096) × Past m (now b) × (guess < 64) × (limit ≤ nothing) ⌝ }
+    ensures { λ r. ⌜ Guessed m (now (list .entry)) limit h guess «set» (now (d .entry)) got (now (d .exit)) r (now (b .exit)) ⌝ }
 {
-    let top = largest(h, &*d);
+    let top = largest(h, &*d, limit);
     block::block_by(m, list, index, readers, g, h, guess, set, &*d, b, top);
     end_all(&*b, guess, h, d, hints, got, top)
 }
 
-// A turn of copies that begin in a state of the set, all of them buffering states; the states that were lowered. storing has the states
-// where storing can end.
+// The limit, or one more than the number of the final state f, where that is less.
+fn lower_limit(marks: &[u8; 64], d: &[u64; 64], f: usize, limit: u64) -> u64
+    requires { ⌜ f < 64 ⌝ }
+    ensures { λ r. ⌜ Lowered (now (marks .entry)) (now (d .entry)) limit r ⌝ }
+{
+    if !machine::is_final(marks, f) {
+        return limit;
+    }
+    let v = d[f];
+    if limit <= v {
+        return limit;
+    }
+    if limit <= v + 1 {
+        return limit;
+    }
+    v + 1
+}
+
+// The limit, or one more than the least number of a final state, where that is less: no copy of a larger number leads to a shorter word.
+fn lowered(marks: &[u8; 64], d: &[u64; 64], limit: u64) -> u64
+    ensures { λ r. ⌜ Lowered (now (marks .entry)) (now (d .entry)) limit r ⌝ }
+{
+    let mut least = limit;
+    let mut f: usize = 0;
+    while f < 64 {
+        least = lower_limit(marks, d, f, least);
+        f += 1;
+    }
+    least
+}
+
+// What a turn of copies leaves: the states that were lowered, and the limit then.
+pub struct Turned {
+    pub fresh: u64,
+    pub limit: u64,
+}
+
+// A turn of copies that begin in a state of the set, all of them buffering states. storing has the states where storing can end. The limit
+// is lowered before each guess.
 fn copies(
     m: Machine,
     list: &[u16],
@@ -195,20 +235,37 @@ fn copies(
     b: &mut [u64; 4096],
     d: &mut [u64; 64],
     hints: &mut [u8; 64],
-) -> u64
+    first: u64,
+) -> Turned
     requires { ⌜ Ready m (now list) (now index) h × Kind (buffering (m .marks)) g × Readers m (now list) (now readers) ⌝ }
     requires { ⌜ (length (now d) ≡ 64) × (length (now b) ≡ 4096) × Past m (now b) ⌝ }
-    requires { ⌜ Entered m (now list) storing × ((q : ℕ) → In «set» q → buffering (m .marks) q ≡ true) ⌝ }
-    ensures { λ r. ⌜ (length (now (b .exit)) ≡ 4096) × Past m (now (b .exit)) × CopyTurn m (now (list .entry)) «set» (now (d .entry)) (now (d .exit)) r ⌝ }
+    requires { ⌜ Entered m (now list) storing × ((q : ℕ) → In «set» q → buffering (m .marks) q ≡ true) × (first ≤ nothing) ⌝ }
+    ensures { λ r. ⌜ (length (now (b .exit)) ≡ 4096) × Past m (now (b .exit)) × CopyTurn m (now (list .entry)) first «set» (now (d .entry)) (now (d .exit)) (r .fresh) (r .limit) ⌝ }
 {
     let mut got = stateset::empty();
+    let mut limit = first;
     let mut rest = storing;
     while rest != 0 {
         let guess = stateset::lowest(rest) as usize;
         rest = stateset::without_lowest(rest);
-        got = guessed(m, list, index, readers, g, h, guess, set, b, d, hints, got);
+        limit = lowered(&m.marks, &*d, limit);
+        got = guessed(
+            m,
+            list,
+            index,
+            readers,
+            g,
+            h,
+            guess,
+            set,
+            b,
+            d,
+            hints,
+            got,
+            limit,
+        );
     }
-    got
+    Turned { fresh: got, limit }
 }
 
 // The first number of q: 0 where it is initial, else NONE.
@@ -253,17 +310,34 @@ fn turns(
     let g = kinds.buffering;
     let h = kinds.matching;
     let mut fresh = kinds.initial;
+    let mut limit = NONE;
     loop {
         let started = settle(m, list, index, g, h, d, fresh);
         let set = stateset::intersection(started, g);
         if set == 0 {
             return;
         }
-        fresh = copies(m, list, index, readers, g, h, storing, set, b, d, hints);
+        let turned = copies(
+            m,
+            list,
+            index,
+            readers,
+            g,
+            h,
+            storing,
+            set,
+            b,
+            d,
+            hints,
+            limit,
+        );
+        fresh = turned.fresh;
+        limit = turned.limit;
     }
 }
 
-// The least weight from a start to each state in normal mode, or NONE: letters × 2^32 + moves. index is the index of the list
+// The least weight from a start to each state in normal mode, or NONE: letters × 2^32 + moves. They are known as far as the least one of a
+// final state; larger numbers may stand above the least weight. index is the index of the list
 // (blocks::index), kinds has its sets of states (images::kinds_of), b is a block in which nothing stands past the last state. hints gets for
 // each state a guess with which a copy reaches its number, if there is one; of it nothing is promised.
 // Time: the normal moves, as often as a number is lowered; and in each turn of copies a block for each state where storing can end.

@@ -37,14 +37,14 @@ front k before new size fits =
 module _ (m₁ : Machine) (l₁ : List ℕ) (m₂ : Machine) (l₂ : List ℕ) (m : Machine) (list index : List ℕ) (starts ends : ℕ) (d b : List ℕ) (f : ℕ)
     (w : Weighed m₁ l₁ m₂ l₂ m list index starts ends d b f) (word first-run second-run : List ℕ) (c : ℕ) (is-c : c ≡ costOf d f) where
   pub says-none : nothing ≤ c → CommonWord m₁ l₁ m₂ l₂ word word first-run first-run second-run second-run NoCommonWord
-  says-none h = none m₁ l₁ m₂ l₂ word first-run second-run (w .joined .fine) (no-word m₁ l₁ m₂ l₂ m list (w .joined) d (w .least) f (w .best) (omega arith))
+  says-none h = none m₁ l₁ m₂ l₂ word first-run second-run (w .joined .fine) (no-word m₁ l₁ m₂ l₂ m list (w .joined) d (w .top) (w .limit) (w .least) f (w .best) (omega arith))
 
   module _ (low : c < nothing) (n : ℕ) (is-n : n ≡ c / unit) where
     low-f : costOf d f < nothing
     low-f = omega arith
 
     said : Lengths m₁ l₁ m₂ l₂ c
-    said = subst (Lengths m₁ l₁ m₂ l₂) (sym is-c) (some-word m₁ l₁ m₂ l₂ m list (w .joined) d (w .least) f (w .best) low-f)
+    said = subst (Lengths m₁ l₁ m₂ l₂) (sym is-c) (some-word m₁ l₁ m₂ l₂ m list (w .joined) d (w .top) (w .limit) (w .least) f (w .best) low-f)
 
     n-is : n ≡ leastCommon m₁ l₁ m₂ l₂
     n-is = is-n ∙ said .letters
@@ -93,8 +93,8 @@ module _ (m₁ : Machine) (l₁ : List ℕ) (m₂ : Machine) (l₂ : List ℕ) (
                 buffers = w .buffers;
                 size = w .size;
                 past = w .past;
-                last = final-state m₁ l₁ m₂ l₂ m list (w .joined) d (w .least) f (w .best) low-f;
-                aim = aim m₁ l₁ m₂ l₂ m list (w .joined) d (w .least) f (w .best) low-f (length (take n word)) (length (take e first-run))
+                last = final-state m₁ l₁ m₂ l₂ m list (w .joined) d (w .top) (w .limit) (w .least) f (w .best) low-f;
+                aim = aim m₁ l₁ m₂ l₂ m list (w .joined) d (w .top) (w .limit) (w .least) f (w .best) low-f (length (take n word)) (length (take e first-run))
                     (size-word ∙ (is-n ∙ ap (λ (x : ℕ). x / unit) is-c)) (size-run ∙ (is-e ∙ ap (λ (x : ℕ). x % unit + 1) is-c));
                 room = size-other ∙ ap (λ (x : ℕ). x + 1) (sym size-word);
               }

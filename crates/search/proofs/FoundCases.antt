@@ -30,6 +30,7 @@ use Rattle.common.specs.Search.{found, none, fewest}
 use Rattle.common.specs.Split.{Splits}
 use Rattle.common.specs.Split.Laws.{leads-letters, split-accepts}
 use Rattle.split.specs.Split as split
+use Rattle.least.specs.Turns.{Limit}
 use Rattle.shortest.specs.Write.{Least, Aim, Shortest}
 use Rattle.search.specs.Best.{Best}
 use Rattle.search.specs.Best.Laws.{best-final, best-nothing}
@@ -51,47 +52,63 @@ module _ (m₁ : Machine) (l₁ : List ℕ) (m₂ : Machine) (l₂ : List ℕ) w
     abbrev L : List ℕ
     L = joinedTransitions m₁ l₁ m₂ l₂ ++ rest
 
-    no-word-of : Least J L d → (f : ℕ) → Best (J .marks) d 64 f → nothing ≤ costOf d f → wordBound < leastCommon m₁ l₁ m₂ l₂
-    no-word-of s f b h = none m₁ l₁ m₂ l₂ fine rest s (omega arith) (λ g last. best-nothing (J .marks) d f b h g last)
+    module _ (top : ℕ) (limit : Limit (J .marks) d top) (s : Least top J L d) (f : ℕ) (b : Best (J .marks) d 64 f) where
+      no-word-of : nothing ≤ costOf d f → wordBound < leastCommon m₁ l₁ m₂ l₂
+      no-word-of h = on (limit .reached)
+        where
+          on : (top ≡ nothing) ⊎ ((g : ℕ) × (final (J .marks) g ≡ true) × (costOf d g < top)) → wordBound < leastCommon m₁ l₁ m₂ l₂
+          on (inl e) = none m₁ l₁ m₂ l₂ fine rest s (omega arith) (λ g last. let z = best-nothing (J .marks) d f b h g last in omega arith)
+          on (inr (g, last, lt)) = let z = best-nothing (J .marks) d f b h g last in absurd (omega (arith, limit .small))
 
-    some-word-of : Least J L d → (f : ℕ) → Best (J .marks) d 64 f → costOf d f < nothing → Lengths m₁ l₁ m₂ l₂ (costOf d f)
-    some-word-of s f b h =
-        let (below, last, least) = best-final (J .marks) d f b h in
-        let (within, letters, fits, small) = found m₁ l₁ m₂ l₂ fine rest s f last h least in
-        record { within = within; letters = letters; fits = fits; small = small }
+      -- the least number of a final state is below the limit
+      under : costOf d f < nothing → costOf d f < top
+      under h = on (limit .reached)
+        where
+          on : (top ≡ nothing) ⊎ ((g : ℕ) × (final (J .marks) g ≡ true) × (costOf d g < top)) → costOf d f < top
+          on (inl e) = omega arith
+          on (inr (g, last, lt)) = let z = best-final (J .marks) d f b h .2 g last in omega arith
 
-    aim-of : Least J L d → (f : ℕ) → Best (J .marks) d 64 f → costOf d f < nothing → (n e : ℕ) → n ≡ costOf d f / unit → e ≡ costOf d f % unit + 1 → Aim J L d f n e
-    aim-of s f b h n e is-n is-e =
-        let (below, last, least) = best-final (J .marks) d f b h in
-        let k = some-word-of s f b h in
-        let letters = k .letters in
-        let fits = k .fits in
-        let small = k .small in
-        record {
-          settled = s;
-          low = h;
-          fewest = λ p w i start l. let z = fewest m₁ l₁ m₂ l₂ fine rest f last p w i start l in omega arith;
-          weight = omega arith;
-          some = omega arith;
-          small = omega arith;
-        }
+      some-word-of : costOf d f < nothing → Lengths m₁ l₁ m₂ l₂ (costOf d f)
+      some-word-of h =
+          let (below, last, least) = best-final (J .marks) d f b h in
+          let (within, letters, fits, small) = found m₁ l₁ m₂ l₂ fine rest s f last (under h) least in
+          record { within = within; letters = letters; fits = fits; small = small }
 
-  module _ (m : Machine) (list : List ℕ) (j : Joined m₁ l₁ m₂ l₂ m list) (d : List ℕ) (s : Least m list d) (f : ℕ) (b : Best (m .marks) d 64 f) where
+      aim-of : costOf d f < nothing → (n e : ℕ) → n ≡ costOf d f / unit → e ≡ costOf d f % unit + 1 → Aim J L d f n e
+      aim-of h n e is-n is-e =
+          let (below, last, least) = best-final (J .marks) d f b h in
+          let k = some-word-of h in
+          let letters = k .letters in
+          let fits = k .fits in
+          let small = k .small in
+          record {
+            top = top;
+            top-small = limit .small;
+            settled = s;
+            low = under h;
+            fewest = λ p w i start l. let z = fewest m₁ l₁ m₂ l₂ fine rest f last p w i start l in omega arith;
+            weight = omega arith;
+            some = omega arith;
+            small = omega arith;
+          }
+
+  module _ (m : Machine) (list : List ℕ) (j : Joined m₁ l₁ m₂ l₂ m list) (d : List ℕ) (top : ℕ) (limit : Limit (m .marks) d top) (s : Least top m list d) (f : ℕ) (b : Best (m .marks) d 64 f) where
     pub no-word : nothing ≤ costOf d f → wordBound < leastCommon m₁ l₁ m₂ l₂
     no-word =
-        subst₂ (λ (x : Machine) (y : List ℕ). Least x y d → Best (x .marks) d 64 f → nothing ≤ costOf d f → wordBound < leastCommon m₁ l₁ m₂ l₂) (sym (j .machine)) (sym (j .transitions))
-        (λ t k. no-word-of (j .fine) (j .rest) d t f k) s b
+        subst₂ (λ (x : Machine) (y : List ℕ). Limit (x .marks) d top → Least top x y d → Best (x .marks) d 64 f → nothing ≤ costOf d f → wordBound < leastCommon m₁ l₁ m₂ l₂) (sym (j .machine)) (sym (j .transitions))
+        (λ i t k. no-word-of (j .fine) (j .rest) d top i t f k) limit s b
 
     pub some-word : costOf d f < nothing → Lengths m₁ l₁ m₂ l₂ (costOf d f)
     some-word =
-        subst₂ (λ (x : Machine) (y : List ℕ). Least x y d → Best (x .marks) d 64 f → costOf d f < nothing → Lengths m₁ l₁ m₂ l₂ (costOf d f)) (sym (j .machine)) (sym (j .transitions))
-        (λ t k. some-word-of (j .fine) (j .rest) d t f k) s b
+        subst₂ (λ (x : Machine) (y : List ℕ). Limit (x .marks) d top → Least top x y d → Best (x .marks) d 64 f → costOf d f < nothing → Lengths m₁ l₁ m₂ l₂ (costOf d f)) (sym (j .machine)) (sym (j .transitions))
+        (λ i t k. some-word-of (j .fine) (j .rest) d top i t f k) limit s b
 
     pub aim : costOf d f < nothing → (n e : ℕ) → n ≡ costOf d f / unit → e ≡ costOf d f % unit + 1 → Aim m list d f n e
     aim =
-        subst₂ (λ (x : Machine) (y : List ℕ). Least x y d → Best (x .marks) d 64 f → costOf d f < nothing → (n e : ℕ) → n ≡ costOf d f / unit → e ≡ costOf d f % unit + 1 → Aim x y d f n e)
+        subst₂ (λ (x : Machine) (y : List ℕ).
+        Limit (x .marks) d top → Least top x y d → Best (x .marks) d 64 f → costOf d f < nothing → (n e : ℕ) → n ≡ costOf d f / unit → e ≡ costOf d f % unit + 1 → Aim x y d f n e)
         (sym (j .machine)) (sym (j .transitions))
-        (λ t k. aim-of (j .fine) (j .rest) d t f k) s b
+        (λ i t k. aim-of (j .fine) (j .rest) d top i t f k) limit s b
 
     pub final-state : costOf d f < nothing → final (m .marks) f ≡ true
     final-state h = best-final (m .marks) d f b h .1

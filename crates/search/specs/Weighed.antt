@@ -1,7 +1,7 @@
 -- The product with its least weights.
 --
 -- Weighed .. m list index starts ends d b f == m is the product of two machines, with its index and its buffering and matching states, its least
---                         weights d, and the final state f with the least of them; b is room to work in
+--                         weights d as far as they matter, and the final state f with the least of them; b is room to work in
 use Prim.Native.Nat.{ℕ}
 use mathlib.Core.Path.{_≡_}
 use mathlib.Core.List.{List}
@@ -11,6 +11,7 @@ use Rattle.fsbm.specs.declared.machine.Machine.{Machine}
 use Rattle.pieces.specs.Blocks.{mostStates}
 use Rattle.blocks.specs.Works.{Ready, Kind}
 use Rattle.blocks.specs.Settling.{Past}
+use Rattle.least.specs.Turns.{Limit}
 use Rattle.shortest.specs.Write.{Least}
 use Rattle.search.specs.Joined.{Joined}
 use Rattle.search.specs.Best.{Best}
@@ -21,5 +22,7 @@ pub record Weighed (m₁ : Machine) (l₁ : List ℕ) (m₂ : Machine) (l₂ : L
   pub buffers : Kind (buffering (m .marks)) starts
   pub size : length b ≡ 4096
   pub past : Past m b
-  pub least : Least m list d
+  pub top : ℕ
+  pub limit : Limit (m .marks) d top
+  pub least : Least top m list d
   pub best : Best (m .marks) d mostStates f

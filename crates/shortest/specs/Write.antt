@@ -1,7 +1,7 @@
 -- A shortest word and its run, written from the end. The laws stand in specs/Write/Laws.antt.
 --
 -- Read ..                == what read ensures: the transition's entry and its letter stand in front
--- Least m list d         == d has the least weights from a start
+-- Least top m list d     == d has the least weights from a start, of those below top
 -- Searching ..           == what a search for a guess asks: the machine with its index, its buffering states, its matching states and those of them in
 --                           which storing can end (middles), the least weights, room for a block, and a number at q
 -- CopyThere m list d q   == the number of q is reached along some copy
@@ -41,17 +41,19 @@ pub record Read (list : List ℕ) (k : ℕ) (word : List ℕ) (i : ℕ) (run : L
   pub state : p .state ≡ transitionAt list k .from
   pub entry : p .entry ≡ r - 1
 
-abbrev pub Least : Machine → List ℕ → List ℕ → Type 0
-Least m list d = Settled (Back (Piece (fsbmOf m list))) (fsbmOf m list .I) nothing (costOf d)
+abbrev pub Least : ℕ → Machine → List ℕ → List ℕ → Type 0
+Least top m list d = Settled (Back (Piece (fsbmOf m list))) (fsbmOf m list .I) top (costOf d)
 
 pub record Searching (m : Machine) (list index : List ℕ) (starts ends middles : ℕ) (d b : List ℕ) (q : ℕ) : Type 0 where
   pub ready : Ready m list index ends
   pub buffers : Kind (buffering (m .marks)) starts
   pub turnings : Entered m list middles
-  pub settled : Least m list d
+  pub top : ℕ
+  pub top-small : top ≤ nothing
+  pub settled : Least top m list d
   pub size : length b ≡ 4096
   pub past : Past m b
-  pub low : costOf d q < nothing
+  pub low : costOf d q < top
 
 abbrev pub CopyThere : Machine → List ℕ → List ℕ → ℕ → Type 0
 CopyThere m list d q = TightCopy (fsbmOf m list) (costOf d) q
@@ -101,8 +103,10 @@ pub record WriteReady (m : Machine) (list links index : List ℕ) (starts ends m
   pub later-size : length later ≡ 4096
 
 pub record Aim (m : Machine) (list d : List ℕ) (f n e : ℕ) : Type 0 where
-  pub settled : Least m list d
-  pub low : costOf d f < nothing
+  pub top : ℕ
+  pub top-small : top ≤ nothing
+  pub settled : Least top m list d
+  pub low : costOf d f < top
   pub fewest : (p : ℕ) (w : List ℕ) (k : ℕ) → fsbmOf m list .I p → Leads (fsbmOf m list) p w f k → n ≤ length w
   pub weight : suc (costOf d f) ≡ n * unit + e
   pub some : 0 < e

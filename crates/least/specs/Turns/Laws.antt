@@ -1,13 +1,15 @@
 -- The laws of specs/Turns.antt.
 --
 -- so-start, so-more, so-end == the loop of a turn of normal moves: it begins, takes a state, ends
--- copies-start, copies-more, copies-end == the loop of a turn of copies over the guesses
+-- copies-start, copies-more, copies-under, copies-end == the loop of a turn of copies over the guesses: it begins, takes a guess, lowers its limit, ends
 -- most-start .. most-end == the loop that finds the largest number of a set of states
 -- first-rounds, initial-is == the first numbers; the set of the initial states
 -- entered-other, entered-inside, entered-is == the ways through `with_entered`
 -- below-start, below-more, below-end == the loop over all transitions
 -- first-more, first-end, first-yes, first-no == the loop that writes the first numbers
 -- turns-part, turns-buffer == the buffering states that were started
+-- rounds-under, limit-falls, limit-none == a smaller limit; numbers that fall stay below it; no limit
+-- lowered-same, lowered-to, lowered-then == the loop that lowers the limit
 -- turns-end           == the last turn: no buffering state was started
 -- turns-less          == each turn lowers the measure
 use Prim.Native.Nat.{ℕ, _+_, _*_, _/_, _%_, _^_, _≤_, _<_}
@@ -26,7 +28,7 @@ use Rattle.graphs.specs.Back.{Back}
 use Rattle.graphs.specs.Search.Laws.{true-or-false}
 use Rattle.stateset.specs.Set.{width, digit, In, has, added, SetIs}
 use Rattle.stateset.specs.Set.Laws.{in?, has-in, in-lt, empty-in, ones-mono, ones-zero, ones-of-zero}
-use Rattle.fsbm.specs.Machine.{wellFormed, transitionAt, markOf, buffering, matching}
+use Rattle.fsbm.specs.Machine.{wellFormed, transitionAt, markOf, final, buffering, matching}
 use Rattle.fsbm.specs.Published.{Listed, fsbmOf}
 use Rattle.fsbm.specs.Rules.{rules}
 use Rattle.fsbm.specs.declared.machine.Machine.{Machine}
@@ -44,7 +46,7 @@ use Rattle.blocks.specs.Works.{Kind}
 use Rattle.blocks.specs.Works.Laws.{block-inside}
 use Rattle.least.specs.Falls.{Falls, NormalFrom, Ends}
 use Rattle.least.specs.Falls.Laws.{falls-none, falls-then, falls-under}
-use Rattle.least.specs.Turns.{Entered, EnteredBelow, EnteredBy, firstOf, RoundsOf, NormalSo, NormalTurn, Made, Bound, Tops, Guessed, CopyTurn, First, Costs}
+use Rattle.least.specs.Turns.{Entered, EnteredBelow, EnteredBy, firstOf, Limit, Lowered, RoundsOf, NormalSo, NormalTurn, Made, Bound, Tops, Guessed, CopyTurn, First, Costs}
 
 -- Normal moves
 
@@ -54,7 +56,8 @@ module _ (m : Machine) (list : List ℕ) where
       record {
         size = refl;
         fits = h;
-        rounds = λ r. rounds-copied r (λ q. In started q ⊎ In fresh q) (λ q quiet. inl (λ k. quiet (inr k)));
+        down = λ q. omega arith;
+        rounds = λ top small r. rounds-copied r (λ q. In started q ⊎ In fresh q) (λ q quiet. inl (λ k. quiet (inr k)));
         less = let z = ap ones e in let y = ones-of-zero in omega arith;
       }
 
@@ -65,7 +68,9 @@ module _ (m : Machine) (list : List ℕ) where
       record {
         size = f .size ∙ so .size;
         fits = f .fits;
-        rounds = λ r. rounds-turn (so .rounds r) (costOf d′) (f .down) (λ p. origin p (f .origin p)) (λ p quiet. normal p quiet (ℕ-discrete p q)) (λ p quiet. inl (copies p quiet));
+        down = λ p. let x = f .down p in let y = so .down p in omega arith;
+        rounds = λ top small r.
+            rounds-turn (so .rounds top small r) (costOf d′) (f .down) (λ p. origin p (f .origin p)) (λ p quiet. normal top small p quiet (ℕ-discrete p q)) (λ p quiet. inl (copies p quiet));
         less =
             let x = added-more started q here in
             let y = ap ones (is .value) in
@@ -84,11 +89,11 @@ module _ (m : Machine) (list : List ℕ) where
       old : (p : ℕ) → (In fresh₂ p → ⊥) → (p ≡ q → ⊥) → In fresh p → ⊥
       old p quiet other j = quiet (f .stays p (k .is .members p .1 (j, other)))
 
-      normal : (p : ℕ) → (In fresh₂ p → ⊥) → Dec (p ≡ q) → ((In fresh p → ⊥) × (costOf d′ p ≡ costOf d p)) ⊎ NormalDone (fsbmOf m list) nothing (costOf d′) p
-      normal p quiet (no n) = inl (old p quiet n, same p quiet (f .changed p))
-      normal p quiet (yes e) = inr (λ z w move l. done z w move l)
+      normal : (top : ℕ) → top ≤ nothing → (p : ℕ) → (In fresh₂ p → ⊥) → Dec (p ≡ q) → ((In fresh p → ⊥) × (costOf d′ p ≡ costOf d p)) ⊎ NormalDone (fsbmOf m list) top (costOf d′) p
+      normal top small p quiet (no n) = inl (old p quiet n, same p quiet (f .changed p))
+      normal top small p quiet (yes e) = inr (λ z w move l. done z w move l)
         where
-          done : (z w : ℕ) → NormalMove (fsbmOf m list) p z w → w + costOf d′ p < nothing → costOf d′ z ≤ w + costOf d′ p
+          done : (z w : ℕ) → NormalMove (fsbmOf m list) p z w → w + costOf d′ p < top → costOf d′ z ≤ w + costOf d′ p
           done z w move l =
               let s = same p quiet (f .changed p) in
               let t : costOf d p ≡ costOf d q = ap (costOf d) e in
@@ -109,7 +114,8 @@ module _ (m : Machine) (list : List ℕ) where
   so-end {d₀} {d} {fresh₀} {fresh} {started} e so =
       record {
         size = so .size;
-        rounds = λ r. rounds-copied (rounds-looked (so .rounds r) (λ q. ⊥) (λ q quiet. inl (empty q))) (In started) (λ q quiet. inl (λ k. not-waiting q quiet k));
+        down = so .down;
+        rounds = λ top small r. rounds-copied (rounds-looked (so .rounds top small r) (λ q. ⊥) (λ q quiet. inl (empty q))) (In started) (λ q quiet. inl (λ k. not-waiting q quiet k));
         less = let z = ap ones e in omega (arith, so .less);
       }
     where
@@ -122,12 +128,12 @@ module _ (m : Machine) (list : List ℕ) where
 
 -- Copies
 
-module _ (m : Machine) (list : List ℕ) (good : wellFormed m list ≡ true) (h : ℕ) (matches : Kind (matching (m .marks)) h) (set : ℕ) (d₀ : List ℕ) where
-  pub copies-start : (ends got : ℕ) → got ≡ 0 → Falls (Made m list set d₀) (Bound m list set d₀ (Left ends ends)) d₀ 0 d₀ got
+module _ (m : Machine) (list : List ℕ) (good : wellFormed m list ≡ true) (h : ℕ) (matches : Kind (matching (m .marks)) h) (limit set : ℕ) (d₀ : List ℕ) where
+  pub copies-start : (ends got : ℕ) → got ≡ 0 → Falls (Made m list set d₀) (Bound m list limit set d₀ (Left ends ends)) d₀ 0 d₀ got
   copies-start ends got e = rw e (falls-none d₀ 0 (omega arith) (λ z v c. left-start ends (c .guess) (c .holds)))
 
   -- a buffering state is not lowered, since no copy ends there
-  unchanged : {P : ℕ → Type 0} {d : List ℕ} {got : ℕ} → Falls (Made m list set d₀) (Bound m list set d₀ P) d₀ 0 d got → (g : ℕ) → buffering (m .marks) g ≡ true → costOf d g ≡ costOf d₀ g
+  unchanged : {P : ℕ → Type 0} {d : List ℕ} {got : ℕ} → Falls (Made m list set d₀) (Bound m list limit set d₀ P) d₀ 0 d got → (g : ℕ) → buffering (m .marks) g ≡ true → costOf d g ≡ costOf d₀ g
   unchanged {d = d} f g buffers = on (f .origin g)
     where
       on : (costOf d g ≡ costOf d₀ g) ⊎ Made m list set d₀ g (costOf d g) → costOf d g ≡ costOf d₀ g
@@ -135,8 +141,8 @@ module _ (m : Machine) (list : List ℕ) (good : wellFormed m list ≡ true) (h 
       on (inr c) = absurd (kinds-apart m list (rules m list good) g buffers (c .ends))
 
   pub copies-more : {ends rest rest′ guess : ℕ} {d d′ : List ℕ} {got got′ : ℕ} {b : List ℕ} → Entered m list ends → ((q : ℕ) → In set q → buffering (m .marks) q ≡ true) → Rest ends rest → Taken rest guess rest′
-      → Falls (Made m list set d₀) (Bound m list set d₀ (Left ends rest)) d₀ 0 d got → Guessed m list h guess set d got d′ got′ b
-      → Falls (Made m list set d₀) (Bound m list set d₀ (Left ends rest′)) d₀ 0 d′ got′
+      → Falls (Made m list set d₀) (Bound m list limit set d₀ (Left ends rest)) d₀ 0 d got → Guessed m list limit h guess set d got d′ got′ b
+      → Falls (Made m list set d₀) (Bound m list limit set d₀ (Left ends rest′)) d₀ 0 d′ got′
   copies-more {ends} {rest} {rest′} {guess} {d} {d′} {got} {got′} {b} entered buffers r k f g = falls-then (λ z v c. c) there back f (falls-under (g .falls))
     where
       turns : matching (m .marks) guess ≡ true
@@ -150,10 +156,10 @@ module _ (m : Machine) (list : List ℕ) (good : wellFormed m list ≡ true) (h 
           let s = unchanged f first (buffers first member) in
           record { ends = e; first = first; weight = w; member = member; piece = piece; value = omega (arith, c .value) }
 
-      bound : (z v : ℕ) (c : Bound m list set d₀ (Left ends rest′) z v) → c .guess ≡ guess → costOf d′ z ≤ v
+      bound : (z v : ℕ) (c : Bound m list limit set d₀ (Left ends rest′) z v) → c .guess ≡ guess → costOf d′ z ≤ v
       bound z v c e = on (decLt v (g .top))
         where
-          over : (costOf d z ≤ g .top) ⊎ (g .top ≡ nothing) → g .top ≤ v → costOf d′ z ≤ v
+          over : (costOf d z ≤ g .top) ⊎ (limit ≤ g .top) → g .top ≤ v → costOf d′ z ≤ v
           over (inl l) le = let k = g .falls .down z in omega arith
           over (inr n) le = absurd (omega (arith, c .small))
 
@@ -168,10 +174,10 @@ module _ (m : Machine) (list : List ℕ) (good : wellFormed m list ≡ true) (h 
               let j = g .falls .settled z (cell b guess z + 2) (record { holds = matches z .1 (c .ends); known = known; value = refl }) in
               omega (arith, c .value)
 
-      back : (z v : ℕ) → Bound m list set d₀ (Left ends rest′) z v → Bound m list set d₀ (Left ends rest) z v ⊎ (costOf d′ z ≤ v)
+      back : (z v : ℕ) → Bound m list limit set d₀ (Left ends rest′) z v → Bound m list limit set d₀ (Left ends rest) z v ⊎ (costOf d′ z ≤ v)
       back z v c = on (left-more r k (c .guess) .0 (c .holds))
         where
-          on : Left ends rest (c .guess) ⊎ (c .guess ≡ guess) → Bound m list set d₀ (Left ends rest) z v ⊎ (costOf d′ z ≤ v)
+          on : Left ends rest (c .guess) ⊎ (c .guess ≡ guess) → Bound m list limit set d₀ (Left ends rest) z v ⊎ (costOf d′ z ≤ v)
           on (inl l) =
               inl (record {
                 first = c .first;
@@ -188,10 +194,43 @@ module _ (m : Machine) (list : List ℕ) (good : wellFormed m list ≡ true) (h 
               })
           on (inr e) = inr (bound z v c e)
 
-  pub copies-end : {ends₀ rest : ℕ} {d : List ℕ} {fresh : ℕ} → Entered m list ends₀ → rest ≡ 0 → Falls (Made m list set d₀) (Bound m list set d₀ (Left ends₀ rest)) d₀ 0 d fresh → CopyTurn m list set d₀ d fresh
-  copies-end {ends₀} {rest} {d} {fresh} entered e f =
+  -- what holds of all copies below a limit holds of those below a smaller one
+  pub copies-under : {P : ℕ → Type 0} {d : List ℕ} {got : ℕ} (less : ℕ) → less ≤ limit → Falls (Made m list set d₀) (Bound m list limit set d₀ P) d₀ 0 d got
+      → Falls (Made m list set d₀) (Bound m list less set d₀ P) d₀ 0 d got
+  copies-under {P} less le f =
       record {
         size = f .size;
+        fits = f .fits;
+        down = f .down;
+        stays = f .stays;
+        changed = f .changed;
+        less = f .less;
+        origin = f .origin;
+        settled = λ q v c.
+            f .settled q v
+            (record {
+              first = c .first;
+              guess = c .guess;
+              weight = c .weight;
+              member = c .member;
+              buffers = c .buffers;
+              holds = c .holds;
+              turns = c .turns;
+              ends = c .ends;
+              route = c .route;
+              value = c .value;
+              small = let k = c .small in omega arith;
+            });
+      }
+
+  pub copies-end : {ends₀ rest : ℕ} {d : List ℕ} {fresh : ℕ} → Entered m list ends₀ → rest ≡ 0 → Falls (Made m list set d₀) (Bound m list limit set d₀ (Left ends₀ rest)) d₀ 0 d fresh → {limit₀ : ℕ} → limit ≤ limit₀ → (Limit (m .marks) d₀ limit₀ → Limit (m .marks) d limit)
+      → CopyTurn m list limit₀ set d₀ d fresh limit
+  copies-end {ends₀} {rest} {d} {fresh} entered e f {limit₀} le keeps =
+      record {
+        no-larger = le;
+        keeps = keeps;
+        size = f .size;
+        down = f .down;
         rounds = λ started part r. rounds-turn r (costOf d) (f .down) (λ z. origin z (f .origin z)) (λ p quiet. inl (λ k. k, same p quiet (f .changed p)))
             (λ g quiet. copies started part g quiet (in? started g));
         less = let z = ones-of-zero in omega (arith, f .less);
@@ -206,11 +245,11 @@ module _ (m : Machine) (list : List ℕ) (good : wellFormed m list ≡ true) (h 
       same p quiet (inr k) = absurd (quiet k)
 
       copies : (started : ℕ) → ((q : ℕ) → In started q → buffering (m .marks) q ≡ true → In set q) → (g : ℕ) → (In fresh g → ⊥) → Dec (In started g)
-          → ((In started g → ⊥) × (costOf d g ≡ costOf d₀ g)) ⊎ CopiesDone (fsbmOf m list) nothing (costOf d) g
+          → ((In started g → ⊥) × (costOf d g ≡ costOf d₀ g)) ⊎ CopiesDone (fsbmOf m list) limit (costOf d) g
       copies started part g quiet (no n) = inl (n, same g quiet (f .changed g))
       copies started part g quiet (yes k) = inr done
         where
-          done : CopiesDone (fsbmOf m list) nothing (costOf d) g
+          done : CopiesDone (fsbmOf m list) limit (costOf d) g
           done guess z n buffers turns ends route l =
               let (p, a, δ, from) = stores-enters (kinds-apart m list (rules m list good)) buffers turns route in
               let j = same g quiet (f .changed g) in
@@ -233,7 +272,7 @@ module _ (m : Machine) (list : List ℕ) (good : wellFormed m list ≡ true) (h 
 -- The first turn and the last
 
 module _ (m : Machine) (list : List ℕ) where
-  pub first-rounds : {initial : ℕ} {d : List ℕ} → ((q : ℕ) → In initial q ↔ fsbmOf m list .I q) → First initial d → RoundsOf m list (In initial) (In initial) d
+  pub first-rounds : {initial : ℕ} {d : List ℕ} → ((q : ℕ) → In initial q ↔ fsbmOf m list .I q) → First initial d → RoundsOf nothing m list (In initial) (In initial) d
   first-rounds {initial} {d} is f =
       rounds-start (In initial) (In initial) (costOf d) (λ q i. let k = is q .1 i in (k, k, f .zero-there q k)) (λ q. on q (in? initial q))
     where
@@ -254,19 +293,51 @@ module _ (m : Machine) (list : List ℕ) where
     pub turns-buffer : (q : ℕ) → In set q → buffering (m .marks) q ≡ true
     turns-buffer q k = buffers q .0 (is .members q .0 k .1)
 
-    pub turns-end : (d : List ℕ) → set ≡ 0 → RoundsOf m list (λ q. ⊥) (In started) d → Settled (Back (Piece (fsbmOf m list))) (fsbmOf m list .I) nothing (costOf d)
-    turns-end d e r = rounds-end (rounds-copied r (λ q. ⊥) (λ q quiet. looked q (in? started q))) (λ q k. k) (λ q k. k)
+    pub turns-end : {top : ℕ} (d : List ℕ) → set ≡ 0 → RoundsOf top m list (λ q. ⊥) (In started) d → Settled (Back (Piece (fsbmOf m list))) (fsbmOf m list .I) top (costOf d)
+    turns-end {top} d e r = rounds-end (rounds-copied r (λ q. ⊥) (λ q quiet. looked q (in? started q))) (λ q k. k) (λ q k. k)
       where
-        looked : (q : ℕ) → Dec (In started q) → (In started q → ⊥) ⊎ CopiesDone (fsbmOf m list) nothing (costOf d) q
+        looked : (q : ℕ) → Dec (In started q) → (In started q → ⊥) ⊎ CopiesDone (fsbmOf m list) top (costOf d) q
         looked q (no n) = inl n
         looked q (yes k) = inr (λ h z n b i j route l. absurd (empty-in q (subst (λ (x : ℕ). In x q) e (turns-part q k b))))
 
-    pub turns-less : {d d′ d″ : List ℕ} {fresh fresh″ : ℕ} → (set ≡ 0 → ⊥) → NormalTurn m list d fresh d′ started → CopyTurn m list set d′ d″ fresh″
+    pub turns-less : {d d′ d″ : List ℕ} {fresh fresh″ : ℕ} → (set ≡ 0 → ⊥) → NormalTurn m list d fresh d′ started → {limit₀ limit : ℕ} → CopyTurn m list limit₀ set d′ d″ fresh″ limit
         → 3 * total d″ + 2 * ones fresh″ < 3 * total d + 2 * ones fresh
-    turns-less some f h =
+    turns-less some f {limit₀} {limit} h =
         let z = ones-mono set started (λ q k. is .members q .0 k .0) in
         let y : ones set ≡ 0 → ⊥ = λ e. some (ones-zero set e) in
         omega (arith, f .less, h .less)
+
+-- A smaller limit
+
+pub rounds-under : (m : Machine) (list : List ℕ) {Fresh Started : ℕ → Type 0} (d : List ℕ) {top : ℕ} (limit : ℕ) → limit ≤ top → RoundsOf top m list Fresh Started d → RoundsOf limit m list Fresh Started d
+rounds-under m list d limit le r =
+    record {
+      atStart = r .atStart;
+      realised = λ q l. r .realised q (omega arith);
+      normal = λ p q w move quiet l. r .normal p q w move quiet (omega arith);
+      copies = λ g h z n b i j route quiet l. r .copies g h z n b i j route quiet (omega arith);
+    }
+
+-- once a final state has a number, it stays below the limit
+pub limit-falls : {marks d d′ : List ℕ} {top : ℕ} → ((q : ℕ) → costOf d′ q ≤ costOf d q) → Limit marks d top → Limit marks d′ top
+limit-falls {marks} {d} {d′} {top} down l = record { small = l .small; reached = on (l .reached) }
+  where
+    on : (top ≡ nothing) ⊎ ((f : ℕ) × (final marks f ≡ true) × (costOf d f < top)) → (top ≡ nothing) ⊎ ((f : ℕ) × (final marks f ≡ true) × (costOf d′ f < top))
+    on (inl e) = inl e
+    on (inr (f, last, lt)) = let k = down f in inr (f, last, omega arith)
+
+pub limit-none : {marks d : List ℕ} → Limit marks d nothing
+limit-none = record { small = omega arith; reached = inl refl }
+
+pub lowered-same : {marks d : List ℕ} (limit : ℕ) → Lowered marks d limit limit
+lowered-same limit = record { keeps = λ l. l; less = omega arith }
+
+pub lowered-to : {marks d : List ℕ} {limit f v : ℕ} → final marks f ≡ true → f < 64 → v ≡ getD d f 0 → v + 1 < limit → Lowered marks d limit (v + 1)
+lowered-to {marks} {d} {limit} {f} {v} last here is lt =
+    record { keeps = λ l. record { small = let s = l .small in omega arith; reached = inr (f, last, let z = cost-inside d f here in omega arith) }; less = omega arith }
+
+pub lowered-then : {marks d : List ℕ} {limit top r : ℕ} → Lowered marks d limit top → Lowered marks d top r → Lowered marks d limit r
+lowered-then a b = record { keeps = λ l. b .keeps (a .keeps l); less = let x = a .less in let y = b .less in omega arith }
 
 -- The states where storing can end
 
@@ -369,8 +440,8 @@ module _ (h : ℕ) (d : List ℕ) where
       on (inl i) = let y = f z i in omega arith
       on (inr e) = let y : costOf d z ≡ costOf d q = ap (costOf d) e in omega arith
 
-  pub most-over : Tops h d nothing
-  most-over = record { small = omega arith; bounds = λ z k. inr refl }
+  pub most-over : (limit : ℕ) → limit ≤ nothing → Tops limit h d limit
+  most-over limit small = record { small = small; bounds = λ z k. inr (omega arith) }
 
-  pub most-end : (rest most : ℕ) → rest ≡ 0 → most ≤ nothing → ((z : ℕ) → Left h rest z → costOf d z ≤ most) → Tops h d most
-  most-end rest most e small f = record { small = small; bounds = λ z k. inl (f z (left-end h rest z e .1 k)) }
+  pub most-end : (limit rest most : ℕ) → rest ≡ 0 → most ≤ nothing → ((z : ℕ) → Left h rest z → costOf d z ≤ most) → Tops limit h d most
+  most-end limit rest most e small f = record { small = small; bounds = λ z k. inl (f z (left-end h rest z e .1 k)) }

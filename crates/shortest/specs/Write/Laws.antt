@@ -6,6 +6,7 @@
 -- copy-there              == where no normal move is one, a copy is
 -- tried-not, tried-block  == the ways through try_guess
 -- guess-start, guess-next, guess-found, guess-end == the loop of guess
+-- settled-under           == numbers that are settled are settled below a smaller top
 -- copy-ready, step-ready  == copy may begin, step may
 -- write-start, write-fits, write-turn, write-end == the loop of write
 use Prim.Native.Nat.{ℕ, suc, _+_, _*_, _-_, _≤_, _<_, _/_, _%_}
@@ -19,6 +20,7 @@ use lib.ListN.{length, set, drop, length-append, length-drop}
 use lib.Seq.{drop-length, drop-set-lt, getD-set-same}
 use lib.Dec.{eqb}
 use borrow.Author.Tests.{eqb-true, eq-eqb}
+use Rattle.graphs.specs.Cost.{Settled}
 use Rattle.graphs.specs.Search.Laws.{not-both}
 use Rattle.stateset.specs.Set.{In}
 use Rattle.fsbm.specs.Machine.{transitionAt, matching}
@@ -46,8 +48,8 @@ use Rattle.shortest.specs.Copy.{Fits, CopyReady, Stepped}
 use Rattle.shortest.specs.Write.{Read, Least, Searching, CopyThere, TriedGuess, Guessed, Guessing, StepReady, WriteReady, Aim, Writing, Shortest}
 use Rattle.shortest.specs.declared.copy.Place.{Place}
 
-pub number-below : (d : List ℕ) (q : ℕ) → costOf d q < nothing → q < 64
-number-below d q l = at (decLt q 64)
+pub number-below : (d : List ℕ) (q : ℕ) {top : ℕ} → top ≤ nothing → costOf d q < top → q < 64
+number-below d q small l = at (decLt q 64)
   where
     at : Dec (q < 64) → q < 64
     at (yes k) = k
@@ -121,9 +123,13 @@ module _ (m : Machine) (list d : List ℕ) (q : ℕ) (word : List ℕ) (i : ℕ)
         run-place = let e = x .entry in let h = read-ready .run-room in omega arith;
       }
 
+-- numbers that are settled are settled below a smaller top
+pub settled-under : {Node : Type 0} {Edge : Node → Node → ℕ → Type 0} {Goal : Node → Type 0} {limit top : ℕ} {D : Node → ℕ} → limit ≤ top → Settled Edge Goal top D → Settled Edge Goal limit D
+settled-under le s = record { atGoal = s .atGoal; onEdge = λ u v w e l. s .onEdge u v w e (omega arith); realised = λ u l. s .realised u (omega arith) }
+
 -- A copy, where no normal move is found
 
-pub copy-there : (m : Machine) (list d : List ℕ) (q k : ℕ) → Least m list d → 0 < costOf d q → costOf d q < nothing → Finds (m .transitions) (NormalFits m list d q) k → m .transitions ≤ k
+pub copy-there : {top : ℕ} (m : Machine) (list d : List ℕ) (q k : ℕ) → Least top m list d → 0 < costOf d q → costOf d q < top → Finds (m .transitions) (NormalFits m list d q) k → m .transitions ≤ k
     → CopyThere m list d q
 copy-there m list d q k s positive low f past = at (settled-back s q positive low)
   where
@@ -139,7 +145,7 @@ copy-there m list d q k s positive low f past = at (settled-back s q positive lo
 module _ (m : Machine) (list index : List ℕ) (starts ends middles : ℕ) (d : List ℕ) (q : ℕ) where
   -- a block keeps what the search asks
   block-searching : (b b′ : List ℕ) (h : ℕ) → Searching m list index starts ends middles d b q → Block m list h starts d b′ → Searching m list index starts ends middles d b′ q
-  block-searching b b′ h s k = record { ready = s .ready; buffers = s .buffers; turnings = s .turnings; settled = s .settled; size = k .size; past = k .past; low = s .low }
+  block-searching b b′ h s k = record { ready = s .ready; buffers = s .buffers; turnings = s .turnings; top = s .top; top-small = s .top-small; settled = s .settled; size = k .size; past = k .past; low = s .low }
 
   pub tried-not : (b : List ℕ) (h : ℕ) → Searching m list index starts ends middles d b q → (In middles h → ⊥) → TriedGuess m list index starts ends middles d b q h false
   tried-not b h s out =
@@ -163,7 +169,7 @@ module _ (m : Machine) (list index : List ℕ) (starts ends middles : ℕ) (d : 
         block = λ e. k;
         tight = λ e. eqb-true (cell b′ h q + 2) (costOf d q) (sym is ∙ e);
         bad = λ e t middle.
-            let tight = block-tight (s .settled) (k .settles) q t middle (s .buffers (t .from) .1 (t .buffers)) (s .low) in
+            let tight = block-tight (s .settled) (settled-under (s .top-small) (k .settles)) q t middle (s .buffers (t .from) .1 (t .buffers)) (s .low) in
             not-both (is ∙ eq-eqb (cell b′ h q + 2) (costOf d q) (sym tight)) e;
       }
 
@@ -206,7 +212,7 @@ copy-ready m list links index starts ends middles d b b′ q word i run r later 
       turns = g .turns;
       ends = g .ends-there;
       tight = g .tight;
-      low = s .searching .low;
+      low = let l = s .searching .low in let t = s .searching .top-small in omega arith;
       fits = s .fits;
       word-fits = s .word-fits;
       run-fits = s .run-fits;
@@ -228,7 +234,7 @@ module _ (m : Machine) (list d : List ℕ) (f : ℕ) (word₀ run₀ : List ℕ)
       }
 
   module _ (word run : List ℕ) (p : Place) (w : Writing m list d f word₀ run₀ word run p) where
-    pub write-low : costOf d (p .state) < nothing
+    pub write-low : costOf d (p .state) < a .top
     write-low = let s = w .sum in let l = a .low in omega arith
 
     pub write-fits : Fits m list d (p .state) (p .letter) (p .entry)
@@ -270,7 +276,7 @@ module _ (m : Machine) (list d : List ℕ) (f : ℕ) (word₀ run₀ : List ℕ)
 
     pub write-end : costOf d (p .state) ≡ 0 → Shortest m list f word (set run 0 (p .state))
     write-end z =
-        let start = settled-start (a .settled) (p .state) (omega arith) z in
+        let start = settled-start (a .settled) (p .state) (let l = a .low in omega arith) z in
         let least = a .fewest (p .state) (drop (p .letter) word) _ start (leads-counted (w .leads)) in
         let dw = length-drop (p .letter) word in
         let dr = length-drop (p .entry) run in
@@ -296,7 +302,7 @@ pub step-ready : (m : Machine) (list links index : List ℕ) (starts ends middle
     → StepReady m list links index starts ends middles d b′ (p .state) word (p .letter) run (p .entry) later′
 step-ready m list links index starts ends middles d b f later r word₀ run₀ a word run p w positive b′ later′ size past later-size =
     record {
-      searching = record { ready = r .ready; buffers = r .buffers; turnings = r .turnings; settled = a .settled; size = size; past = past; low = write-low m list d f word₀ run₀ a word run p w };
+      searching = record { ready = r .ready; buffers = r .buffers; turnings = r .turnings; top = a .top; top-small = a .top-small; settled = a .settled; size = size; past = past; low = write-low m list d f word₀ run₀ a word run p w };
       into = r .into;
       positive = positive;
       fits = write-fits m list d f word₀ run₀ a word run p w;

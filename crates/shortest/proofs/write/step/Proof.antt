@@ -14,7 +14,7 @@ use Rattle.images.proofs.wide.Reads as wide-reads
 
 -- src/write.rt:109:9
 find-normal-requires : tie.Need-find-normal-requires
-find-normal-requires c κs = ((c .before .before .before) .pre .searching .ready .good, (c .before .before .before) .pre .into, number-below _ _ ((c .before .before .before) .pre .searching .low))
+find-normal-requires c κs = ((c .before .before .before) .pre .searching .ready .good, (c .before .before .before) .pre .into, number-below _ _ ((c .before .before .before) .pre .searching .top-small) ((c .before .before .before) .pre .searching .low))
 
 -- src/write.rt:111:9
 read-requires : tie.Need-read-requires
@@ -34,7 +34,7 @@ returns c = record { stepped = read-steps _ _ _ _ _ _ _ _ (table _ _ ((c .before
 
 -- src/write.rt:113:63
 element-copy-out-wide : tie.Need-element-copy-out-wide
-element-copy-out-wide c = let l = number-below _ _ ((c .before .before .before .before .before .before .before) .pre .searching .low) in omega arith
+element-copy-out-wide c = let l = number-below _ _ ((c .before .before .before .before .before .before .before) .pre .searching .top-small) ((c .before .before .before .before .before .before .before) .pre .searching .low) in omega arith
 
 -- src/write.rt:113:58
 wide-requires : tie.Need-wide-requires

@@ -30,11 +30,11 @@ block-requires c κs = (((c .before .before .before .before) .pre .0 .ready, (c 
 
 -- src/write.rt:52:17
 number-requires : tie.Need-number-requires
-number-requires c κs = ((c .before .before .before .before .before .before) .pre .1, number-below _ _ ((c .before .before .before .before .before .before) .pre .0 .low))
+number-requires c κs = ((c .before .before .before .before .before .before) .pre .1, number-below _ _ ((c .before .before .before .before .before .before) .pre .0 .top-small) ((c .before .before .before .before .before .before) .pre .0 .low))
 
 -- src/write.rt:52:43
 cost-requires : tie.Need-cost-requires
-cost-requires c κs = number-below _ _ ((c .before .before .before .before .before .before .before) .pre .0 .low)
+cost-requires c κs = number-below _ _ ((c .before .before .before .before .before .before .before) .pre .0 .top-small) ((c .before .before .before .before .before .before .before) .pre .0 .low)
 
 -- src/write.rt:52:5
 makes-requires : tie.Need-makes-requires

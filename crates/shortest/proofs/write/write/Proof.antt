@@ -24,7 +24,7 @@ loop-holds c = (write-start _ _ _ _ _ _ ((c .before .before .before) .pre .1), (
 
 -- src/write.rt:144:15
 cost-requires : tie.Need-cost-requires Inv-loop μ-loop
-cost-requires c κs = number-below _ _ (write-low _ _ _ _ _ _ ((c .before .before .before .before) .pre .1) _ _ _ ((c) .loop .inv .0))
+cost-requires c κs = number-below _ _ (((c .before .before .before .before) .pre .1) .top-small) (write-low _ _ _ _ _ _ ((c .before .before .before .before) .pre .1) _ _ _ ((c) .loop .inv .0))
 
 -- src/write.rt:145:9
 step-requires : tie.Need-step-requires Inv-loop μ-loop
@@ -40,7 +40,7 @@ loop-again c = (write-turn _ _ _ _ _ _ ((c .before .before .before .before .befo
 
 -- src/write.rt:147:14
 cast-run : tie.Need-cast-run Inv-loop μ-loop
-cast-run c = let l = number-below _ _ (write-low _ _ _ _ _ _ ((c .before .before .before .before .before .before .before) .pre .1) _ _ _ ((c .before .before .before) .loop .inv .0)) in omega arith
+cast-run c = let l = number-below _ _ (((c .before .before .before .before .before .before .before) .pre .1) .top-small) (write-low _ _ _ _ _ _ ((c .before .before .before .before .before .before .before) .pre .1) _ _ _ ((c .before .before .before) .loop .inv .0)) in omega arith
 
 -- src/write.rt:147:5
 slice-write-run : tie.Need-slice-write-run Inv-loop μ-loop
