@@ -76,7 +76,7 @@ module _ (G : Graph) (w : List ℕ) (T : Mode) (i : ℕ) where
   walks-dead starts s j k le ge e so-far = members-none (λ q z. let (r, v) = walk-before j (z .2) le ge in none-in e r (so-far .members r .1 (z .0, z .1, v)))
 
 module _ (G : Graph) (w : List ℕ) (i : ℕ) where
-  pub tailed-start : Tailed G w i (record { ready = 0; place = i; reached = 0; letters = 0 })
+  pub tailed-start : Tailed G w i (record { ready = 0; place = i; reached = 0 })
   tailed-start = record { from = omega arith; walked = members-none (λ q z. none-in refl (z .0) (z .1)) }
 
   pub tailed-at : (tail : Tail) (ready j : ℕ) → Tailed G w i tail → tail .ready ≡ ready → tail .place ≡ j → Members (tail .reached) (From ready (λ p q. Walk G w Emptying i p j q))
@@ -84,19 +84,19 @@ module _ (G : Graph) (w : List ℕ) (i : ℕ) where
       walks-to G w Emptying i ready (tail .reached) (tail .place) j at
       (subst (λ (x : ℕ). Members (tail .reached) (From x (λ p q. Walk G w Emptying i p (tail .place) q))) e (so-far .walked))
 
-  pub tailed-on : (tail : Tail) (ready j r n : ℕ) → Tailed G w i tail → tail .ready ≡ ready → tail .place ≤ j
+  pub tailed-on : (tail : Tail) (ready j r : ℕ) → Tailed G w i tail → tail .ready ≡ ready → tail .place ≤ j
       → ((o set : ℕ) → o ≤ tail .place → Members (tail .reached) (From set (λ p q. Walk G w Emptying o p (tail .place) q)) → Members r (From set (λ p q. Walk G w Emptying o p j q)))
-      → Tailed G w i (record { ready = ready; place = j; reached = r; letters = n })
-  tailed-on tail ready j r n so-far e le on =
+      → Tailed G w i (record { ready = ready; place = j; reached = r })
+  tailed-on tail ready j r so-far e le on =
       record {
         from = omega (arith, so-far .from);
         walked = on i ready (so-far .from) (tailed-at tail ready (tail .place) so-far e refl);
       }
 
-  pub tailed-anew : (ready near j r n : ℕ) → i ≤ j → Members near (From ready (Free G Emptying))
+  pub tailed-anew : (ready near j r : ℕ) → i ≤ j → Members near (From ready (Free G Emptying))
       → ((o set : ℕ) → o ≤ i → Members near (From set (λ p q. Walk G w Emptying o p i q)) → Members r (From set (λ p q. Walk G w Emptying o p j q)))
-      → Tailed G w i (record { ready = ready; place = j; reached = r; letters = n })
-  tailed-anew ready near j r n le m on = record { from = le; walked = on i ready (omega arith) (walks-start G w Emptying i ready near m) }
+      → Tailed G w i (record { ready = ready; place = j; reached = r })
+  tailed-anew ready near j r le m on = record { from = le; walked = on i ready (omega arith) (walks-start G w Emptying i ready near m) }
 
 pub record Copying (G : Graph) (w : List ℕ) (i starts : ℕ) (a b : List ℕ) (j s last : ℕ) : Type 0 where
   pub from : i ≤ j

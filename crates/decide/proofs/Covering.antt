@@ -3,7 +3,7 @@
 -- Covered T D      == the configuration D, in mode T, is one that the reached states lead to
 -- covers           == a move from a covered configuration leads to a covered one
 -- run-covers       == so does a run
--- run-reach        == the state at the end of a run that ends in normal mode with the word read is reached
+-- run-reach        == the state at the end of a run that ends in normal mode is reached at its position
 use Prim.Native.Nat.{ℕ, zero, suc, _+_, _-_, _≤_, _<_}
 use mathlib.Core.Path.{_≡_, refl, sym, ap, _∙_, subst}
 use mathlib.Core.Logic.{_↔_, _⊎_, inl, inr}
@@ -24,13 +24,13 @@ use Rattle.fsbm.specs.declared.config.Mode.{Mode}
 use Rattle.fsbm.specs.declared.config.Mode.the-variants.{Normal, Buffering, Emptying}
 use Rattle.fsbm.specs.Moves.Laws.{advanced-fits}
 use Rattle.language.specs.Strings.{drop-reads, slice-reads, slice-grows, slice-none}
-use Rattle.targets.specs.Targets.{Read}
+
 use Rattle.images.specs.Graph.{Star, here, more, Graph, graph, Edge, Free, Advance}
 use Rattle.decide.specs.Reach.{Walk, still, reads, Matches, Reach, begins, passes, moves, copies}
 use Rattle.decide.proofs.CopyCases.{walk-forward}
 use Rattle.decide.proofs.StageCases.{reach-inside}
 use Rattle.decide.proofs.Runs.{advanced-some}
-use Rattle.decide.proofs.Tables.{Table, listed-edge}
+use Rattle.decide.proofs.Tables.{Read, Table, listed-edge}
 
 -- the test of a letter: it is epsilon, or it stands there
 pub reads-says : (w : List ℕ) (p e x : ℕ) → readsLetter w p e x ≡ true → (x ≡ 0) ⊎ ((0 < x) × (p < e) × (getD w p 0 ≡ x))
@@ -111,15 +111,15 @@ Covered G w start Normal D = CoverNormal G w start D
 Covered G w start Buffering D = CoverBuffering G w start D
 Covered G w start Emptying D = CoverEmptying G w start D
 
-module _ {m : Machine} {list targets numbers : List ℕ} {g h : ℕ} (w : List ℕ) (t : Table m list w targets numbers g h) (start : ℕ) where
-  cover-normal : {x p q : ℕ} (u : List ℕ) → (Read w x → Edge (graph targets numbers g h) Normal x p q) → CoverNormal (graph targets numbers g h) w start (config (symbol x ++ u) p [] Normal)
-      → CoverNormal (graph targets numbers g h) w start (config u q [] Normal)
+module _ {m : Machine} {list targets : List ℕ} {g h : ℕ} (w : List ℕ) (t : Table m list w targets g h) (start : ℕ) where
+  cover-normal : {x p q : ℕ} (u : List ℕ) → (Read w x → Edge (graph targets (m .states) g h) Normal x p q) → CoverNormal (graph targets (m .states) g h) w start (config (symbol x ++ u) p [] Normal)
+      → CoverNormal (graph targets (m .states) g h) w start (config u q [] Normal)
   cover-normal {x} u e c =
       let (reading, rest) = drop-reads w (c .place) x u (sym (c .input)) in
       record { place = advanced (c .place) x; reach = let r = reads-says w (c .place) (length w) x reading in reach-reads x (c .reach) (e (read-of w (c .place) x r)) r; input = sym rest }
 
-  cover-buffering : {x p q : ℕ} (u v : List ℕ) → (Read w x → Edge (graph targets numbers g h) Buffering x p q) → CoverBuffering (graph targets numbers g h) w start (config (symbol x ++ u) p v Buffering)
-      → CoverBuffering (graph targets numbers g h) w start (config u q (v ++ symbol x) Buffering)
+  cover-buffering : {x p q : ℕ} (u v : List ℕ) → (Read w x → Edge (graph targets (m .states) g h) Buffering x p q) → CoverBuffering (graph targets (m .states) g h) w start (config (symbol x ++ u) p v Buffering)
+      → CoverBuffering (graph targets (m .states) g h) w start (config u q (v ++ symbol x) Buffering)
   cover-buffering {x} u v e c =
       let (reading, rest) = drop-reads w (c .place) x u (sym (c .input)) in
       record {
@@ -134,8 +134,8 @@ module _ {m : Machine} {list targets numbers : List ℕ} {g h : ℕ} (w : List �
         stored = ap (λ (y : List ℕ). y ++ symbol x) (c .stored) ∙ sym (slice-grows w (c .from) (c .place) x (walk-forward (c .walk)) reading);
       }
 
-  cover-emptying : {x p q : ℕ} (u v : List ℕ) → (Read w x → Edge (graph targets numbers g h) Emptying x p q) → CoverEmptying (graph targets numbers g h) w start (config (symbol x ++ u) p (symbol x ++ v) Emptying)
-      → CoverEmptying (graph targets numbers g h) w start (config u q v Emptying)
+  cover-emptying : {x p q : ℕ} (u v : List ℕ) → (Read w x → Edge (graph targets (m .states) g h) Emptying x p q) → CoverEmptying (graph targets (m .states) g h) w start (config (symbol x ++ u) p (symbol x ++ v) Emptying)
+      → CoverEmptying (graph targets (m .states) g h) w start (config u q v Emptying)
   cover-emptying {x} {p} {q} u v e c = at (reads-says w (c .end + (c .place - c .from)) (length w) x (input .0)) (reads-says w (c .place) (c .end) x (stored .0))
     where
       input : (readsLetter w (c .end + (c .place - c .from)) (length w) x ≡ true) × (drop (advanced (c .end + (c .place - c .from)) x) w ≡ u)
@@ -144,7 +144,7 @@ module _ {m : Machine} {list targets numbers : List ℕ} {g h : ℕ} (w : List �
       stored : (readsLetter w (c .place) (c .end) x ≡ true) × (slice (advanced (c .place) x) (c .end) w ≡ v)
       stored = slice-reads w (c .place) (c .end) x v (let z = c .inside in omega arith) (sym (c .stored))
 
-      stays : x ≡ 0 → CoverEmptying (graph targets numbers g h) w start (config u q v Emptying)
+      stays : x ≡ 0 → CoverEmptying (graph targets (m .states) g h) w start (config u q v Emptying)
       stays z =
           record {
             from = c .from;
@@ -156,7 +156,7 @@ module _ {m : Machine} {list targets numbers : List ℕ} {g h : ℕ} (w : List �
             stores = c .stores;
             storing = c .storing;
             turns = c .turns;
-            emptying = walk-more (c .emptying) (subst (λ (y : ℕ). Edge (graph targets numbers g h) Emptying y p q) z (e (inl z)));
+            emptying = walk-more (c .emptying) (subst (λ (y : ℕ). Edge (graph targets (m .states) g h) Emptying y p q) z (e (inl z)));
             behind = c .behind;
             inside = c .inside;
             same = c .same;
@@ -165,7 +165,7 @@ module _ {m : Machine} {list targets numbers : List ℕ} {g h : ℕ} (w : List �
           }
 
       goes : 0 < x → c .end + (c .place - c .from) < length w → getD w (c .end + (c .place - c .from)) 0 ≡ x → c .place < c .end → getD w (c .place) 0 ≡ x
-          → CoverEmptying (graph targets numbers g h) w start (config u q v Emptying)
+          → CoverEmptying (graph targets (m .states) g h) w start (config u q v Emptying)
       goes some lt there before here′ =
           let ge = walk-forward (c .emptying) in
           let next : suc (c .end + (c .place - c .from)) ≡ c .end + (suc (c .place) - c .from) = omega arith in
@@ -179,7 +179,7 @@ module _ {m : Machine} {list targets numbers : List ℕ} {g h : ℕ} (w : List �
             stores = c .stores;
             storing = c .storing;
             turns = c .turns;
-            emptying = subst (λ (n : ℕ). Walk (graph targets numbers g h) w Emptying (c .from) (c .middle) n q) (advanced-some (c .place) x some) (walk-reads x (c .emptying) (e (inr (c .place, omega arith, here′, some))) (inr (some, omega arith, here′)));
+            emptying = subst (λ (n : ℕ). Walk (graph targets (m .states) g h) w Emptying (c .from) (c .middle) n q) (advanced-some (c .place) x some) (walk-reads x (c .emptying) (e (inr (c .place, omega arith, here′, some))) (inr (some, omega arith, here′)));
             behind = omega arith;
             inside = omega arith;
             same = λ (t : ℕ) (l : t < suc (c .place) - c .from). one ge there here′ t (ℕ-discrete t (c .place - c .from)) l;
@@ -194,12 +194,12 @@ module _ {m : Machine} {list targets numbers : List ℕ} {g h : ℕ} (w : List �
           one ge there here′ t (no n) l = c .same t (omega arith)
 
       at : (x ≡ 0) ⊎ ((0 < x) × (c .end + (c .place - c .from) < length w) × (getD w (c .end + (c .place - c .from)) 0 ≡ x))
-          → (x ≡ 0) ⊎ ((0 < x) × (c .place < c .end) × (getD w (c .place) 0 ≡ x)) → CoverEmptying (graph targets numbers g h) w start (config u q v Emptying)
+          → (x ≡ 0) ⊎ ((0 < x) × (c .place < c .end) × (getD w (c .place) 0 ≡ x)) → CoverEmptying (graph targets (m .states) g h) w start (config u q v Emptying)
       at (inl z) b = stays z
       at (inr a) (inl z) = stays z
       at (inr a) (inr b) = goes (a .0) (a .1) (a .2) (b .1) (b .2)
 
-  covers : {D D′ : Configuration} → Yields (fsbmOf m list) D D′ → Covered (graph targets numbers g h) w start (D .mode) D → Covered (graph targets numbers g h) w start (D′ .mode) D′
+  covers : {D D′ : Configuration} → Yields (fsbmOf m list) D D′ → Covered (graph targets (m .states) g h) w start (D .mode) D → Covered (graph targets (m .states) g h) w start (D′ .mode) D′
   covers (normal {p = p} {x = x} {q = q} {u = u} δ apart calm) c =
       cover-normal {x = x} {p = p} {q = q} u (λ i. listed-edge t i δ (λ z. apart (t .matches p .0 (z .0), t .matches q .0 (z .1)), λ z. calm (t .stores p .0 z))) c
   covers (buffer {p = p} {x = x} {q = q} {u = u} {v = v} δ apart calm) c =
@@ -214,7 +214,7 @@ module _ {m : Machine} {list targets numbers : List ℕ} {g h : ℕ} (w : List �
         reach = c .reach;
         stores = t .stores q .1 gq;
         walk = still refl here;
-        inside = reach-inside (graph targets numbers g h) w start (c .reach);
+        inside = reach-inside (graph targets (m .states) g h) w start (c .reach);
         input = c .input;
         stored = sym (slice-empty (c .place) w);
       }
@@ -243,21 +243,21 @@ module _ {m : Machine} {list targets numbers : List ℕ} {g h : ℕ} (w : List �
       record {
         place = c .end + (c .place - c .from);
         reach = copies {j = c .end} (c .reach) (c .stores) (walk-forward (c .storing)) (c .storing) (c .turns)
-            (subst (λ (n : ℕ). Walk (graph targets numbers g h) w Emptying (c .from) (c .middle) n q) used (c .emptying))
+            (subst (λ (n : ℕ). Walk (graph targets (m .states) g h) w Emptying (c .from) (c .middle) n q) used (c .emptying))
             (subst (λ (n : ℕ). (k : ℕ) → k < n - c .from → getD w (c .from + k) 0 ≡ getD w (c .end + k) 0) used (c .same))
             (ap (λ (n : ℕ). c .end + (n - c .from)) used) (c .inside);
         input = c .input;
       }
 
-  run-covers : {D D′ : Configuration} → Run (fsbmOf m list) D D′ → Covered (graph targets numbers g h) w start (D .mode) D → Covered (graph targets numbers g h) w start (D′ .mode) D′
+  run-covers : {D D′ : Configuration} → Run (fsbmOf m list) D D′ → Covered (graph targets (m .states) g h) w start (D .mode) D → Covered (graph targets (m .states) g h) w start (D′ .mode) D′
   run-covers done c = c
   run-covers (Run.more y r) c = run-covers r (covers y c)
 
-  pub run-reach : {o q : ℕ} → In start o → Run (fsbmOf m list) (config w o [] Normal) (config [] q [] Normal) → Reach (graph targets numbers g h) w start (length w) q
-  run-reach {o} {q} i r =
+  pub run-reach : {o q : ℕ} {u : List ℕ} → In start o → Run (fsbmOf m list) (config w o [] Normal) (config u q [] Normal) → Reach (graph targets (m .states) g h) w start (length w - length u) q
+  run-reach {o} {q} {u} i r =
       let c = run-covers r (record { place = 0; reach = begins refl i; input = refl }) in
-      let inside = reach-inside (graph targets numbers g h) w start (c .reach) in
-      let all : length (drop (c .place) w) ≡ 0 = sym (ap length (c .input)) in
+      let inside = reach-inside (graph targets (m .states) g h) w start (c .reach) in
+      let all : length u ≡ length (drop (c .place) w) = ap length (c .input) in
       let z = length-drop (c .place) w in
-      let e : c .place ≡ length w = omega arith in
-      subst (λ (n : ℕ). Reach (graph targets numbers g h) w start n q) e (c .reach)
+      let e : c .place ≡ length w - length u = omega arith in
+      subst (λ (n : ℕ). Reach (graph targets (m .states) g h) w start n q) e (c .reach)

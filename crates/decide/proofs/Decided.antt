@@ -1,10 +1,12 @@
 -- The theorem of decide: the states reached at the end of a word decide the published language, and so `accepted`.
 --
 -- decided     == a final state is reached at the end, if and only if the machine accepts the word
-use Prim.Native.Nat.{ℕ}
+-- covered     == complete sets have each state that a run is in, in normal mode
+use Prim.Native.Nat.{ℕ, _+_, _-_}
 use mathlib.Core.Path.{_≡_, ap, subst}
 use mathlib.Core.Bool.{true, not}
 use mathlib.Core.List.{List, []}
+use native.Mathlib.Omega.{arith}
 use lib.ListN.{length}
 use lib.Seq.{drop-length}
 use lib.Dec.{eqb}
@@ -18,17 +20,19 @@ use Rattle.fsbm.specs.declared.config.Mode.the-variants.{Normal}
 use Rattle.graphs.specs.Bools.{same-truth}
 use Rattle.language.specs.Bound.{accepted-iff-published}
 use Rattle.adjacency.specs.Index.Laws.{sorted}
-use Rattle.targets.specs.Targets.{Targets}
+use Rattle.targets.specs.Prepared.{Prepared}
 use Rattle.images.specs.declared.Kinds.{Kinds}
 use Rattle.images.specs.Graph.{Members, graph, KindsOf}
-use Rattle.decide.specs.Reach.{Reach}
+use Rattle.decide.specs.Reach.{Reach, Stage}
+use Rattle.decide.specs.Covers.{Covers}
 use Rattle.images.proofs.SetCases.{none-in, some-member}
 use Rattle.decide.proofs.Tables.{Table, initial-says, final-says, buffering-says, matching-says}
 use Rattle.decide.proofs.Runs.{reach-run}
 use Rattle.decide.proofs.Covering.{run-reach}
+use Rattle.decide.proofs.StageCases.{stage-reach}
 
-module _ (m : Machine) (list w targets numbers : List ℕ) (good : wellFormed m list ≡ true) (t : Targets m list w numbers targets) (k : Kinds) (kinds : KindsOf (m .marks) (m .states) k) where
-  table : Table m list w targets numbers (k .buffering) (k .matching)
+module _ (m : Machine) (list w targets : List ℕ) (good : wellFormed m list ≡ true) (t : Prepared m list w targets) (k : Kinds) (kinds : KindsOf (m .marks) (m .states) k) where
+  table : Table m list w targets (k .buffering) (k .matching)
   table =
       record {
         sorted = sorted m list good;
@@ -37,7 +41,7 @@ module _ (m : Machine) (list w targets numbers : List ℕ) (good : wellFormed m 
         matches = matching-says m list (sorted m list good) (k .matching) (kinds .matching);
       }
 
-  pub decided : (end both : ℕ) → Members end (Reach (graph targets numbers (k .buffering) (k .matching)) w (k .initial) (length w)) → Members both (λ q. In end q × In (k .finals) q)
+  pub decided : (end both : ℕ) → Members end (Reach (graph targets (m .states) (k .buffering) (k .matching)) w (k .initial) (length w)) → Members both (λ q. In end q × In (k .finals) q)
       → not (eqb both 0) ≡ accepted m list w
   decided end both reached shared = same-truth (not (eqb both 0)) (accepted m list w) to from
     where
@@ -58,6 +62,12 @@ module _ (m : Machine) (list w targets numbers : List ℕ) (good : wellFormed m 
       from e =
           let l = accepted-iff-published m list w good .0 e in
           let r = run-reach w table (k .initial) (initial-says m list (sorted m list good) (k .initial) (kinds .initial) (l .first) .1 (l .first-initial)) (l .run) in
-          let ended = reached .members (l .last) .1 r in
+          let all : length w - 0 ≡ length w = omega arith in
+          let ended = reached .members (l .last) .1 (subst (λ (n : ℕ). Reach (graph targets (m .states) (k .buffering) (k .matching)) w (k .initial) n (l .last)) all r) in
           let y = shared .members (l .last) .1 (ended, final-says m list (sorted m list good) (k .finals) (kinds .finals) (l .last) .1 (l .last-final)) in
           ap not (ne-eqb both 0 (λ z. none-in z (l .last) y))
+
+  pub covered : (sets : List ℕ) → Stage (graph targets (m .states) (k .buffering) (k .matching)) w (k .initial) sets (length w + 1) → Covers m list w sets
+  covered sets st o q u first run =
+      stage-reach (graph targets (m .states) (k .buffering) (k .matching)) w (k .initial) sets (length w + 1) st (omega arith)
+      (run-reach w table (k .initial) (initial-says m list (sorted m list good) (k .initial) (kinds .initial) o .1 first) run)

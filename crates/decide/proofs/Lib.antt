@@ -1,10 +1,7 @@
-pub mod CacheCases
 pub mod CopyCases
 pub mod Covering
 pub mod Decided
-pub mod MapCases
 pub mod Runs
 pub mod SquareCases
 pub mod StageCases
-pub mod SweepCases
 pub mod Tables

@@ -22,11 +22,11 @@ use Rattle.fsbm.specs.declared.machine.Machine.{Machine}
 use Rattle.fsbm.specs.declared.config.Mode.{Mode}
 use Rattle.fsbm.specs.declared.config.Mode.the-variants.{Normal, Buffering, Emptying}
 use Rattle.language.specs.Strings.{reads-drop, reads-slice, slice-grows}
-use Rattle.targets.specs.Targets.{Read}
+
 use Rattle.images.specs.Graph.{Star, here, more, Graph, graph, Edge, Free, Advance}
 use Rattle.decide.specs.Reach.{Walk, still, reads, Matches, Reach, begins, passes, moves, copies}
 use Rattle.decide.proofs.CopyCases.{walk-forward, walk-matching}
-use Rattle.decide.proofs.Tables.{Table, edge-listed}
+use Rattle.decide.proofs.Tables.{Read, Table, edge-listed}
 
 pub run-join : {M : FSBM} {A B C : Configuration} → Run M A B → Run M B C → Run M A C
 run-join done r = r
@@ -53,33 +53,33 @@ slice-letter w p e x lt le same some = reads-slice w p e x le (reads-letter w p 
 slice-more : (w : List ℕ) (i e x : ℕ) → i ≤ e → e < length w → getD w e 0 ≡ x → 0 < x → slice i (suc e) w ≡ slice i e w ++ symbol x
 slice-more w i e x le lt same some = sym (ap (λ (n : ℕ). slice i n w) (advanced-some e x some)) ∙ slice-grows w i e x le (reads-letter w e (length w) x lt same)
 
-module _ {m : Machine} {list targets numbers : List ℕ} {g h : ℕ} (w : List ℕ) (t : Table m list w targets numbers g h) where
+module _ {m : Machine} {list targets : List ℕ} {g h : ℕ} (w : List ℕ) (t : Table m list w targets g h) where
   -- a buffering move, and an emptying move, that reads x
-  store-one : {x p q : ℕ} → Read w x → Edge (graph targets numbers g h) Buffering x p q → (u v : List ℕ) → Yields (fsbmOf m list) (config (symbol x ++ u) p v Buffering) (config u q (v ++ symbol x) Buffering)
+  store-one : {x p q : ℕ} → Read w x → Edge (graph targets (m .states) g h) Buffering x p q → (u v : List ℕ) → Yields (fsbmOf m list) (config (symbol x ++ u) p v Buffering) (config u q (v ++ symbol x) Buffering)
   store-one {x} {p} {q} i e u v =
       buffer (edge-listed t i e)
       (λ z. e .may .0 (t .matches p .1 (z .0), t .matches q .1 (z .1)))
       (λ z. e .may .1 (t .stores q .1 z))
 
-  empty-one : {x p q : ℕ} → Read w x → Edge (graph targets numbers g h) Emptying x p q → (u v : List ℕ) → Yields (fsbmOf m list) (config (symbol x ++ u) p (symbol x ++ v) Emptying) (config u q v Emptying)
+  empty-one : {x p q : ℕ} → Read w x → Edge (graph targets (m .states) g h) Emptying x p q → (u v : List ℕ) → Yields (fsbmOf m list) (config (symbol x ++ u) p (symbol x ++ v) Emptying) (config u q v Emptying)
   empty-one {x} {p} {q} i e u v = empty (edge-listed t i e) (t .matches p .0 (e .may .0)) (t .matches q .0 (e .may .1))
 
-  normal-one : {x p q : ℕ} → Read w x → Edge (graph targets numbers g h) Normal x p q → (u : List ℕ) → Yields (fsbmOf m list) (config (symbol x ++ u) p [] Normal) (config u q [] Normal)
+  normal-one : {x p q : ℕ} → Read w x → Edge (graph targets (m .states) g h) Normal x p q → (u : List ℕ) → Yields (fsbmOf m list) (config (symbol x ++ u) p [] Normal) (config u q [] Normal)
   normal-one {x} {p} {q} i e u =
       normal (edge-listed t i e)
       (λ z. e .may .0 (t .matches p .1 (z .0), t .matches q .1 (z .1)))
       (λ z. e .may .1 (t .stores p .1 z))
 
-  store-free : {p q : ℕ} → Free (graph targets numbers g h) Buffering p q → (u v : List ℕ) → Run (fsbmOf m list) (config u p v Buffering) (config u q v Buffering)
+  store-free : {p q : ℕ} → Free (graph targets (m .states) g h) Buffering p q → (u v : List ℕ) → Run (fsbmOf m list) (config u p v Buffering) (config u q v Buffering)
   store-free here u v = done
   store-free (more {r = r} f e) u v =
       run-one (store-free f u v) (subst (λ (z : List ℕ). Yields (fsbmOf m list) (config u _ v Buffering) (config u r z Buffering)) (append-nil v) (store-one (inl refl) e u v))
 
-  empty-free : {p q : ℕ} → Free (graph targets numbers g h) Emptying p q → (u v : List ℕ) → Run (fsbmOf m list) (config u p v Emptying) (config u q v Emptying)
+  empty-free : {p q : ℕ} → Free (graph targets (m .states) g h) Emptying p q → (u v : List ℕ) → Run (fsbmOf m list) (config u p v Emptying) (config u q v Emptying)
   empty-free here u v = done
   empty-free (more f e) u v = run-one (empty-free f u v) (empty-one (inl refl) e u v)
 
-  storing-run : {i p j q : ℕ} → Walk (graph targets numbers g h) w Buffering i p j q → Run (fsbmOf m list) (config (drop i w) p [] Buffering) (config (drop j w) q (slice i j w) Buffering)
+  storing-run : {i p j q : ℕ} → Walk (graph targets (m .states) g h) w Buffering i p j q → Run (fsbmOf m list) (config (drop i w) p [] Buffering) (config (drop j w) q (slice i j w) Buffering)
   storing-run {i} {p} {j} {q} (still e f) =
       subst₂ (λ (u v : List ℕ). Run (fsbmOf m list) (config (drop i w) p [] Buffering) (config u q v Buffering))
       (ap (λ (n : ℕ). drop n w) (sym e)) (sym (ap (λ (n : ℕ). slice i n w) e ∙ slice-empty i w)) (store-free f (drop i w) [])
@@ -92,7 +92,7 @@ module _ {m : Machine} {list targets numbers : List ℕ} {g h : ℕ} (w : List �
       (run-join (run-one (storing-run v) step) (store-free (a .free) (drop (suc k) w) (slice i (suc k) w)))
 
   -- the letters from i up to k are taken from the buffer, and stand in the word from j on
-  emptying-run : (i j : ℕ) → i ≤ j → j + (j - i) ≤ length w → Matches w i j → {s k q : ℕ} → Walk (graph targets numbers g h) w Emptying i s k q → k ≤ j
+  emptying-run : (i j : ℕ) → i ≤ j → j + (j - i) ≤ length w → Matches w i j → {s k q : ℕ} → Walk (graph targets (m .states) g h) w Emptying i s k q → k ≤ j
       → Run (fsbmOf m list) (config (drop j w) s (slice i j w) Emptying) (config (drop (j + (k - i)) w) q (slice k j w) Emptying)
   emptying-run i j ij room same {s} {k} {q} (still e f) le =
       let at : j ≡ j + (k - i) = omega arith in
@@ -112,7 +112,7 @@ module _ {m : Machine} {list targets numbers : List ℕ} {g h : ℕ} (w : List �
       (ap (λ (n : ℕ). drop n w) next) (ap (λ (n : ℕ). slice n j w) (sym e))
       (run-join (run-one (emptying-run i j ij room same v (omega arith)) step) (empty-free (a .free) (drop (suc (j + (o - i))) w) (slice (suc o) j w)))
 
-  copy-run : {i j k p s q : ℕ} → In g p → i ≤ j → Walk (graph targets numbers g h) w Buffering i p j s → In h s → Walk (graph targets numbers g h) w Emptying i s j q
+  copy-run : {i j k p s q : ℕ} → In g p → i ≤ j → Walk (graph targets (m .states) g h) w Buffering i p j s → In h s → Walk (graph targets (m .states) g h) w Emptying i s j q
       → Matches w i j → k ≡ j + (j - i) → k ≤ length w → Run (fsbmOf m list) (config (drop i w) p [] Normal) (config (drop k w) q [] Normal)
   copy-run {i} {j} {k} {p} {s} {q} gp le v hs y same place in-word =
       let turn = run-one (Run.more (begin-buffering (t .stores p .0 gp)) (storing-run v)) (begin-emptying (t .matches s .0 hs)) in
@@ -122,7 +122,7 @@ module _ {m : Machine} {list targets numbers : List ℕ} {g h : ℕ} (w : List �
       subst (λ (n : ℕ). Run (fsbmOf m list) (config (drop i w) p [] Normal) (config (drop n w) q [] Normal)) (sym place)
       (run-one ended (back-to-normal (t .matches q .0 (walk-matching hs y))))
 
-  pub reach-run : {start k q : ℕ} → Reach (graph targets numbers g h) w start k q → (o : ℕ) × In start o × Run (fsbmOf m list) (config w o [] Normal) (config (drop k w) q [] Normal)
+  pub reach-run : {start k q : ℕ} → Reach (graph targets (m .states) g h) w start k q → (o : ℕ) × In start o × Run (fsbmOf m list) (config w o [] Normal) (config (drop k w) q [] Normal)
   reach-run {q = q} (begins e i) = (q, i, subst (λ (n : ℕ). Run (fsbmOf m list) (config w q [] Normal) (config (drop n w) q [] Normal)) (sym e) done)
   reach-run {k = k} (passes r e) = let (o, i, run) = reach-run r in (o, i, run-one run (normal-one (inl refl) e (drop k w)))
   reach-run {q = q} (moves {i = k} {p = p} r lt some e place) =

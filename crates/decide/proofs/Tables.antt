@@ -1,29 +1,51 @@
 -- What the table of a well-formed machine and its sets of states say of its transitions.
 --
--- good-table        == such a table is one that the functions on sets ask for
+-- Read w x          == x is letter 0 or a letter of w
+-- good-table, rooms == a prepared table is one that the functions on sets ask for
+-- row-read          == it has the row of each letter that is read
 -- kind-says         == a set made of one bit of the marks is the set of the states of that kind
--- Table m list w targets numbers g h == the table of m's list for the letters of w, the set of its buffering states, the set of its matching states
+-- Table m list w targets g h == the table of m's list for the letters of w, the set of its buffering states, the set of its matching states
 -- edge-listed, listed-edge == an edge of a letter of w, or of epsilon, is a transition that the mode may take
 use Prim.Native.Nat.{ℕ, _/_, _%_, _<_}
-use mathlib.Core.Path.{_≡_}
+use mathlib.Core.Path.{_≡_, sym, subst}
 use mathlib.Core.Logic.{_↔_, _⊎_, inl, inr}
 use mathlib.Core.Bool.{true, false}
 use mathlib.Core.List.{List}
 use native.Mathlib.Omega.{arith}
+use lib.ListN.{length, getD}
 use lib.Dec.{ltb}
 use borrow.Author.Tests.{ltb-true, eqb-true, eq-eqb}
 use Rattle.graphs.specs.Search.Laws.{true-or-false}
-use Rattle.stateset.specs.Set.{width, In}
-use Rattle.fsbm.specs.Machine.{markOf, initial, final, buffering, matching, maxStates}
+use Rattle.stateset.specs.Set.{In}
+use Rattle.fsbm.specs.Machine.{wellFormed, markOf, initial, final, buffering, matching, maxStates}
 use Rattle.fsbm.specs.Published.{Listed}
 use Rattle.fsbm.specs.declared.machine.Machine.{Machine}
 use Rattle.fsbm.specs.declared.config.Mode.{Mode}
-use Rattle.adjacency.specs.Index.Laws.{Sorted}
-use Rattle.targets.specs.Targets.{Read, Targets}
+use Rattle.adjacency.specs.Index.Laws.{Sorted, sorted}
+use Rattle.targets.specs.Prepared.{Row, Prepared}
+use Rattle.decide.specs.Reach.{Rooms}
 use Rattle.images.specs.Graph.{Members, graph, May, Edge, Good}
 
-pub good-table : {m : Machine} {list w numbers targets : List ℕ} → Targets m list w numbers targets → Good targets numbers
-good-table t = record { size = t .table .size; rows = t .table .rows; epsilons = t .epsilons }
+-- x is letter 0 or a letter of w
+abbrev pub Read : List ℕ → ℕ → Type 0
+Read w x = (x ≡ 0) ⊎ ((i : ℕ) × (i < length w) × (getD w i 0 ≡ x) × (0 < x))
+
+module _ {m : Machine} {list w targets : List ℕ} (t : Prepared m list w targets) where
+  pub good-table : wellFormed m list ≡ true → Good targets (m .states)
+  good-table good =
+      record {
+        few = sorted m list good .states-fit;
+        row = t .epsilon .room;
+        epsilons = λ p q lt h. t .sources p q (t .epsilon .listed p q lt .0 h);
+      }
+
+  pub rooms : Rooms targets (m .states) w
+  rooms i lt = t .letters i lt .room
+
+  -- the row of such a letter
+  pub row-read : {x : ℕ} → Read w x → Row m list targets x
+  row-read (inl e) = subst (Row m list targets) (sym e) (t .epsilon)
+  row-read (inr (i, lt, e, some)) = subst (Row m list targets) e (t .letters i lt)
 
 -- a state whose mark is not 0 is one of the machine's
 marked : (m : Machine) (list : List ℕ) → Sorted m list → (q : ℕ) → (markOf (m .marks) q ≡ 0 → ⊥) → q < m .states
@@ -75,20 +97,19 @@ module _ (m : Machine) (list : List ℕ) (s : Sorted m list) (set : ℕ) where
       same : (y : ℕ) → y % 2 ≡ 1 → y / 1 % 2 ≡ 1
       same y e = omega arith
 
-pub record Table (m : Machine) (list w targets numbers : List ℕ) (g h : ℕ) : Type 0 where
+pub record Table (m : Machine) (list w targets : List ℕ) (g h : ℕ) : Type 0 where
   pub sorted : Sorted m list
-  pub holds : Targets m list w numbers targets
+  pub holds : Prepared m list w targets
   pub stores : (q : ℕ) → In g q ↔ (buffering (m .marks) q ≡ true)
   pub matches : (q : ℕ) → In h q ↔ (matching (m .marks) q ≡ true)
 
-module _ {m : Machine} {list w targets numbers : List ℕ} {g h : ℕ} (t : Table m list w targets numbers g h) where
-  pub edge-listed : {T : Mode} {y p q : ℕ} → Read w y → Edge (graph targets numbers g h) T y p q → Listed list (m .transitions) p y q
-  edge-listed {y = y} {p = p} {q = q} r e = t .holds .table .listed y p q (e .state) r .0 (e .target)
+module _ {m : Machine} {list w targets : List ℕ} {g h : ℕ} (t : Table m list w targets g h) where
+  pub edge-listed : {T : Mode} {y p q : ℕ} → Read w y → Edge (graph targets (m .states) g h) T y p q → Listed list (m .transitions) p y q
+  edge-listed {y = y} {p = p} {q = q} r e = row-read (t .holds) r .listed p q (e .state) .0 (e .target)
 
-  pub listed-edge : {T : Mode} {y p q : ℕ} → Read w y → Listed list (m .transitions) p y q → May g h T p q → Edge (graph targets numbers g h) T y p q
+  pub listed-edge : {T : Mode} {y p q : ℕ} → Read w y → Listed list (m .transitions) p y q → May g h T p q → Edge (graph targets (m .states) g h) T y p q
   listed-edge {y = y} {p = p} {q = q} r d a =
       let small = t .sorted .from-below (d .number) (d .listed) in
-      let few = t .sorted .states-fit in
       let e = d .from in
-      let state : p < width = omega arith in
-      record { state = state; target = t .holds .table .listed y p q state r .1 d; may = a }
+      let state : p < m .states = omega arith in
+      record { state = state; target = row-read (t .holds) r .listed p q state .1 d; may = a }

@@ -1,5 +1,3 @@
-pub mod Cache
 pub mod Covers
 pub mod Reach
 pub mod Squares
-pub mod Sweep

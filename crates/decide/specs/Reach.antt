@@ -1,5 +1,6 @@
 -- The states that a run reaches at each place in normal mode, copies taken as one step.
 --
+-- Rooms targets states w   == the table has room for the row of each letter of w
 -- Walk G w T i p j q       == in mode T the letters of w from i up to j lead from p to q
 -- Tailed G w i tail        == what the tail has reached is what emptying walks from i up to its place reach from its set
 -- Matches w i j            == the letters of w from i up to j stand once more from j on
@@ -20,7 +21,10 @@ use Rattle.stateset.specs.Set.{width, In}
 use Rattle.fsbm.specs.declared.config.Mode.{Mode}
 use Rattle.fsbm.specs.declared.config.Mode.the-variants.{Normal, Buffering, Emptying}
 use Rattle.decide.specs.declared.walks.Tail.{Tail}
-use Rattle.images.specs.Graph.{Members, From, Star, Graph, Fitting, Edge, Free, Turn, Advance}
+use Rattle.images.specs.Graph.{Members, From, Star, Graph, Fitting, Room, Edge, Free, Turn, Advance}
+
+abbrev pub Rooms : List ℕ → ℕ → List ℕ → Type 0
+Rooms targets states w = (i : ℕ) → i < length w → Room targets states (getD w i 0)
 
 pub data Walk (G : Graph) (w : List ℕ) (T : Mode) (i p : ℕ) : ℕ → ℕ → Type 0 where
   still : {j q : ℕ} → j ≡ i → Free G T p q → Walk G w T i p j q

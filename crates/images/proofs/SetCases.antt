@@ -8,9 +8,10 @@
 -- row-cases               == what holds of a list whose element at one place is new
 -- normal-moves, buffering-moves, emptying-moves == what step_normal, step_buffering, step_emptying put together
 -- edges-taken             == the moves by the row of a letter are its edges
+-- states-image            == the image of those states of a set that are below a number
 -- read-.., advance-.., empty-.. == the ways through read_set, advance, empty_copies
 -- marked-turn             == one turn of kinds_of, for one kind
-use Prim.Native.Nat.{ℕ, _+_, _*_, _/_, _%_, _^_, _<_}
+use Prim.Native.Nat.{ℕ, _+_, _*_, _/_, _%_, _^_, _≤_, _<_}
 use mathlib.Core.Path.{_≡_, sym, ap, _∙_, subst}
 use mathlib.Core.Logic.{_⊎_, inl, inr}
 use mathlib.Core.Bool.{Bool, true, false}
@@ -90,16 +91,16 @@ module _ (set q r : ℕ) (b : Bool) where
 
 -- the moves of a set by a row of the table: those of its matching states apart from the others
 
-module _ (targets : List ℕ) (row g h set : ℕ) where
+module _ (targets : List ℕ) (row states g h set : ℕ) where
   abbrev pub Has : ℕ → ℕ → Type 0
-  Has p q = In (getD targets (row + p) 0) q
+  Has p q = (p < states) × In (getD targets (row + p) 0) q
 
   pub normal-moves : (free plain a matching b c r : ℕ) → Members free (λ q. In set q × (In g q → ⊥)) → Members plain (λ q. In free q × (In h q → ⊥)) → Members a (From plain Has)
       → Members matching (λ q. In free q × In h q) → Members b (From matching Has) → Members c (λ q. In b q × (In h q → ⊥)) → Members r (λ q. In a q ⊎ In c q)
-      → Members r (From set (RowEdge targets row g h Normal))
+      → Members r (From set (RowEdge targets row states g h Normal))
   normal-moves free plain a matching b c r frees plains hasA matchings bs cs s = members-as s to back
     where
-      to : (q : ℕ) → In a q ⊎ In c q → From set (RowEdge targets row g h Normal) q
+      to : (q : ℕ) → In a q ⊎ In c q → From set (RowEdge targets row states g h Normal) q
       to q (inl m) =
           let z = hasA .members q .0 m in
           let y = plains .members (z .0) .0 (z .1) in
@@ -116,15 +117,15 @@ module _ (targets : List ℕ) (row g h set : ℕ) where
       from p q i t n k (yes e) = inr (cs .members q .1 (bs .members q .1 (p, matchings .members p .1 (frees .members p .1 (i, k), e), t), λ w. n (e, w)))
       from p q i t n k (no e) = inl (hasA .members q .1 (p, plains .members p .1 (frees .members p .1 (i, k), e), t))
 
-      back : (q : ℕ) → From set (RowEdge targets row g h Normal) q → In a q ⊎ In c q
+      back : (q : ℕ) → From set (RowEdge targets row states g h Normal) q → In a q ⊎ In c q
       back q z = let t = z .2 in from (z .0) q (z .1) (t .0) (t .1 .0) (t .1 .1) (in? h (z .0))
 
   pub buffering-moves : (plain a matching b c all r : ℕ) → Members plain (λ q. In set q × (In h q → ⊥)) → Members a (From plain Has) → Members matching (λ q. In set q × In h q)
       → Members b (From matching Has) → Members c (λ q. In b q × (In h q → ⊥)) → Members all (λ q. In a q ⊎ In c q) → Members r (λ q. In all q × (In g q → ⊥))
-      → Members r (From set (RowEdge targets row g h Buffering))
+      → Members r (From set (RowEdge targets row states g h Buffering))
   buffering-moves plain a matching b c all r plains hasA matchings bs cs alls s = members-as s (λ q z. to q (alls .members q .0 (z .0)) (z .1)) back
     where
-      to : (q : ℕ) → In a q ⊎ In c q → (In g q → ⊥) → From set (RowEdge targets row g h Buffering) q
+      to : (q : ℕ) → In a q ⊎ In c q → (In g q → ⊥) → From set (RowEdge targets row states g h Buffering) q
       to q (inl m) k =
           let z = hasA .members q .0 m in
           let y = plains .members (z .0) .0 (z .1) in
@@ -139,11 +140,11 @@ module _ (targets : List ℕ) (row g h set : ℕ) where
       from p q i t n (yes e) = inr (cs .members q .1 (bs .members q .1 (p, matchings .members p .1 (i, e), t), λ w. n (e, w)))
       from p q i t n (no e) = inl (hasA .members q .1 (p, plains .members p .1 (i, e), t))
 
-      back : (q : ℕ) → From set (RowEdge targets row g h Buffering) q → In all q × (In g q → ⊥)
+      back : (q : ℕ) → From set (RowEdge targets row states g h Buffering) q → In all q × (In g q → ⊥)
       back q z = let t = z .2 in (alls .members q .1 (from (z .0) q (z .1) (t .0) (t .1 .0) (in? h (z .0))), t .1 .1)
 
   pub emptying-moves : (matching b r : ℕ) → Members matching (λ q. In set q × In h q) → Members b (From matching Has) → Members r (λ q. In b q × In h q)
-      → Members r (From set (RowEdge targets row g h Emptying))
+      → Members r (From set (RowEdge targets row states g h Emptying))
   emptying-moves matching b r matchings bs s = members-as s
       (λ q v.
       let z = bs .members q .0 (v .0) in
@@ -152,18 +153,24 @@ module _ (targets : List ℕ) (row g h set : ℕ) where
       (λ q z. let t = z .2 in (bs .members q .1 (z .0, matchings .members (z .0) .1 (z .1, t .1 .0), t .0), t .1 .1))
 
 -- they are the edges, where row is that of the letter x
-pub edges-taken : (targets numbers : List ℕ) (g h : ℕ) (T : Mode) (x row set r : ℕ) → row ≡ getD numbers x 0 * 64 → set < 2 ^ width
-    → Members r (From set (RowEdge targets row g h T)) → Members r (From set (Edge (graph targets numbers g h) T x))
-edges-taken targets numbers g h T x row set r e fits s =
+pub edges-taken : (targets : List ℕ) (states g h : ℕ) (T : Mode) (x row set r : ℕ) → row ≡ 1 + x * states
+    → Members r (From set (RowEdge targets row states g h T)) → Members r (From set (Edge (graph targets states g h) T x))
+edges-taken targets states g h T x row set r e s =
     members-as s
     (λ q z.
     let t = z .2 in
-    let at : row + z .0 ≡ getD numbers x 0 * 64 + z .0 = omega arith in
-    (z .0, z .1, record { state = in-lt {w = width} {x = set} {q = z .0} fits (z .1); target = subst (λ (n : ℕ). In (getD targets n 0) q) at (t .0); may = t .1 }))
+    (z .0, z .1, record { state = t .0 .0; target = subst (λ (n : ℕ). In (getD targets (n + z .0) 0) q) e (t .0 .1); may = t .1 }))
     (λ q z.
     let t = z .2 in
-    let at : row + z .0 ≡ getD numbers x 0 * 64 + z .0 = omega arith in
-    (z .0, z .1, (subst (λ (n : ℕ). In (getD targets n 0) q) (sym at) (t .target), t .may)))
+    (z .0, z .1, ((t .state, subst (λ (n : ℕ). In (getD targets (n + z .0) 0) q) (sym e) (t .target)), t .may)))
+
+-- the image of the states below a number, of those in a set
+pub states-image : (R : ℕ → ℕ → Type 0) (set all part states r : ℕ) → states ≤ width → Members all (λ p. (p < states) × (p < width)) → Members part (λ p. In set p × In all p) → Members r (From part R)
+    → Members r (From set (λ p q. (p < states) × R p q))
+states-image R set all part states r few alls parts s =
+    members-as s
+    (λ q z. let y = parts .members (z .0) .0 (z .1) in (z .0, y .0, (alls .members (z .0) .0 (y .1) .0, z .2)))
+    (λ q z. (z .0, parts .members (z .0) .1 (z .1, alls .members (z .0) .1 (z .2 .0, omega (arith, z .2 .0, few))), z .2 .1))
 
 -- a letter of a word, and the epsilon moves after it
 

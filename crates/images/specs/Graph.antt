@@ -4,16 +4,18 @@
 -- Fitting n sets         == a list of n sets of states
 -- From set R q           == q is R-related to some member of the set
 -- Star R p q             == q is reached from p by any number of R-steps
--- Graph                  == the table of where transitions lead, the numbers of its rows, the set of buffering states, the set of matching states
+-- setOf states x p       == where the set of the letter x and the state p stands in a table of where transitions lead: behind its first set the rows of
+--                           the letters in order, letter 0 first, with one set for each state
+-- Graph                  == such a table, the number of states, the set of buffering states, the set of matching states
 -- May g h T p q          == mode T may take a transition from p to q (document 01, "How a run moves")
--- RowEdge targets row g h T p q == the row of the table that begins there has q for the state p, and mode T may take a transition from p to q
+-- RowEdge targets row states g h T p q == the row of the table that begins there has q for the state p, and mode T may take a transition from p to q
 -- Edge G T x p q         == the table has q for letter x and the state p, and mode T may take a transition from p to q
 -- Free G T p q           == q is reached from p in mode T by epsilon moves
 -- Advance G T x p q      == q is reached from p in mode T by a move that reads x and then epsilon moves
--- Lead G T x p q         == q is reached from p in mode T by epsilon moves, a move that reads x, and epsilon moves
 -- EmptyCopy G p q        == from p in normal mode to q in normal mode by a copy of nothing, in epsilon moves
 -- Turn G p q             == an epsilon move in normal mode, or an empty copy
--- Good targets numbers   == each letter has a row in the table, and each state with an epsilon transition is in the table's last set
+-- Room targets states x  == the table has room for the row of the letter x
+-- Good targets states    == the table has room for the row of letter 0, and each state with an epsilon transition is in the table's first set
 -- Kind marks states b set == the set of the states below a number whose mark has the bit of value b
 -- KindsOf marks states k == the four sets of states by their marks
 use Prim.Native.Nat.{ℕ, _+_, _-_, _*_, _/_, _%_, _^_, _≤_, _<_}
@@ -43,14 +45,17 @@ pub data Star (R : ℕ → ℕ → Type 0) : ℕ → ℕ → Type 0 where
   here : {p : ℕ} → Star R p p
   more : {p q r : ℕ} → Star R p q → R q r → Star R p r
 
+abbrev pub setOf : ℕ → ℕ → ℕ → ℕ
+setOf states x p = 1 + x * states + p
+
 pub record Graph : Type 0 where
   pub targets : List ℕ
-  pub numbers : List ℕ
+  pub states : ℕ
   pub buffering : ℕ
   pub matching : ℕ
 
-abbrev pub graph : List ℕ → List ℕ → ℕ → ℕ → Graph
-graph targets numbers g h = record { targets = targets; numbers = numbers; buffering = g; matching = h }
+abbrev pub graph : List ℕ → ℕ → ℕ → ℕ → Graph
+graph targets states g h = record { targets = targets; states = states; buffering = g; matching = h }
 
 -- normal: not both ends matching, and not from a buffering state; buffering: not both matching, and not into a buffering state;
 -- emptying: both matching
@@ -59,12 +64,12 @@ May g h Normal p q = (In h p × In h q → ⊥) × (In g p → ⊥)
 May g h Buffering p q = (In h p × In h q → ⊥) × (In g q → ⊥)
 May g h Emptying p q = In h p × In h q
 
-abbrev pub RowEdge : List ℕ → ℕ → ℕ → ℕ → Mode → ℕ → ℕ → Type 0
-RowEdge targets row g h T p q = In (getD targets (row + p) 0) q × May g h T p q
+abbrev pub RowEdge : List ℕ → ℕ → ℕ → ℕ → ℕ → Mode → ℕ → ℕ → Type 0
+RowEdge targets row states g h T p q = ((p < states) × In (getD targets (row + p) 0) q) × May g h T p q
 
 pub record Edge (G : Graph) (T : Mode) (x p q : ℕ) : Type 0 where
-  pub state : p < width
-  pub target : In (getD (G .targets) (getD (G .numbers) x 0 * 64 + p) 0) q
+  pub state : p < G .states
+  pub target : In (getD (G .targets) (setOf (G .states) x p) 0) q
   pub may : May (G .buffering) (G .matching) T p q
 
 abbrev pub Free : Graph → Mode → ℕ → ℕ → Type 0
@@ -76,11 +81,6 @@ pub record Advance (G : Graph) (T : Mode) (x p q : ℕ) : Type 0 where
   pub edge : Edge G T x p middle
   pub free : Free G T middle q
 
-pub record Lead (G : Graph) (T : Mode) (x p q : ℕ) : Type 0 where
-  pub middle : ℕ
-  pub free : Free G T p middle
-  pub advance : Advance G T x middle q
-
 pub record EmptyCopy (G : Graph) (p q : ℕ) : Type 0 where
   pub begins : In (G .buffering) p
   pub middle : ℕ
@@ -91,10 +91,13 @@ pub record EmptyCopy (G : Graph) (p q : ℕ) : Type 0 where
 abbrev pub Turn : Graph → ℕ → ℕ → Type 0
 Turn G p q = Edge G Normal 0 p q ⊎ EmptyCopy G p q
 
-pub record Good (targets numbers : List ℕ) : Type 0 where
-  pub size : length numbers ≡ 256
-  pub rows : (x : ℕ) → getD numbers x 0 * 64 + 64 ≤ length targets
-  pub epsilons : (p q : ℕ) → p < width → In (getD targets (getD numbers 0 0 * 64 + p) 0) q → In (getD targets (length targets - 1) 0) p
+abbrev pub Room : List ℕ → ℕ → ℕ → Type 0
+Room targets states x = setOf states x states ≤ length targets
+
+pub record Good (targets : List ℕ) (states : ℕ) : Type 0 where
+  pub few : states ≤ width
+  pub row : Room targets states 0
+  pub epsilons : (p q : ℕ) → p < states → In (getD targets (setOf states 0 p) 0) q → In (getD targets 0 0) p
 
 abbrev pub Kind : List ℕ → ℕ → ℕ → ℕ → Type 0
 Kind marks states b set = Members set (λ q. (q < states) × (markOf marks q / b % 2 ≡ 1))

@@ -1,6 +1,6 @@
 // Images and closures of sets of states under the transitions that a mode may take. The table targets says where the transitions of
-// each letter lead from each state, and numbers which row of it a letter has; letter 0, epsilon, has row 0. The last set of the table
-// has the states with epsilon transitions. g is the set of buffering states, h the set of matching states.
+// each letter lead from each state: its first set has the states with epsilon transitions, behind it stand the rows of the letters in
+// order, letter 0, epsilon, first, with one set for each state. g is the set of buffering states, h the set of matching states.
 ghost use Prim.Native.Nat.{ℕ, _+_, _-_, _*_, _/_, _%_, _^_, _≤_, _<_};
 ghost use mathlib.Core.Path.{_≡_};
 ghost use mathlib.Core.Bool.{true};
@@ -10,7 +10,7 @@ ghost use lib.Dec.{eqb};
 ghost use Rattle.stateset.specs.Set.{width, In};
 ghost use Rattle.fsbm.specs.Machine.{markOf};
 ghost use Rattle.fsbm.specs.declared.config.Mode.the-variants.{Normal, Buffering, Emptying};
-ghost use Rattle.images.specs.Graph.{Members, From, Star, graph, May, RowEdge, Edge, Free, Advance, EmptyCopy, Turn, Good, KindsOf};
+ghost use Rattle.images.specs.Graph.{Members, From, Star, graph, May, RowEdge, Edge, Free, Advance, EmptyCopy, Turn, Room, Good, KindsOf};
 use fsbm::config::Mode;
 use fsbm::machine;
 
@@ -74,19 +74,20 @@ pub fn wide(x: u8) -> usize
 }
 
 // Where the row of the letter x begins in the table.
-pub fn row_of(numbers: &[u8; 256], x: u8) -> usize
-    ensures { λ r. ⌜ r ≡ getD (now (numbers .entry)) x 0 * 64 ⌝ }
+fn row_of(states: usize, x: u8) -> usize
+    requires { ⌜ states ≤ width ⌝ }
+    ensures { λ r. ⌜ r ≡ 1 + x * states ⌝ }
 {
-    wide(numbers[x as usize]) * 64
+    1 + wide(x) * states
 }
 
 // The union of what a row of the table has for the states of a set.
-fn row_union(targets: &[u64], row: usize, set: u64) -> u64
-    requires { ⌜ row + width ≤ length (now targets) ⌝ }
-    ensures { λ r. ⌜ Members r (From set (λ p q. In (getD (now (targets .entry)) (row + p) 0) q)) ⌝ }
+fn row_union(targets: &[u64], row: usize, states: usize, set: u64) -> u64
+    requires { ⌜ (states ≤ width) × (row + states ≤ length (now targets)) ⌝ }
+    ensures { λ r. ⌜ Members r (From set (λ p q. (p < states) × In (getD (now (targets .entry)) (row + p) 0) q)) ⌝ }
 {
     let mut all = stateset::empty();
-    let mut rest = set;
+    let mut rest = stateset::intersection(set, stateset::full(states));
     while rest != 0 {
         let p = stateset::lowest(rest) as usize;
         rest = stateset::without_lowest(rest);
@@ -97,69 +98,69 @@ fn row_union(targets: &[u64], row: usize, set: u64) -> u64
 
 // The image of a set under the normal moves by the letter whose row begins there: those of a buffering state may not be taken, and
 // those of a matching state do not lead to a matching state.
-fn step_normal(targets: &[u64], g: u64, h: u64, row: usize, set: u64) -> u64
-    requires { ⌜ row + width ≤ length (now targets) ⌝ }
-    ensures { λ r. ⌜ Members r (From set (RowEdge (now (targets .entry)) row g h Normal)) ⌝ }
+fn step_normal(targets: &[u64], row: usize, states: usize, g: u64, h: u64, set: u64) -> u64
+    requires { ⌜ (states ≤ width) × (row + states ≤ length (now targets)) ⌝ }
+    ensures { λ r. ⌜ Members r (From set (RowEdge (now (targets .entry)) row states g h Normal)) ⌝ }
 {
     let free = stateset::difference(set, g);
-    let plain = row_union(targets, row, stateset::difference(free, h));
-    let matching = row_union(targets, row, stateset::intersection(free, h));
+    let plain = row_union(targets, row, states, stateset::difference(free, h));
+    let matching = row_union(targets, row, states, stateset::intersection(free, h));
     stateset::union(plain, stateset::difference(matching, h))
 }
 
 // The same for buffering moves: none leads to a buffering state, and those of a matching state do not lead to a matching state.
-fn step_buffering(targets: &[u64], g: u64, h: u64, row: usize, set: u64) -> u64
-    requires { ⌜ row + width ≤ length (now targets) ⌝ }
-    ensures { λ r. ⌜ Members r (From set (RowEdge (now (targets .entry)) row g h Buffering)) ⌝ }
+fn step_buffering(targets: &[u64], row: usize, states: usize, g: u64, h: u64, set: u64) -> u64
+    requires { ⌜ (states ≤ width) × (row + states ≤ length (now targets)) ⌝ }
+    ensures { λ r. ⌜ Members r (From set (RowEdge (now (targets .entry)) row states g h Buffering)) ⌝ }
 {
-    let plain = row_union(targets, row, stateset::difference(set, h));
-    let matching = row_union(targets, row, stateset::intersection(set, h));
+    let plain = row_union(targets, row, states, stateset::difference(set, h));
+    let matching = row_union(targets, row, states, stateset::intersection(set, h));
     let all = stateset::union(plain, stateset::difference(matching, h));
     stateset::difference(all, g)
 }
 
 // The same for emptying moves: all are from a matching state to a matching state.
-fn step_emptying(targets: &[u64], g: u64, h: u64, row: usize, set: u64) -> u64
-    requires { ⌜ row + width ≤ length (now targets) ⌝ }
-    ensures { λ r. ⌜ Members r (From set (RowEdge (now (targets .entry)) row g h Emptying)) ⌝ }
+fn step_emptying(targets: &[u64], row: usize, states: usize, g: u64, h: u64, set: u64) -> u64
+    requires { ⌜ (states ≤ width) × (row + states ≤ length (now targets)) ⌝ }
+    ensures { λ r. ⌜ Members r (From set (RowEdge (now (targets .entry)) row states g h Emptying)) ⌝ }
 {
-    let found = row_union(targets, row, stateset::intersection(set, h));
+    let found = row_union(targets, row, states, stateset::intersection(set, h));
     stateset::intersection(found, h)
 }
 
 // The image of a set under the moves that read x in a mode. Time: the members of the set, each once.
 pub fn step_set(
     targets: &[u64],
-    numbers: &[u8; 256],
+    states: usize,
     g: u64,
     h: u64,
     mode: Mode,
     set: u64,
     x: u8,
 ) -> u64
-    requires { ⌜ Good (now targets) (now numbers) ⌝ }
-    ensures { λ r. ⌜ Members r (From set (Edge (graph (now (targets .entry)) (now (numbers .entry)) g h) mode x)) ⌝ }
+    requires { ⌜ Good (now targets) states × Room (now targets) states x ⌝ }
+    ensures { λ r. ⌜ Members r (From set (Edge (graph (now (targets .entry)) states g h) mode x)) ⌝ }
 {
-    let row = row_of(numbers, x);
+    let row = row_of(states, x);
     match mode {
-        Mode::Normal => step_normal(targets, g, h, row, set),
-        Mode::Buffering => step_buffering(targets, g, h, row, set),
-        Mode::Emptying => step_emptying(targets, g, h, row, set),
+        Mode::Normal => step_normal(targets, row, states, g, h, set),
+        Mode::Buffering => step_buffering(targets, row, states, g, h, set),
+        Mode::Emptying => step_emptying(targets, row, states, g, h, set),
     }
 }
 
 // The states that have epsilon transitions; it may have others too.
-pub fn epsilons(targets: &[u64]) -> u64
+fn epsilons(targets: &[u64]) -> u64
     requires { ⌜ 0 < length (now targets) ⌝ }
-    ensures { λ r. ⌜ r ≡ getD (now (targets .entry)) (length (now (targets .entry)) - 1) 0 ⌝ }
+    ensures { λ r. ⌜ r ≡ getD (now (targets .entry)) 0 0 ⌝ }
 {
-    targets[targets.len() - 1]
+    targets[0]
 }
 
 // The states that a set reaches by epsilon moves in a mode. Only states that have epsilon transitions are looked up.
-pub fn close_set(targets: &[u64], numbers: &[u8; 256], g: u64, h: u64, mode: Mode, set: u64) -> u64
-    requires { ⌜ Good (now targets) (now numbers) ⌝ }
-    ensures { λ r. ⌜ Members r (From set (Free (graph (now (targets .entry)) (now (numbers .entry)) g h) mode)) ⌝ }
+pub fn close_set(targets: &[u64], states: usize, g: u64, h: u64, mode: Mode, set: u64) -> u64
+    requires { ⌜ Good (now targets) states ⌝ }
+    ensures { λ r. ⌜ Members r (From set (Free (graph (now (targets .entry)) states g h) mode)) ⌝ }
 {
     let may = epsilons(targets);
     let mut all = set;
@@ -169,7 +170,7 @@ pub fn close_set(targets: &[u64], numbers: &[u8; 256], g: u64, h: u64, mode: Mod
         if from == 0 {
             return all;
         }
-        new = stateset::difference(step_set(targets, numbers, g, h, mode, from, 0), all);
+        new = stateset::difference(step_set(targets, states, g, h, mode, from, 0), all);
         if new == 0 {
             return all;
         }
@@ -180,55 +181,55 @@ pub fn close_set(targets: &[u64], numbers: &[u8; 256], g: u64, h: u64, mode: Mod
 // The image of a set under the moves that read the letter x of a word in a mode; no move reads letter 0.
 pub fn read_set(
     targets: &[u64],
-    numbers: &[u8; 256],
+    states: usize,
     g: u64,
     h: u64,
     mode: Mode,
     set: u64,
     x: u8,
 ) -> u64
-    requires { ⌜ Good (now targets) (now numbers) ⌝ }
-    ensures { λ r. ⌜ Members r (λ q. (0 < x) × From set (Edge (graph (now (targets .entry)) (now (numbers .entry)) g h) mode x) q) ⌝ }
+    requires { ⌜ Good (now targets) states × Room (now targets) states x ⌝ }
+    ensures { λ r. ⌜ Members r (λ q. (0 < x) × From set (Edge (graph (now (targets .entry)) states g h) mode x) q) ⌝ }
 {
     if x == 0 {
         return 0;
     }
-    step_set(targets, numbers, g, h, mode, set, x)
+    step_set(targets, states, g, h, mode, set, x)
 }
 
 // The states that a set reaches by a move that reads the letter x of a word and epsilon moves after it.
 pub fn advance(
     targets: &[u64],
-    numbers: &[u8; 256],
+    states: usize,
     g: u64,
     h: u64,
     mode: Mode,
     set: u64,
     x: u8,
 ) -> u64
-    requires { ⌜ Good (now targets) (now numbers) ⌝ }
-    ensures { λ r. ⌜ Members r (From set (Advance (graph (now (targets .entry)) (now (numbers .entry)) g h) mode x)) ⌝ }
+    requires { ⌜ Good (now targets) states × Room (now targets) states x ⌝ }
+    ensures { λ r. ⌜ Members r (From set (Advance (graph (now (targets .entry)) states g h) mode x)) ⌝ }
 {
-    let read = read_set(targets, numbers, g, h, mode, set, x);
+    let read = read_set(targets, states, g, h, mode, set, x);
     if read == 0 {
         return 0;
     }
-    close_set(targets, numbers, g, h, mode, read)
+    close_set(targets, states, g, h, mode, read)
 }
 
 // The states that a set reaches by one copy of nothing.
-fn empty_copies(targets: &[u64], numbers: &[u8; 256], g: u64, h: u64, set: u64) -> u64
-    requires { ⌜ Good (now targets) (now numbers) ⌝ }
-    ensures { λ r. ⌜ Members r (From set (EmptyCopy (graph (now (targets .entry)) (now (numbers .entry)) g h))) ⌝ }
+fn empty_copies(targets: &[u64], states: usize, g: u64, h: u64, set: u64) -> u64
+    requires { ⌜ Good (now targets) states ⌝ }
+    ensures { λ r. ⌜ Members r (From set (EmptyCopy (graph (now (targets .entry)) states g h))) ⌝ }
 {
     let begun = stateset::intersection(set, g);
     if begun == 0 {
         return 0;
     }
-    let stored = close_set(targets, numbers, g, h, Mode::Buffering, begun);
+    let stored = close_set(targets, states, g, h, Mode::Buffering, begun);
     close_set(
         targets,
-        numbers,
+        states,
         g,
         h,
         Mode::Emptying,
@@ -238,17 +239,17 @@ fn empty_copies(targets: &[u64], numbers: &[u8; 256], g: u64, h: u64, set: u64) 
 
 // The states that a set reaches at one place in normal mode: by epsilon moves and copies of nothing, as often as wanted. No set
 // shrinks, so the end is reached when the size stays.
-pub fn close_place(targets: &[u64], numbers: &[u8; 256], g: u64, h: u64, set: u64) -> u64
-    requires { ⌜ Good (now targets) (now numbers) ⌝ }
-    ensures { λ r. ⌜ Members r (From set (Star (Turn (graph (now (targets .entry)) (now (numbers .entry)) g h)))) ⌝ }
+pub fn close_place(targets: &[u64], states: usize, g: u64, h: u64, set: u64) -> u64
+    requires { ⌜ Good (now targets) states ⌝ }
+    ensures { λ r. ⌜ Members r (From set (Star (Turn (graph (now (targets .entry)) states g h)))) ⌝ }
 {
     if set == 0 {
         return 0;
     }
     let mut all = set;
     loop {
-        let near = close_set(targets, numbers, g, h, Mode::Normal, all);
-        let copied = stateset::union(near, empty_copies(targets, numbers, g, h, near));
+        let near = close_set(targets, states, g, h, Mode::Normal, all);
+        let copied = stateset::union(near, empty_copies(targets, states, g, h, near));
         if stateset::size(copied) == stateset::size(near) {
             return near;
         }

@@ -1,19 +1,27 @@
 -- A prepared table of where transitions lead: for each letter and each state a set of states. Its first set has the states with
--- epsilon transitions; behind it stand the rows of the letters in order, letter 0 first, one set for each state of the machine.
+-- epsilon transitions; behind it stand the rows of the letters in order, letter 0 first, one set for each state of the machine. Its
+-- laws stand in specs/Prepared/Laws.antt.
 --
--- setOf states x p          == where the set of the letter x and the state p stands
 -- Row m list targets x      == the table has the row of the letter x
 -- Prepared m list w targets == the table has the rows of letter 0 and of the letters of w, and the states with epsilon transitions
+-- Lettered letters w        == each letter of w is one of so many
+-- Whole m list targets      == the table is prepared for every word of the machine's letters
+-- Wanted wanted x           == the letter x is letter 0 or one that is marked as wanted
+-- Inside m list k           == transition number k is in the list, and names states and a letter of the machine
+-- Filled m list wanted targets k == the rows of the wanted letters have the first k transitions, the others are empty
+-- Made m list wanted targets == the table has the rows of the wanted letters, and the states with epsilon transitions
+-- Sources targets states set == the set has each state below a number whose set in the row of letter 0 is not empty
 use Prim.Native.Nat.{ℕ, _+_, _*_, _≤_, _<_}
-use mathlib.Core.Logic.{_↔_}
+use mathlib.Core.Path.{_≡_}
+use mathlib.Core.Logic.{_↔_, _⊎_}
 use mathlib.Core.List.{List}
 use lib.ListN.{length, getD}
 use Rattle.stateset.specs.Set.{In}
+use Rattle.fsbm.specs.Machine.{transitionAt}
 use Rattle.fsbm.specs.Published.{Listed}
 use Rattle.fsbm.specs.declared.machine.Machine.{Machine}
-
-abbrev pub setOf : ℕ → ℕ → ℕ → ℕ
-setOf states x p = 1 + x * states + p
+use Rattle.images.specs.Graph.{setOf}
+pub mod Laws
 
 pub record Row (m : Machine) (list targets : List ℕ) (x : ℕ) : Type 0 where
   pub room : setOf (m .states) x (m .states) ≤ length targets
@@ -23,3 +31,31 @@ pub record Prepared (m : Machine) (list w targets : List ℕ) : Type 0 where
   pub epsilon : Row m list targets 0
   pub letters : (i : ℕ) → i < length w → Row m list targets (getD w i 0)
   pub sources : (p q : ℕ) → Listed list (m .transitions) p 0 q → In (getD targets 0 0) p
+
+abbrev pub Lettered : ℕ → List ℕ → Type 0
+Lettered letters w = (i : ℕ) → i < length w → getD w i 0 ≤ letters
+
+abbrev pub Whole : Machine → List ℕ → List ℕ → Type 0
+Whole m list targets = (w : List ℕ) → Lettered (m .letters) w → Prepared m list w targets
+
+abbrev pub Wanted : List ℕ → ℕ → Type 0
+Wanted wanted x = (x ≡ 0) ⊎ (0 < getD wanted x 0)
+
+pub record Inside (m : Machine) (list : List ℕ) (k : ℕ) : Type 0 where
+  pub fits : k * 3 + 3 ≤ length list
+  pub few : m .states ≤ 64
+  pub from : transitionAt list k .from < m .states
+  pub letter : transitionAt list k .letter ≤ m .letters
+  pub letters : m .letters ≤ 250
+  pub to : transitionAt list k .to < m .states
+
+pub record Filled (m : Machine) (list wanted targets : List ℕ) (k : ℕ) : Type 0 where
+  pub room : setOf (m .states) (m .letters) (m .states) ≤ length targets
+  pub members : (x p q : ℕ) → x ≤ m .letters → p < m .states → In (getD targets (setOf (m .states) x p) 0) q ↔ (Wanted wanted x × Listed list k p x q)
+
+pub record Made (m : Machine) (list wanted targets : List ℕ) : Type 0 where
+  pub rows : (x : ℕ) → x ≤ m .letters → Wanted wanted x → Row m list targets x
+  pub sources : (p q : ℕ) → Listed list (m .transitions) p 0 q → In (getD targets 0 0) p
+
+abbrev pub Sources : List ℕ → ℕ → ℕ → Type 0
+Sources targets states set = (p q : ℕ) → p < states → In (getD targets (1 + p) 0) q → In set p

@@ -15,7 +15,7 @@ read-set-requires c κs = search needs
 
 -- src/images.rt:174:9
 returns : tie.Need-returns
-returns c = advance-none (graph ((c .before .before .before .args .targets) .now) ((c .before .before .before .args .numbers) .now) (c .before .before .before .args .g) (c .before .before .before .args .h)) (c .before .before .before .args .mode) _ _ _ (c .before .read-set .ensures) (c .if1 .taken)
+returns c = advance-none (graph ((c .before .before .before .args .targets) .now) (c .before .before .before .args .states) (c .before .before .before .args .g) (c .before .before .before .args .h)) (c .before .before .before .args .mode) _ _ _ (c .before .read-set .ensures) (c .if1 .taken)
 
 -- src/images.rt:176:5
 close-set-requires : tie.Need-close-set-requires
@@ -23,7 +23,7 @@ close-set-requires c κs = search needs
 
 -- src/images.rt:168:1
 returns-2 : tie.Need-returns-2
-returns-2 c = advance-some (graph ((c .before .before .before .before .args .targets) .now) ((c .before .before .before .before .args .numbers) .now) (c .before .before .before .before .args .g) (c .before .before .before .before .args .h)) (c .before .before .before .before .args .mode) _ _ _ (c .before .before .read-set .ensures) _ (c .close-set .ensures)
+returns-2 c = advance-some (graph ((c .before .before .before .before .args .targets) .now) (c .before .before .before .before .args .states) (c .before .before .before .before .args .g) (c .before .before .before .before .args .h)) (c .before .before .before .before .args .mode) _ _ _ (c .before .before .read-set .ensures) _ (c .close-set .ensures)
 
 pub advance-spec : {M : Type 1} → statement M
 advance-spec = tie.close (tie.spec read-set-requires returns close-set-requires returns-2)

@@ -11,14 +11,14 @@ use Rattle.images.proofs.close_set.Statement.{statement}
 use Rattle.images.proofs.close_set.Tie as tie
 
 abbrev Inv-loop : tie.InvT-loop
-Inv-loop targets numbers g h mode set may all₀ new₀ all new = Good targets numbers × ((p q : ℕ) → Edge (graph targets numbers g h) mode 0 p q → In may p) × Closing (Edge (graph targets numbers g h) mode 0) set all new
+Inv-loop targets states g h mode set may all₀ new₀ all new = Good targets states × ((p q : ℕ) → Edge (graph targets states g h) mode 0 p q → In may p) × Closing (Edge (graph targets states g h) mode 0) set all new
 
 abbrev μ-loop : tie.MeasureT-loop
-μ-loop targets numbers g h mode set may all₀ new₀ all new = width - ones all
+μ-loop targets states g h mode set may all₀ new₀ all new = width - ones all
 
 -- src/lib.rt:164:9
 epsilons-requires : tie.Need-epsilons-requires Inv-loop μ-loop
-epsilons-requires c κs = omega (arith, (c .before .pre) .rows 0)
+epsilons-requires c κs = omega (arith, (c .before .pre) .row)
 
 -- src/lib.rt:167:5
 loop-holds : tie.Need-loop-holds Inv-loop μ-loop
@@ -30,11 +30,11 @@ intersection-requires c κs = search needs
 
 -- src/lib.rt:170:13
 returns : tie.Need-returns Inv-loop μ-loop
-returns c = closing-stuck _ _ _ _ ((c .before .before .loop .inv) .2) (no-image (Edge (graph ((c .before .before .before .before .before .args .targets) .now) ((c .before .before .before .before .before .args .numbers) .now) (c .before .before .before .before .before .args .g) (c .before .before .before .before .before .args .h)) (c .before .before .before .before .before .args .mode) 0) _ _ _ (members-is (c .before .intersection .ensures)) ((c .before .before .loop .inv) .1) (c .if1 .taken))
+returns c = closing-stuck _ _ _ _ ((c .before .before .loop .inv) .2) (no-image (Edge (graph ((c .before .before .before .before .before .args .targets) .now) (c .before .before .before .before .before .args .states) (c .before .before .before .before .before .args .g) (c .before .before .before .before .before .args .h)) (c .before .before .before .before .before .args .mode) 0) _ _ _ (members-is (c .before .intersection .ensures)) ((c .before .before .loop .inv) .1) (c .if1 .taken))
 
 -- src/lib.rt:172:36
 step-set-requires : tie.Need-step-set-requires Inv-loop μ-loop
-step-set-requires c κs = (c .before .before .loop .inv) .0
+step-set-requires c κs = ((c .before .before .loop .inv) .0, (c .before .before .loop .inv) .0 .row)
 
 -- src/lib.rt:172:9
 difference-requires : tie.Need-difference-requires Inv-loop μ-loop
@@ -42,7 +42,7 @@ difference-requires c κs = search needs
 
 -- src/lib.rt:174:13
 returns-2 : tie.Need-returns-2 Inv-loop μ-loop
-returns-2 c = closing-end _ _ _ _ _ _ ((c .before .before .before .before .before .loop .inv) .2) (part-image (Edge (graph ((c .before .before .before .before .before .before .before .before .args .targets) .now) ((c .before .before .before .before .before .before .before .before .args .numbers) .now) (c .before .before .before .before .before .before .before .before .args .g) (c .before .before .before .before .before .before .before .before .args .h)) (c .before .before .before .before .before .before .before .before .args .mode) 0) _ _ _ (members-is (c .before .before .before .before .intersection .ensures)) ((c .before .before .before .before .before .loop .inv) .1) _ (c .before .before .step-set .ensures)) (members-is (c .before .difference .ensures)) (c .if2 .taken)
+returns-2 c = closing-end _ _ _ _ _ _ ((c .before .before .before .before .before .loop .inv) .2) (part-image (Edge (graph ((c .before .before .before .before .before .before .before .before .args .targets) .now) (c .before .before .before .before .before .before .before .before .args .states) (c .before .before .before .before .before .before .before .before .args .g) (c .before .before .before .before .before .before .before .before .args .h)) (c .before .before .before .before .before .before .before .before .args .mode) 0) _ _ _ (members-is (c .before .before .before .before .intersection .ensures)) ((c .before .before .before .before .before .loop .inv) .1) _ (c .before .before .step-set .ensures)) (members-is (c .before .difference .ensures)) (c .if2 .taken)
 
 -- src/lib.rt:176:9
 union-requires : tie.Need-union-requires Inv-loop μ-loop
@@ -50,11 +50,11 @@ union-requires c κs = search needs
 
 -- src/lib.rt:167:5
 loop-less : tie.Need-loop-less Inv-loop μ-loop
-loop-less c = closing-less _ _ _ _ _ _ ((c .before .before .before .before .before .before .loop .inv) .2) (part-image (Edge (graph ((c .before .before .before .before .before .before .before .before .before .args .targets) .now) ((c .before .before .before .before .before .before .before .before .before .args .numbers) .now) (c .before .before .before .before .before .before .before .before .before .args .g) (c .before .before .before .before .before .before .before .before .before .args .h)) (c .before .before .before .before .before .before .before .before .before .args .mode) 0) _ _ _ (members-is (c .before .before .before .before .before .intersection .ensures)) ((c .before .before .before .before .before .before .loop .inv) .1) _ (c .before .before .before .step-set .ensures)) (members-is (c .before .before .difference .ensures)) _ (c .union .ensures) (members-is (c .union .ensures)) (c .before .if2 .left)
+loop-less c = closing-less _ _ _ _ _ _ ((c .before .before .before .before .before .before .loop .inv) .2) (part-image (Edge (graph ((c .before .before .before .before .before .before .before .before .before .args .targets) .now) (c .before .before .before .before .before .before .before .before .before .args .states) (c .before .before .before .before .before .before .before .before .before .args .g) (c .before .before .before .before .before .before .before .before .before .args .h)) (c .before .before .before .before .before .before .before .before .before .args .mode) 0) _ _ _ (members-is (c .before .before .before .before .before .intersection .ensures)) ((c .before .before .before .before .before .before .loop .inv) .1) _ (c .before .before .before .step-set .ensures)) (members-is (c .before .before .difference .ensures)) _ (c .union .ensures) (members-is (c .union .ensures)) (c .before .if2 .left)
 
 -- src/lib.rt:167:5
 loop-again : tie.Need-loop-again Inv-loop μ-loop
-loop-again c = ((c .before .before .before .before .before .before .loop .inv) .0, (c .before .before .before .before .before .before .loop .inv) .1, closing-turn _ _ _ _ _ _ ((c .before .before .before .before .before .before .loop .inv) .2) (part-image (Edge (graph ((c .before .before .before .before .before .before .before .before .before .args .targets) .now) ((c .before .before .before .before .before .before .before .before .before .args .numbers) .now) (c .before .before .before .before .before .before .before .before .before .args .g) (c .before .before .before .before .before .before .before .before .before .args .h)) (c .before .before .before .before .before .before .before .before .before .args .mode) 0) _ _ _ (members-is (c .before .before .before .before .before .intersection .ensures)) ((c .before .before .before .before .before .before .loop .inv) .1) _ (c .before .before .before .step-set .ensures)) (members-is (c .before .before .difference .ensures)) _ (members-is (c .union .ensures)))
+loop-again c = ((c .before .before .before .before .before .before .loop .inv) .0, (c .before .before .before .before .before .before .loop .inv) .1, closing-turn _ _ _ _ _ _ ((c .before .before .before .before .before .before .loop .inv) .2) (part-image (Edge (graph ((c .before .before .before .before .before .before .before .before .before .args .targets) .now) (c .before .before .before .before .before .before .before .before .before .args .states) (c .before .before .before .before .before .before .before .before .before .args .g) (c .before .before .before .before .before .before .before .before .before .args .h)) (c .before .before .before .before .before .before .before .before .before .args .mode) 0) _ _ _ (members-is (c .before .before .before .before .before .intersection .ensures)) ((c .before .before .before .before .before .before .loop .inv) .1) _ (c .before .before .before .step-set .ensures)) (members-is (c .before .before .difference .ensures)) _ (members-is (c .union .ensures)))
 
 pub close-set-spec : {M : Type 1} → statement M
 close-set-spec =

@@ -15,7 +15,7 @@ intersection-requires c κs = search needs
 
 -- src/images.rt:186:9
 returns : tie.Need-returns
-returns c = empty-none (graph ((c .before .before .before .args .targets) .now) ((c .before .before .before .args .numbers) .now) (c .before .before .before .args .g) (c .before .before .before .args .h)) _ _ (members-is (c .before .intersection .ensures)) (c .if1 .taken)
+returns c = empty-none (graph ((c .before .before .before .args .targets) .now) (c .before .before .before .args .states) (c .before .before .before .args .g) (c .before .before .before .args .h)) _ _ (members-is (c .before .intersection .ensures)) (c .if1 .taken)
 
 -- src/images.rt:188:9
 close-set-requires : tie.Need-close-set-requires
@@ -31,7 +31,7 @@ close-set-requires-2 c κs = search needs
 
 -- src/images.rt:180:1
 returns-2 : tie.Need-returns-2
-returns-2 c = empty-some (graph ((c .before .before .before .before .before .before .args .targets) .now) ((c .before .before .before .before .before .before .args .numbers) .now) (c .before .before .before .before .before .before .args .g) (c .before .before .before .before .before .before .args .h)) _ _ (members-is (c .before .before .before .before .intersection .ensures)) _ _ _ (c .before .before .close-set .ensures) (members-is (c .before .intersection2 .ensures)) (c .close-set2 .ensures)
+returns-2 c = empty-some (graph ((c .before .before .before .before .before .before .args .targets) .now) (c .before .before .before .before .before .before .args .states) (c .before .before .before .before .before .before .args .g) (c .before .before .before .before .before .before .args .h)) _ _ (members-is (c .before .before .before .before .intersection .ensures)) _ _ _ (c .before .before .close-set .ensures) (members-is (c .before .intersection2 .ensures)) (c .close-set2 .ensures)
 
 pub empty-copies-spec : {M : Type 1} → statement M
 empty-copies-spec =

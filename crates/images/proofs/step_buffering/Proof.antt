@@ -26,7 +26,7 @@ difference-requires-3 : tie.Need-difference-requires-3
 difference-requires-3 c κs = search needs
 
 returns : tie.Need-returns
-returns c = buffering-moves ((c .before .before .before .before .before .before .before .before .args .targets) .now) (c .before .before .before .before .before .before .before .before .args .row) _ _ _ _ _ _ _ _ _ _ (members-is (c .before .before .before .before .before .before .difference .ensures)) (c .before .before .before .before .before .row-union .ensures) (members-is (c .before .before .before .before .intersection .ensures)) (c .before .before .before .row-union2 .ensures) (members-is (c .before .before .difference2 .ensures)) (members-is (c .before .union .ensures)) (members-is (c .difference3 .ensures))
+returns c = buffering-moves ((c .before .before .before .before .before .before .before .before .args .targets) .now) (c .before .before .before .before .before .before .before .before .args .row) (c .before .before .before .before .before .before .before .before .args .states) _ _ _ _ _ _ _ _ _ _ (members-is (c .before .before .before .before .before .before .difference .ensures)) (c .before .before .before .before .before .row-union .ensures) (members-is (c .before .before .before .before .intersection .ensures)) (c .before .before .before .row-union2 .ensures) (members-is (c .before .before .difference2 .ensures)) (members-is (c .before .union .ensures)) (members-is (c .difference3 .ensures))
 
 pub step-buffering-spec : {M : Type 1} → statement M
 step-buffering-spec = tie.close (tie.spec difference-requires row-union-requires intersection-requires row-union-requires-2 difference-requires-2 union-requires difference-requires-3 returns)

@@ -26,7 +26,7 @@ union-requires : tie.Need-union-requires
 union-requires c κs = search needs
 
 returns : tie.Need-returns
-returns c = normal-moves ((c .before .before .before .before .before .before .before .before .args .targets) .now) (c .before .before .before .before .before .before .before .before .args .row) _ _ _ _ _ _ _ _ _ _ (members-is (c .before .before .before .before .before .before .difference .ensures)) (members-is (c .before .before .before .before .before .difference2 .ensures)) (c .before .before .before .before .row-union .ensures) (members-is (c .before .before .before .intersection .ensures)) (c .before .before .row-union2 .ensures) (members-is (c .before .difference3 .ensures)) (members-is (c .union .ensures))
+returns c = normal-moves ((c .before .before .before .before .before .before .before .before .args .targets) .now) (c .before .before .before .before .before .before .before .before .args .row) (c .before .before .before .before .before .before .before .before .args .states) _ _ _ _ _ _ _ _ _ _ (members-is (c .before .before .before .before .before .before .difference .ensures)) (members-is (c .before .before .before .before .before .difference2 .ensures)) (c .before .before .before .before .row-union .ensures) (members-is (c .before .before .before .intersection .ensures)) (c .before .before .row-union2 .ensures) (members-is (c .before .difference3 .ensures)) (members-is (c .union .ensures))
 
 pub step-normal-spec : {M : Type 1} → statement M
 step-normal-spec = tie.close (tie.spec difference-requires difference-requires-2 row-union-requires intersection-requires row-union-requires-2 difference-requires-3 union-requires returns)

@@ -3,118 +3,105 @@ use Rattle.images.proofs.SetCases.{members-is}
 use Prim.Native.Nat.{_≤_, _<_, _+_, _-_}
 use lib.ListN.{length}
 use Rattle.decide.specs.Squares.{Ends}
-use Rattle.decide.specs.Reach.{Tailed}
+use Rattle.decide.specs.Reach.{Rooms, Tailed}
 use Rattle.images.specs.Graph.{graph, Good}
 use borrow.Author.Needs.{needs}
 use native.Mathlib.Omega.{arith}
 use Rattle.decide.proofs.places.copies_from.Statement.{statement}
 use Rattle.decide.proofs.places.copies_from.Tie as tie
+use Rattle.decide.proofs.places.copies_from.Reads as reads
+use Rattle.decide.proofs.places.copies_from.Lts as lts
+use Rattle.decide.proofs.squares.turning.Reads as turning-reads
+use Rattle.decide.proofs.walks.tail_to.Reads as tail-to-reads
+use Rattle.images.proofs.advance.Reads as advance-reads
+use Rattle.images.proofs.close_set.Reads as close-set-reads
+use Rattle.stateset.proofs.union.Reads as union-reads
 
 abbrev Inv-loop : tie.InvT-loop
-Inv-loop targets numbers g h word ends₀ sets₀ i starts last left s₀ rest₀ tail₀ j₀ ends sets s rest tail j = Good targets numbers × (length word ≤ 255) × Ends word ends (λ d. i + d) × Copying (graph targets numbers g h) word i starts sets₀ sets j s last × Tailed (graph targets numbers g h) word i tail × (tail .place ≤ j)
+Inv-loop targets states g h word ends₀ sets₀ i starts last s₀ tail₀ j₀ ends sets s tail j = Good targets states × Rooms targets states word × (length word ≤ 255) × Ends word ends (λ d. i + d) × Copying (graph targets states g h) word i starts sets₀ sets j s last × Tailed (graph targets states g h) word i tail × (tail .place ≤ j)
 
 abbrev μ-loop : tie.MeasureT-loop
-μ-loop targets numbers g h word ends₀ sets₀ i starts last left s₀ rest₀ tail₀ j₀ ends sets s rest tail j = last - j
+μ-loop targets states g h word ends₀ sets₀ i starts last s₀ tail₀ j₀ ends sets s tail j = last - j
 
--- src/places.rt:62:16
-sub-if1 : tie.Need-sub-if1 Inv-loop μ-loop
-sub-if1 c = (c .before .before .pre) .5 .from
+-- src/places.rt:51:9
+close-set-requires : tie.Need-close-set-requires Inv-loop μ-loop
+close-set-requires c κs = ((c .before .before) .pre) .0
+
+-- src/places.rt:58:5
+loop-holds : tie.Need-loop-holds Inv-loop μ-loop
+loop-holds c = (((c .before .before .before) .pre) .0, ((c .before .before .before) .pre) .1, ((c .before .before .before) .pre) .3, ((c .before .before .before) .pre) .4, copying-start (graph (((c .before .before .before) .args .targets) .now) ((c .before .before .before) .args .states) ((c .before .before .before) .args .g) ((c .before .before .before) .args .h)) _ _ _ _ _ _ (((c .before .before .before) .pre) .6) (((c .before .before .before) .pre) .5) ((c) .close-set .ensures), tailed-start (graph (((c .before .before .before) .args .targets) .now) ((c .before .before .before) .args .states) ((c .before .before .before) .args .g) ((c .before .before .before) .args .h)) _ _, omega arith)
+
+-- src/places.rt:60:13
+returns : tie.Need-returns Inv-loop μ-loop
+returns c = (((c .before .before) .loop .inv) .3, ((c .before .before) .loop .inv) .4 .fitting, copying-dead (graph (((c .before .before .before .before .before .before) .args .targets) .now) ((c .before .before .before .before .before .before) .args .states) ((c .before .before .before .before .before .before) .args .g) ((c .before .before .before .before .before .before) .args .h)) _ _ _ _ _ _ _ _ (((c .before .before) .loop .inv) .4) ((c) .if1 .taken))
+
+-- src/places.rt:62:17
+shared-slice-read-x : tie.Need-shared-slice-read-x Inv-loop μ-loop
+shared-slice-read-x c = omega (arith, ((c .before .before .before) .loop .inv) .4 .squares .room, ((c .before .before .before) .loop .inv) .4 .from, ((c .before .before) .loop-test .taken), ((c .before .before .before) .loop .inv) .2)
 
 -- src/places.rt:63:9
-returns : tie.Need-returns Inv-loop μ-loop
-returns c = ((c .before .before .before .pre) .3, (c .before .before .before .pre) .4, λ (l : 0 < 0). absurd (omega arith))
-
--- src/places.rt:65:9
-close-set-requires : tie.Need-close-set-requires Inv-loop μ-loop
-close-set-requires c κs = (c .before .before .before .pre) .0
-
--- src/places.rt:74:5
-loop-holds : tie.Need-loop-holds Inv-loop μ-loop
-loop-holds c = ((c .before .before .before .before .pre) .0, (c .before .before .before .before .pre) .2, (c .before .before .before .before .pre) .3, copying-start (graph ((c .before .before .before .before .args .targets) .now) ((c .before .before .before .before .args .numbers) .now) (c .before .before .before .before .args .g) (c .before .before .before .before .args .h)) _ _ _ _ _ _ ((c .before .before .before .before .pre) .5) ((c .before .before .before .before .pre) .4) (c .close-set .ensures), tailed-start (graph ((c .before .before .before .before .args .targets) .now) ((c .before .before .before .before .args .numbers) .now) (c .before .before .before .before .args .g) (c .before .before .before .before .args .h)) _ _, omega arith)
-
--- src/places.rt:76:13
-returns-2 : tie.Need-returns-2 Inv-loop μ-loop
-returns-2 c = ((c .before .before .loop .inv) .2, (c .before .before .loop .inv) .3 .fitting, λ l. copying-dead (graph ((c .before .before .before .before .before .before .before .args .targets) .now) ((c .before .before .before .before .before .before .before .args .numbers) .now) (c .before .before .before .before .before .before .before .args .g) (c .before .before .before .before .before .before .before .args .h)) _ _ _ _ _ _ _ _ ((c .before .before .loop .inv) .3) (c .if2 .taken))
-
--- src/places.rt:79:13
-returns-3 : tie.Need-returns-3 Inv-loop μ-loop
-returns-3 c = ((c .before .before .before .loop .inv) .2, (c .before .before .before .loop .inv) .3 .fitting, λ (l : 0 < 0). absurd (omega arith))
-
--- src/places.rt:81:17
-shared-slice-read-x : tie.Need-shared-slice-read-x Inv-loop μ-loop
-shared-slice-read-x c = omega (arith, (c .before .before .before .before .loop .inv) .3 .squares .room, (c .before .before .before .before .loop .inv) .3 .from, (c .before .before .before .loop-test .taken), (c .before .before .before .before .loop .inv) .1)
-
--- src/places.rt:82:9
 advance-requires : tie.Need-advance-requires Inv-loop μ-loop
-advance-requires c κs = (c .before .before .before .before .loop .inv) .0
+advance-requires c κs = (((c .before .before .before) .loop .inv) .0, ((c .before .before .before) .loop .inv) .1 _ (omega (arith, ((c .before .before .before) .loop .inv) .4 .squares .room, ((c .before .before .before) .loop .inv) .4 .from, ((c .before .before) .loop-test .taken), ((c .before .before .before) .loop .inv) .2)))
 
--- src/places.rt:83:9
+-- src/places.rt:64:9
 add-j : tie.Need-add-j Inv-loop μ-loop
-add-j c = omega (arith, (c .before .before .before .before .before .loop .inv) .3 .squares .room, (c .before .before .before .before .before .loop .inv) .3 .from, (c .before .before .before .before .loop-test .taken), (c .before .before .before .before .before .loop .inv) .1)
+add-j c = omega (arith, ((c .before .before .before .before) .loop .inv) .4 .squares .room, ((c .before .before .before .before) .loop .inv) .4 .from, ((c .before .before .before) .loop-test .taken), ((c .before .before .before .before) .loop .inv) .2)
 
--- src/places.rt:84:9
-sub-rest : tie.Need-sub-rest Inv-loop μ-loop
-sub-rest c = omega (arith, (c .before .before .if3 .left))
-
--- src/places.rt:85:13
+-- src/places.rt:65:13
 turning-requires : tie.Need-turning-requires Inv-loop μ-loop
-turning-requires c κs = (omega (arith, (c .before .before .before .before .before .before .loop .inv) .3 .from), omega (arith, (c .before .before .before .before .before .before .loop .inv) .3 .squares .room, (c .before .before .before .before .before .before .loop .inv) .3 .from, (c .before .before .before .before .before .loop-test .taken), (c .before .before .before .before .before .before .loop .inv) .1), (c .before .before .before .before .before .before .loop .inv) .1, (λ d. (c .before .before .before .before .before .before .before .before .before .before .before .args .i) + d, omega (arith, (c .before .before .before .before .before .before .loop .inv) .3 .from), (c .before .before .before .before .before .before .loop .inv) .2))
+turning-requires c κs = (omega (arith, ((c .before .before .before .before .before) .loop .inv) .4 .from), omega (arith, ((c .before .before .before .before .before) .loop .inv) .4 .squares .room, ((c .before .before .before .before .before) .loop .inv) .4 .from, ((c .before .before .before .before) .loop-test .taken), ((c .before .before .before .before .before) .loop .inv) .2), ((c .before .before .before .before .before) .loop .inv) .2, (λ d. ((c .before .before .before .before .before .before .before .before .before) .args .i) + d, omega (arith, ((c .before .before .before .before .before) .loop .inv) .4 .from), ((c .before .before .before .before .before) .loop .inv) .3))
 
--- src/places.rt:87:13
+-- src/places.rt:67:13
 tail-to-requires : tie.Need-tail-to-requires Inv-loop μ-loop
-tail-to-requires c κs = ((c .before .before .before .before .before .before .before .before .loop .inv) .0, (c .before .before .before .before .before .before .before .before .loop .inv) .4, omega (arith, (c .before .before .before .before .before .before .before .before .loop .inv) .5), omega (arith, (c .before .before .before .before .before .before .before .before .loop .inv) .3 .squares .room, (c .before .before .before .before .before .before .before .before .loop .inv) .3 .from, (c .before .before .before .before .before .before .before .loop-test .taken), (c .before .before .before .before .before .before .before .before .loop .inv) .1))
+tail-to-requires c κs = (((c .before .before .before .before .before .before .before) .loop .inv) .0, ((c .before .before .before .before .before .before .before) .loop .inv) .1, ((c .before .before .before .before .before .before .before) .loop .inv) .5, omega (arith, ((c .before .before .before .before .before .before .before) .loop .inv) .6), omega (arith, ((c .before .before .before .before .before .before .before) .loop .inv) .4 .squares .room, ((c .before .before .before .before .before .before .before) .loop .inv) .4 .from, ((c .before .before .before .before .before .before) .loop-test .taken), ((c .before .before .before .before .before .before .before) .loop .inv) .2))
 
--- src/places.rt:88:26
+-- src/places.rt:68:26
 sub-e : tie.Need-sub-e Inv-loop μ-loop
-sub-e c = omega (arith, (c .before .before .before .before .before .before .before .before .before .loop .inv) .3 .from)
+sub-e c = omega (arith, ((c .before .before .before .before .before .before .before .before) .loop .inv) .4 .from)
 
--- src/places.rt:88:21
+-- src/places.rt:68:21
 add-e : tie.Need-add-e Inv-loop μ-loop
-add-e c = omega (arith, (c .before .before .before .before .before .before .before .before .before .loop .inv) .3 .squares .room, (c .before .before .before .before .before .before .before .before .before .loop .inv) .3 .from, (c .before .before .before .before .before .before .before .before .loop-test .taken), (c .before .before .before .before .before .before .before .before .before .loop .inv) .1)
+add-e c = omega (arith, ((c .before .before .before .before .before .before .before .before) .loop .inv) .4 .squares .room, ((c .before .before .before .before .before .before .before .before) .loop .inv) .4 .from, ((c .before .before .before .before .before .before .before) .loop-test .taken), ((c .before .before .before .before .before .before .before .before) .loop .inv) .2)
 
--- src/places.rt:89:39
+-- src/places.rt:69:39
 mul-union : tie.Need-mul-union Inv-loop μ-loop
-mul-union c = omega (arith, (c .before .before .before .before .before .before .before .before .before .loop .inv) .3 .squares .room, (c .before .before .before .before .before .before .before .before .before .loop .inv) .3 .from, (c .before .before .before .before .before .before .before .before .loop-test .taken), (c .before .before .before .before .before .before .before .before .before .loop .inv) .1)
+mul-union c = omega (arith, ((c .before .before .before .before .before .before .before .before) .loop .inv) .4 .squares .room, ((c .before .before .before .before .before .before .before .before) .loop .inv) .4 .from, ((c .before .before .before .before .before .before .before) .loop-test .taken), ((c .before .before .before .before .before .before .before .before) .loop .inv) .2)
 
--- src/places.rt:89:39
+-- src/places.rt:69:39
 element-copy-out-union : tie.Need-element-copy-out-union Inv-loop μ-loop
-element-copy-out-union c = omega (arith, (c .before .before .before .before .before .before .before .before .before .loop .inv) .3 .squares .room, (c .before .before .before .before .before .before .before .before .before .loop .inv) .3 .from, (c .before .before .before .before .before .before .before .before .loop-test .taken), (c .before .before .before .before .before .before .before .before .before .loop .inv) .1)
+element-copy-out-union c = omega (arith, ((c .before .before .before .before .before .before .before .before) .loop .inv) .4 .squares .room, ((c .before .before .before .before .before .before .before .before) .loop .inv) .4 .from, ((c .before .before .before .before .before .before .before) .loop-test .taken), ((c .before .before .before .before .before .before .before .before) .loop .inv) .2)
 
--- src/places.rt:89:23
+-- src/places.rt:69:23
 union-requires : tie.Need-union-requires Inv-loop μ-loop
 union-requires c κs = search needs
 
--- src/places.rt:89:13
+-- src/places.rt:69:13
 mul-sets : tie.Need-mul-sets Inv-loop μ-loop
-mul-sets c = omega (arith, (c .before .before .before .before .before .before .before .before .before .before .before .loop .inv) .3 .squares .room, (c .before .before .before .before .before .before .before .before .before .before .before .loop .inv) .3 .from, (c .before .before .before .before .before .before .before .before .before .before .loop-test .taken), (c .before .before .before .before .before .before .before .before .before .before .before .loop .inv) .1)
+mul-sets c = omega (arith, ((c .before .before .before .before .before .before .before .before .before .before) .loop .inv) .4 .squares .room, ((c .before .before .before .before .before .before .before .before .before .before) .loop .inv) .4 .from, ((c .before .before .before .before .before .before .before .before .before) .loop-test .taken), ((c .before .before .before .before .before .before .before .before .before .before) .loop .inv) .2)
 
--- src/places.rt:89:13
+-- src/places.rt:69:13
 element-write-sets : tie.Need-element-write-sets Inv-loop μ-loop
-element-write-sets c = omega (arith, (c .before .before .before .before .before .before .before .before .before .before .before .loop .inv) .3 .squares .room, (c .before .before .before .before .before .before .before .before .before .before .before .loop .inv) .3 .from, (c .before .before .before .before .before .before .before .before .before .before .loop-test .taken), (c .before .before .before .before .before .before .before .before .before .before .before .loop .inv) .1)
+element-write-sets c = omega (arith, ((c .before .before .before .before .before .before .before .before .before .before) .loop .inv) .4 .squares .room, ((c .before .before .before .before .before .before .before .before .before .before) .loop .inv) .4 .from, ((c .before .before .before .before .before .before .before .before .before) .loop-test .taken), ((c .before .before .before .before .before .before .before .before .before .before) .loop .inv) .2)
 
--- src/places.rt:90:13
-spend-requires : tie.Need-spend-requires Inv-loop μ-loop
-spend-requires c κs = tt
-
--- src/places.rt:74:5
+-- src/places.rt:58:5
 loop-less : tie.Need-loop-less Inv-loop μ-loop
-loop-less c = omega (arith, (c .before .before .before .before .before .before .before .before .before .before .before .loop-test .taken))
+loop-less c = omega (arith, ((c .before .before .before .before .before .before .before .before .before) .loop-test .taken))
 
--- src/places.rt:74:5
+-- src/places.rt:58:5
 loop-again : tie.Need-loop-again Inv-loop μ-loop
-loop-again c = ((c .before .before .before .before .before .before .before .before .before .before .before .before .loop .inv) .0, (c .before .before .before .before .before .before .before .before .before .before .before .before .loop .inv) .1, (c .before .before .before .before .before .turning .ensures) .kept _ (omega (arith, (c .before .before .before .before .before .before .before .before .before .before .before .before .loop .inv) .3 .from)) ((c .before .before .before .before .before .before .before .before .before .before .before .before .loop .inv) .2), copying-turn (graph ((c .before .before .before .before .before .before .before .before .before .before .before .before .before .before .before .before .before .args .targets) .now) ((c .before .before .before .before .before .before .before .before .before .before .before .before .before .before .before .before .before .args .numbers) .now) (c .before .before .before .before .before .before .before .before .before .before .before .before .before .before .before .before .before .args .g) (c .before .before .before .before .before .before .before .before .before .before .before .before .before .before .before .before .before .args .h)) ((c .before .before .before .before .before .before .before .before .before .before .before .before .before .before .before .before .before .args .word) .now) _ _ _ _ _ _ _ ((c .before .before .before .before .before .before .before .before .before .before .before .before .loop .inv) .3) _ _ (c .before .before .before .before .before .before .before .before .before .before .before .loop-test .taken) (c .before .before .before .before .before .before .before .advance .ensures) ((c .before .before .before .before .before .turning .ensures) .members) _ _ (tailed-at (graph ((c .before .before .before .before .before .before .before .before .before .before .before .before .before .before .before .before .before .args .targets) .now) ((c .before .before .before .before .before .before .before .before .before .before .before .before .before .before .before .before .before .args .numbers) .now) (c .before .before .before .before .before .before .before .before .before .before .before .before .before .before .before .before .before .args .g) (c .before .before .before .before .before .before .before .before .before .before .before .before .before .before .before .before .before .args .h)) _ _ _ _ _ ((c .before .before .before .tail-to .ensures) .0) ((c .before .before .before .tail-to .ensures) .1) ((c .before .before .before .tail-to .ensures) .2)) (members-is (c .before .union .ensures)) ((c .before .before .before .before .before .before .before .before .before .before .before .before .loop .inv) .1), (c .before .before .before .tail-to .ensures) .0, omega (arith, (c .before .before .before .tail-to .ensures) .2))
+loop-again c = (((c .before .before .before .before .before .before .before .before .before .before) .loop .inv) .0, ((c .before .before .before .before .before .before .before .before .before .before) .loop .inv) .1, ((c .before .before .before .before .before .before .before .before .before .before) .loop .inv) .2, ((c .before .before .before .before) .turning .ensures) .kept _ (omega (arith, ((c .before .before .before .before .before .before .before .before .before .before) .loop .inv) .4 .from)) (((c .before .before .before .before .before .before .before .before .before .before) .loop .inv) .3), copying-turn (graph (((c .before .before .before .before .before .before .before .before .before .before .before .before .before .before) .args .targets) .now) ((c .before .before .before .before .before .before .before .before .before .before .before .before .before .before) .args .states) ((c .before .before .before .before .before .before .before .before .before .before .before .before .before .before) .args .g) ((c .before .before .before .before .before .before .before .before .before .before .before .before .before .before) .args .h)) (((c .before .before .before .before .before .before .before .before .before .before .before .before .before .before) .args .word) .now) _ _ _ _ _ _ _ (((c .before .before .before .before .before .before .before .before .before .before) .loop .inv) .4) _ _ ((c .before .before .before .before .before .before .before .before .before) .loop-test .taken) ((c .before .before .before .before .before .before) .advance .ensures) (((c .before .before .before .before) .turning .ensures) .members) _ _ (tailed-at (graph (((c .before .before .before .before .before .before .before .before .before .before .before .before .before .before) .args .targets) .now) ((c .before .before .before .before .before .before .before .before .before .before .before .before .before .before) .args .states) ((c .before .before .before .before .before .before .before .before .before .before .before .before .before .before) .args .g) ((c .before .before .before .before .before .before .before .before .before .before .before .before .before .before) .args .h)) _ _ _ _ _ (((c .before .before) .tail-to .ensures) .0) (((c .before .before) .tail-to .ensures) .1) (((c .before .before) .tail-to .ensures) .2)) (members-is ((c) .union .ensures)) (((c .before .before .before .before .before .before .before .before .before .before) .loop .inv) .2), ((c .before .before) .tail-to .ensures) .0, omega (arith, ((c .before .before) .tail-to .ensures) .2))
 
--- src/places.rt:74:5
+-- src/places.rt:58:5
 loop-less-2 : tie.Need-loop-less-2 Inv-loop μ-loop
-loop-less-2 c = omega (arith, (c .before .before .before .before .before .before .before .loop-test .taken))
+loop-less-2 c = omega (arith, ((c .before .before .before .before .before .before) .loop-test .taken))
 
--- src/places.rt:74:5
+-- src/places.rt:58:5
 loop-again-2 : tie.Need-loop-again-2 Inv-loop μ-loop
-loop-again-2 c = ((c .before .before .before .before .before .before .before .before .loop .inv) .0, (c .before .before .before .before .before .before .before .before .loop .inv) .1, (c .before .turning .ensures) .kept _ (omega (arith, (c .before .before .before .before .before .before .before .before .loop .inv) .3 .from)) ((c .before .before .before .before .before .before .before .before .loop .inv) .2), copying-pass (graph ((c .before .before .before .before .before .before .before .before .before .before .before .before .before .args .targets) .now) ((c .before .before .before .before .before .before .before .before .before .before .before .before .before .args .numbers) .now) (c .before .before .before .before .before .before .before .before .before .before .before .before .before .args .g) (c .before .before .before .before .before .before .before .before .before .before .before .before .before .args .h)) ((c .before .before .before .before .before .before .before .before .before .before .before .before .before .args .word) .now) _ _ _ _ _ _ _ ((c .before .before .before .before .before .before .before .before .loop .inv) .3) _ _ (c .before .before .before .before .before .before .before .loop-test .taken) (c .before .before .before .advance .ensures) ((c .before .turning .ensures) .members) (omega (arith, (c .if4 .left))), (c .before .before .before .before .before .before .before .before .loop .inv) .4, omega (arith, (c .before .before .before .before .before .before .before .before .loop .inv) .5))
+loop-again-2 c = (((c .before .before .before .before .before .before .before) .loop .inv) .0, ((c .before .before .before .before .before .before .before) .loop .inv) .1, ((c .before .before .before .before .before .before .before) .loop .inv) .2, ((c .before) .turning .ensures) .kept _ (omega (arith, ((c .before .before .before .before .before .before .before) .loop .inv) .4 .from)) (((c .before .before .before .before .before .before .before) .loop .inv) .3), copying-pass (graph (((c .before .before .before .before .before .before .before .before .before .before .before) .args .targets) .now) ((c .before .before .before .before .before .before .before .before .before .before .before) .args .states) ((c .before .before .before .before .before .before .before .before .before .before .before) .args .g) ((c .before .before .before .before .before .before .before .before .before .before .before) .args .h)) (((c .before .before .before .before .before .before .before .before .before .before .before) .args .word) .now) _ _ _ _ _ _ _ (((c .before .before .before .before .before .before .before) .loop .inv) .4) _ _ ((c .before .before .before .before .before .before) .loop-test .taken) ((c .before .before .before) .advance .ensures) (((c .before) .turning .ensures) .members) (omega (arith, ((c) .if2 .left))), ((c .before .before .before .before .before .before .before) .loop .inv) .5, omega (arith, ((c .before .before .before .before .before .before .before) .loop .inv) .6))
 
--- src/places.rt:45:1
-returns-4 : tie.Need-returns-4 Inv-loop μ-loop
-returns-4 c = ((c .before .loop .inv) .2, (c .before .loop .inv) .3 .fitting, λ l. copying-end (graph ((c .before .before .before .before .before .before .args .targets) .now) ((c .before .before .before .before .before .before .args .numbers) .now) (c .before .before .before .before .before .before .args .g) (c .before .before .before .before .before .before .args .h)) _ _ _ _ _ _ _ _ ((c .before .loop .inv) .3) (c .loop-test .left))
+-- src/places.rt:35:1
+returns-2 : tie.Need-returns-2 Inv-loop μ-loop
+returns-2 c = (((c .before) .loop .inv) .3, ((c .before) .loop .inv) .4 .fitting, copying-end (graph (((c .before .before .before .before .before) .args .targets) .now) ((c .before .before .before .before .before) .args .states) ((c .before .before .before .before .before) .args .g) ((c .before .before .before .before .before) .args .h)) _ _ _ _ _ _ _ _ (((c .before) .loop .inv) .4) ((c) .loop-test .left))
 
 pub copies-from-spec : {M : Type 1} → statement M
 copies-from-spec =
@@ -122,16 +109,12 @@ copies-from-spec =
     (tie.spec
     Inv-loop
     μ-loop
-    sub-if1
-    returns
     close-set-requires
     loop-holds
-    returns-2
-    returns-3
+    returns
     shared-slice-read-x
     advance-requires
     add-j
-    sub-rest
     turning-requires
     tail-to-requires
     sub-e
@@ -141,9 +124,8 @@ copies-from-spec =
     union-requires
     mul-sets
     element-write-sets
-    spend-requires
     loop-less
     loop-again
     loop-less-2
     loop-again-2
-    returns-4)
+    returns-2)

@@ -1,6 +1,5 @@
--- `decide::places::reach_all` meets its contract. Assumes nothing.
 use native.Mathlib.Omega.{arith}
-use Rattle.decide.specs.Reach.{Stage}
+use Rattle.decide.specs.Reach.{Rooms, Stage}
 use Rattle.decide.specs.Squares.{Ends}
 use Rattle.images.specs.Graph.{graph, Good, Fitting}
 use lib.ListN.{length}
@@ -9,33 +8,41 @@ use Rattle.decide.proofs.StageCases.{stage-turn, stage-to}
 use Rattle.decide.proofs.SquareCases.{ends-start, ends-later}
 use Rattle.decide.proofs.places.reach_all.Statement.{statement}
 use Rattle.decide.proofs.places.reach_all.Tie as tie
+use Rattle.decide.proofs.places.reach_all.Reads as reads
+use Rattle.decide.proofs.places.reach_all.Lts as lts
+use Rattle.decide.proofs.places.pass_place.Reads as pass-place-reads
 
 abbrev Inv-loop : tie.InvT-loop
-Inv-loop targets numbers g h word sets₀ allowed left₀ ends₀ i₀ sets left ends i = Good targets numbers × (length word ≤ 255) × (i ≤ length word + 1) × Ends word ends (λ d. i + d) × Fitting 256 sets × (0 < left → (q : ℕ) → Stage (graph targets numbers g h) word q sets₀ 0 → Stage (graph targets numbers g h) word q sets i)
+Inv-loop targets states g h word sets₀ ends₀ i₀ sets ends i = Good targets states × Rooms targets states word × (length word ≤ 255) × (i ≤ length word + 1) × Ends word ends (λ d. i + d) × Fitting 256 sets × ((q : ℕ) → Stage (graph targets states g h) word q sets₀ 0 → Stage (graph targets states g h) word q sets i)
 
 abbrev μ-loop : tie.MeasureT-loop
-μ-loop targets numbers g h word sets₀ allowed left₀ ends₀ i₀ sets left ends i = length word + 1 - i
+μ-loop targets states g h word sets₀ ends₀ i₀ sets ends i = length word + 1 - i
 
+-- src/places.rt:150:5
 loop-holds : tie.Need-loop-holds Inv-loop μ-loop
-loop-holds c = ((c .before .before .pre) .0, (c .before .before .pre) .1, omega arith, ends-start _ _ (λ d far. omega arith), (c .before .before .pre) .2, λ l q s. s)
+loop-holds c = (((c .before .before) .pre) .0, ((c .before .before) .pre) .1, ((c .before .before) .pre) .2, omega arith, ends-start _ _ (λ d far. omega arith), ((c .before .before) .pre) .3, λ q s. s)
 
-returns : tie.Need-returns Inv-loop μ-loop
-returns c = λ (l : 0 < 0). absurd (omega arith)
-
+-- src/places.rt:151:9
 pass-place-requires : tie.Need-pass-place-requires Inv-loop μ-loop
-pass-place-requires c κs = ((c .before .before .before .before .loop .inv) .0, omega arith, (c .before .before .before .before .loop .inv) .1, (c .before .before .before .before .loop .inv) .3, (c .before .before .before .before .loop .inv) .4)
+pass-place-requires c κs = (((c .before .before .before) .loop .inv) .0, ((c .before .before .before) .loop .inv) .1, omega arith, ((c .before .before .before) .loop .inv) .2, ((c .before .before .before) .loop .inv) .4, ((c .before .before .before) .loop .inv) .5)
 
+-- src/places.rt:152:9
 add-i : tie.Need-add-i Inv-loop μ-loop
 add-i c = omega arith
 
+-- src/places.rt:150:5
 loop-less : tie.Need-loop-less Inv-loop μ-loop
 loop-less c = omega arith
 
+-- src/places.rt:150:5
 loop-again : tie.Need-loop-again Inv-loop μ-loop
-loop-again c = ((c .before .before .before .before .before .loop .inv) .0, (c .before .before .before .before .before .loop .inv) .1, omega arith, ends-later _ _ _ _ (λ d. omega arith) ((c .pass-place .ensures) .0), (c .pass-place .ensures) .1, λ l q s. stage-turn (graph ((c .before .before .before .before .before .before .before .before .args .targets) .now) ((c .before .before .before .before .before .before .before .before .args .numbers) .now) (c .before .before .before .before .before .before .before .before .args .g) (c .before .before .before .before .before .before .before .before .args .h)) ((c .before .before .before .before .before .before .before .before .args .word) .now) q (c .before .before .before .before .before .loop .sets) _ (c .before .before .before .before .before .loop .i) ((c .before .before .before .before .before .loop .inv) .5 (omega arith) q s) ((c .pass-place .ensures) .2 l) (omega arith) ((c .before .before .before .before .before .loop .inv) .1))
+loop-again c = (((c .before .before .before .before) .loop .inv) .0, ((c .before .before .before .before) .loop .inv) .1, ((c .before .before .before .before) .loop .inv) .2, omega arith, ends-later _ _ _ _ (λ d. omega arith) (((c) .pass-place .ensures) .0), ((c) .pass-place .ensures) .1, λ q s. stage-turn (graph (((c .before .before .before .before .before .before .before) .args .targets) .now) ((c .before .before .before .before .before .before .before) .args .states) ((c .before .before .before .before .before .before .before) .args .g) ((c .before .before .before .before .before .before .before) .args .h)) (((c .before .before .before .before .before .before .before) .args .word) .now) q ((c .before .before .before .before) .loop .sets) _ ((c .before .before .before .before) .loop .i) (((c .before .before .before .before) .loop .inv) .6 q s) (((c) .pass-place .ensures) .2) (omega arith) (((c .before .before .before .before) .loop .inv) .2))
 
-returns-2 : tie.Need-returns-2 Inv-loop μ-loop
-returns-2 c = λ l q s. stage-to (graph ((c .before .before .before .before .args .targets) .now) ((c .before .before .before .before .args .numbers) .now) (c .before .before .before .before .args .g) (c .before .before .before .before .args .h)) ((c .before .before .before .before .args .word) .now) q _ _ _ (omega arith) ((c .before .loop .inv) .5 l q s)
+-- src/places.rt:136:1
+returns : tie.Need-returns Inv-loop μ-loop
+returns c = λ q s. stage-to (graph (((c .before .before .before .before) .args .targets) .now) ((c .before .before .before .before) .args .states) ((c .before .before .before .before) .args .g) ((c .before .before .before .before) .args .h)) (((c .before .before .before .before) .args .word) .now) q _ _ _ (omega arith) (((c .before) .loop .inv) .6 q s)
 
 pub reach-all-spec : {M : Type 1} → statement M
-reach-all-spec = tie.close (tie.spec Inv-loop μ-loop loop-holds returns pass-place-requires add-i loop-less loop-again returns-2)
+reach-all-spec =
+    tie.close
+    (tie.spec Inv-loop μ-loop loop-holds pass-place-requires add-i loop-less loop-again returns)

@@ -1,0 +1,27 @@
+use mathlib.Core.Path.{sym, subst}
+use Prim.Native.Nat.{ℕ, _<_}
+use Rattle.adjacency.specs.Index.Laws.{sorted}
+use Rattle.targets.specs.Prepared.Laws.{made-whole}
+use native.Mathlib.Omega.{arith}
+use lib.ListN.{getD-replicate}
+use borrow.Author.Needs.{needs}
+use Rattle.targets.proofs.prepare.Statement.{statement}
+use Rattle.targets.proofs.prepare.Tie as tie
+use Rattle.targets.proofs.prepare.Reads as reads
+use Rattle.targets.proofs.prepare.Lts as lts
+use Rattle.targets.proofs.fill.Reads as fill-reads
+
+-- src/lib.rt:125:5
+fill-requires : tie.Need-fill-requires
+fill-requires c κs = search needs
+
+-- src/lib.rt:120:1
+same-length : tie.Need-same-length
+same-length c = search needs
+
+-- src/lib.rt:120:1
+returns : tie.Need-returns
+returns c = made-whole ((c .before .before .before .before .before .before .before) .args .m) _ _ _ ((c .before .before) .fill .ensures) (λ x le. subst (λ (n : ℕ). 0 < n) (sym (getD-replicate 256 x 1 0 (omega (arith, sorted ((c .before .before .before .before .before .before .before) .args .m) (((c .before .before .before .before .before .before .before) .args .list) .now) (((c .before .before .before .before .before .before .before) .pre) .0) .letters-fit)))) (omega arith))
+
+pub prepare-spec : {M : Type 1} → statement M
+prepare-spec = tie.close (tie.spec fill-requires same-length returns)
