@@ -24,7 +24,6 @@ use Rattle.fsbm.specs.declared.config.Mode.{Mode}
 use Rattle.fsbm.specs.declared.config.Mode.the-variants.{Normal, Buffering, Emptying}
 use Rattle.fsbm.specs.Moves.Laws.{advanced-fits}
 use Rattle.language.specs.Strings.{drop-reads, slice-reads, slice-grows, slice-none}
-
 use Rattle.images.specs.Graph.{Star, here, more, Graph, graph, Edge, Free, Advance}
 use Rattle.decide.specs.Reach.{Walk, still, reads, Matches, Reach, begins, passes, moves, copies}
 use Rattle.decide.proofs.CopyCases.{walk-forward}

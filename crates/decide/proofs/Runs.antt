@@ -22,7 +22,6 @@ use Rattle.fsbm.specs.declared.machine.Machine.{Machine}
 use Rattle.fsbm.specs.declared.config.Mode.{Mode}
 use Rattle.fsbm.specs.declared.config.Mode.the-variants.{Normal, Buffering, Emptying}
 use Rattle.language.specs.Strings.{reads-drop, reads-slice, slice-grows}
-
 use Rattle.images.specs.Graph.{Star, here, more, Graph, graph, Edge, Free, Advance}
 use Rattle.decide.specs.Reach.{Walk, still, reads, Matches, Reach, begins, passes, moves, copies}
 use Rattle.decide.proofs.CopyCases.{walk-forward, walk-matching}

@@ -106,18 +106,7 @@ fn pass_place(
     if last <= i {
         return;
     }
-    copies_from(
-        targets,
-        states,
-        g,
-        h,
-        word,
-        ends,
-        sets,
-        i,
-        starts,
-        last,
-    );
+    copies_from(targets, states, g, h, word, ends, sets, i, starts, last);
 }
 
 // The sets at the start of a word: the initial states at place 0.
@@ -133,14 +122,7 @@ fn start_at(initial: u64) -> Reached
 }
 
 // Completes the sets of all places of a word, from those at its start.
-fn reach_all(
-    targets: &[u64],
-    states: usize,
-    g: u64,
-    h: u64,
-    word: &[u8],
-    sets: &mut [u64; 256],
-)
+fn reach_all(targets: &[u64], states: usize, g: u64, h: u64, word: &[u8], sets: &mut [u64; 256])
     requires { ⌜ Good (now targets) states × Rooms (now targets) states (now word) × (length (now word) ≤ 255) × Fitting 256 (now sets) ⌝ }
     ensures { λ r. ⌜ ((q : ℕ) → Stage (graph (now (targets .entry)) states g h) (now (word .entry)) q (now (sets .entry)) 0
         → Stage (graph (now (targets .entry)) states g h) (now (word .entry)) q (now (sets .exit)) (length (now (word .entry)) + 1)) ⌝ }

@@ -129,15 +129,7 @@ fn step_emptying(targets: &[u64], row: usize, states: usize, g: u64, h: u64, set
 }
 
 // The image of a set under the moves that read x in a mode. Time: the members of the set, each once.
-pub fn step_set(
-    targets: &[u64],
-    states: usize,
-    g: u64,
-    h: u64,
-    mode: Mode,
-    set: u64,
-    x: u8,
-) -> u64
+pub fn step_set(targets: &[u64], states: usize, g: u64, h: u64, mode: Mode, set: u64, x: u8) -> u64
     requires { ⌜ Good (now targets) states × Room (now targets) states x ⌝ }
     ensures { λ r. ⌜ Members r (From set (Edge (graph (now (targets .entry)) states g h) mode x)) ⌝ }
 {
@@ -179,15 +171,7 @@ pub fn close_set(targets: &[u64], states: usize, g: u64, h: u64, mode: Mode, set
 }
 
 // The image of a set under the moves that read the letter x of a word in a mode; no move reads letter 0.
-pub fn read_set(
-    targets: &[u64],
-    states: usize,
-    g: u64,
-    h: u64,
-    mode: Mode,
-    set: u64,
-    x: u8,
-) -> u64
+pub fn read_set(targets: &[u64], states: usize, g: u64, h: u64, mode: Mode, set: u64, x: u8) -> u64
     requires { ⌜ Good (now targets) states × Room (now targets) states x ⌝ }
     ensures { λ r. ⌜ Members r (λ q. (0 < x) × From set (Edge (graph (now (targets .entry)) states g h) mode x) q) ⌝ }
 {
@@ -198,15 +182,7 @@ pub fn read_set(
 }
 
 // The states that a set reaches by a move that reads the letter x of a word and epsilon moves after it.
-pub fn advance(
-    targets: &[u64],
-    states: usize,
-    g: u64,
-    h: u64,
-    mode: Mode,
-    set: u64,
-    x: u8,
-) -> u64
+pub fn advance(targets: &[u64], states: usize, g: u64, h: u64, mode: Mode, set: u64, x: u8) -> u64
     requires { ⌜ Good (now targets) states × Room (now targets) states x ⌝ }
     ensures { λ r. ⌜ Members r (From set (Advance (graph (now (targets .entry)) states g h) mode x)) ⌝ }
 {

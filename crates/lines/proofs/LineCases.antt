@@ -5,26 +5,29 @@
 -- set-put                          == one byte stored behind bytes that were put
 -- line-written, line-length        == a printed line, written in parts
 -- short-line                       == a line that is not refused is short
+-- line-lettered                    == the letters of such a line are the machine's
 -- answer-refused, answer-decided   == the ways through answer_line
-use Prim.Native.Nat.{ℕ, suc, _+_, _-_, _/_, _%_, _≤_, _<_}
+use Prim.Native.Nat.{ℕ, zero, suc, _+_, _-_, _/_, _%_, _≤_, _<_}
 use mathlib.Core.Path.{_≡_, refl, sym, _∙_, ap}
 use mathlib.Core.Bool.{Bool, true, false, not, cond, _&&_, and-comm, true≢false}
+use mathlib.Core.Logic.{_⊎_, inl, inr}
 use mathlib.Core.List.{List, [], _∷_, _++_, append-assoc}
 use native.Mathlib.Omega.{arith}
 use native.Mathlib.Numerals.{add-one}
-use lib.ListN.{length, getD, take, drop, set, length-set, length-append, length-drop}
-use lib.Seq.{take-suc-set, drop-append-add, take-at, set-at, drop-drop, drop-cons, length-take-le}
+use lib.ListN.{length, getD, take, drop, set, length-set, length-append, length-drop, List·getD-append}
+use lib.Seq.{take-suc-set, drop-append-add, take-at, set-at, drop-drop, drop-cons, length-take-le, getD-at}
 use native.Mathlib.Nat.{add-assoc}
-use lib.Dec.{eqb}
-use native.Mathlib.Decide.{decLe}
-use borrow.Author.Tests.{le-leb, lt-leb, eq-eqb, ne-eqb}
+use lib.Dec.{eqb, leb}
+use native.Mathlib.Decide.{decLe, decLt, ℕ-discrete}
+use borrow.Author.Tests.{le-leb, lt-leb, leb-true, eq-eqb, ne-eqb}
 use Rattle.graphs.specs.Search.{allBelow}
-use Rattle.graphs.specs.Search.Laws.{allBelow-false, and-true, and-both-true}
+use Rattle.graphs.specs.Search.Laws.{allBelow-true, allBelow-false, and-true, and-both-true, true-or-false}
 use Rattle.graphs.specs.Search.Loops.{pass, stop, first, second}
 use Rattle.columns.specs.Column.{noNumber, columnOf, put}
 use Rattle.columns.specs.Column.Laws.{column-length, put-put}
 use Rattle.fsbm.specs.Answers.{goodLetter}
 use Rattle.fsbm.specs.Accepted.{accepted}
+use Rattle.targets.specs.Prepared.{Lettered}
 use Rattle.fsbm.specs.declared.machine.Machine.{Machine}
 use Rattle.lines.specs.declared.Answer.{Answer}
 use Rattle.lines.specs.Line.{letterAt, tabulate, wordOf, holdsNumber, holdsLetter, lineRefusal, lineAnswer, answerLine, Stored, WordRead}
@@ -196,6 +199,55 @@ short-line letters line e = at (decLe (length line) 800)
     at : Dec (length line ≤ 800) → length line ≤ 800
     at (yes h) = h
     at (no h) = absurd (let d = e ∙ sym (refused-long letters line (omega arith)) in omega arith)
+
+-- the letters of a line that is not refused are the machine's
+tabulate-length : (n : ℕ) (f : ℕ → ℕ) → length (tabulate n f) ≡ n
+unfolding tabulate
+tabulate-length zero f = refl
+tabulate-length (suc n) f = length-append (tabulate n f) (f n ∷ []) ∙ (let z = tabulate-length n f in omega arith)
+
+tabulate-at : (n : ℕ) (f : ℕ → ℕ) (k : ℕ) → k < n → getD (tabulate n f) k 0 ≡ f k
+unfolding tabulate
+tabulate-at zero f k lt = absurd (omega arith)
+tabulate-at (suc n) f k lt = at (decLt k n) (tabulate-at n f k)
+  where
+    at : Dec (k < n) → (k < n → getD (tabulate n f) k 0 ≡ f k) → getD (tabulate n f ++ (f n ∷ [])) k 0 ≡ f k
+    at (yes l) before = List·getD-append (tabulate n f) (f n ∷ []) 0 k (let z = tabulate-length n f in omega arith) ∙ before l
+    at (no l) before =
+        let e : k ≡ n = omega arith in
+        getD-at (tabulate n f) (f n) [] 0 k (tabulate-length n f ∙ sym e) ∙ ap f (sym e)
+
+module _ (letters : ℕ) (line : List ℕ) (taken : 0 ≡ lineRefusal letters line) where
+  whole-columns : length line % 5 ≡ 0
+  whole-columns = at (ℕ-discrete (length line % 5) 0)
+    where
+      at : Dec (length line % 5 ≡ 0) → length line % 5 ≡ 0
+      at (yes z) = z
+      at (no n) = let d = taken ∙ sym (refused-part letters line (short-line letters line taken) n) in absurd (omega arith)
+
+  numbers-held : allBelow (length line / 5) (holdsNumber line) ≡ true
+  numbers-held = at (true-or-false (allBelow (length line / 5) (holdsNumber line)))
+    where
+      at : (allBelow (length line / 5) (holdsNumber line) ≡ true) ⊎ (allBelow (length line / 5) (holdsNumber line) ≡ false) → allBelow (length line / 5) (holdsNumber line) ≡ true
+      at (inl t) = t
+      at (inr f) = let d = taken ∙ sym (refused-column letters line (short-line letters line taken) whole-columns f) in absurd (omega arith)
+
+  letters-held : allBelow (length line / 5) (holdsLetter letters line) ≡ true
+  letters-held = at (true-or-false (allBelow (length line / 5) (holdsLetter letters line)))
+    where
+      at : (allBelow (length line / 5) (holdsLetter letters line) ≡ true) ⊎ (allBelow (length line / 5) (holdsLetter letters line) ≡ false) → allBelow (length line / 5) (holdsLetter letters line) ≡ true
+      at (inl t) = t
+      at (inr f) = let d = taken ∙ sym (refused-letter letters line (short-line letters line taken) whole-columns numbers-held f) in absurd (omega arith)
+
+  pub line-lettered : (word : List ℕ) → word ≡ wordOf line → Lettered letters word
+  unfolding wordOf
+  line-lettered word e i lt =
+      let size = ap length e ∙ tabulate-length (length line / 5) (letterAt line) in
+      let inside : i < length line / 5 = omega arith in
+      let at = ap (λ (l : List ℕ). getD l i 0) e ∙ tabulate-at (length line / 5) (letterAt line) i inside in
+      let good = allBelow-true (holdsLetter letters line) (length line / 5) .0 letters-held i inside in
+      let few = leb-true (letterAt line i) letters (and-true (leb 1 (letterAt line i)) (leb (letterAt line i) letters) good .1) in
+      omega arith
 
 -- the ways through answer_line
 module _ (m : Machine) (list line : List ℕ) (r : ℕ) (word : List ℕ) (read : WordRead (m .letters) line r word) where

@@ -6,6 +6,7 @@
 -- lineRefusal letters line == the refusal of a word's line, or 0
 -- lineAnswer m list line   == what is printed for a word: 1 yes, 0 no, 2 turned down, and the refusal
 -- answerLine n a r         == the printed line of word number n
+-- Ready m list targets kinds == a table that obeys the rules, prepared for every word of its letters, and its kinds of states
 use Prim.Native.Nat.{ℕ, zero, suc, _+_, _*_, _/_, _%_}
 use mathlib.Core.Path.{_≡_}
 use mathlib.Core.List.{List, [], _∷_, _++_}
@@ -14,9 +15,13 @@ use lib.ListN.{length, take, drop, set}
 use lib.Dec.{leb, eqb}
 use Rattle.graphs.specs.Search.{allBelow}
 use Rattle.columns.specs.Column.{columnNumber, noNumber, columnOf}
+use Rattle.fsbm.specs.Machine.{wellFormed}
 use Rattle.fsbm.specs.Answers.{goodLetter}
 use Rattle.fsbm.specs.Accepted.{accepted}
 use Rattle.fsbm.specs.declared.machine.Machine.{Machine}
+use Rattle.targets.specs.Prepared.{Whole}
+use Rattle.images.specs.Graph.{KindsOf}
+use Rattle.images.specs.declared.Kinds.{Kinds}
 use Rattle.lines.specs.declared.Answer.{Answer}
 
 -- the most bytes of a line
@@ -73,3 +78,9 @@ pub record Stored (letters v k : ℕ) (r : Bool) (before after : List ℕ) : Typ
   pub is-letter : r ≡ goodLetter letters v
   pub stored : r ≡ true → after ≡ set before k v
   pub kept : length after ≡ length before
+
+-- what a table is made ready for once, before its words are answered
+pub record Ready (m : Machine) (list targets : List ℕ) (kinds : Kinds) : Type 0 where
+  pub good : wellFormed m list ≡ true
+  pub prepared : Whole m list targets
+  pub sets : KindsOf (m .marks) (m .states) kinds

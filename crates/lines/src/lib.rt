@@ -8,9 +8,10 @@ ghost use mathlib.Core.Path.{_≡_};
 ghost use mathlib.Core.Bool.{true, _&&_};
 ghost use lib.ListN.{length};
 ghost use Rattle.columns.specs.Column.{put};
-ghost use Rattle.fsbm.specs.Machine.{wellFormed};
-ghost use Rattle.lines.specs.Line.{WordRead, Stored, lineAnswer, answerLine};
+ghost use Rattle.lines.specs.Line.{WordRead, Stored, lineAnswer, answerLine, Ready};
+use decide::places;
 use fsbm::machine::Machine;
+use images::Kinds;
 
 // The most bytes of a word's line: 160 letters in columns of five.
 pub const LONGEST: usize = 800;
@@ -83,11 +84,11 @@ pub fn write_line(out: &mut [u8], at: usize, number: usize, a: Answer)
     out[at + 15] = 10;
 }
 
-// What is printed for a word's line, on a table that obeys the rules (the sheet reader answers no other): 2 and the refusal's number, in
-// the order 9, 2, 8, or 1 or 0 for a word that the table accepts or not.
-// Time: the line once, and the time of the decision. Memory: 160 bytes.
-pub fn answer_line(m: Machine, list: &[u16], line: &[u8]) -> Answer
-    requires { ⌜ wellFormed m (now list) ≡ true ⌝ }
+// What is printed for a word's line, on a table that obeys the rules (the sheet reader answers no other) and was prepared for all its
+// words: 2 and the refusal's number, in the order 9, 2, 8, or 1 or 0 for a word that the table accepts or not.
+// Time: the line once, and the time of the decision. Memory: 160 bytes, and that of the decision.
+pub fn answer_line(m: Machine, list: &[u16], targets: &[u64], kinds: Kinds, line: &[u8]) -> Answer
+    requires { ⌜ Ready m (now list) (now targets) kinds ⌝ }
     ensures { λ r. ⌜ r ≡ lineAnswer m (now (list .entry)) (now (line .entry)) ⌝ }
 {
     let mut word = [0u8; 160];
@@ -96,7 +97,8 @@ pub fn answer_line(m: Machine, list: &[u16], line: &[u8]) -> Answer
         return Answer { answer: 2, refusal };
     }
     let n = line.len() / 5;
-    if decide::words::is_accepted(m, list, &word[..n]) {
+    let reached = places::decide(m, list, targets, kinds, &word[..n]);
+    if reached.accepted {
         return Answer {
             answer: 1,
             refusal: 0,

@@ -6,15 +6,17 @@
 // What is printed is decided in crate stream; here a piece of the input is read, handed on, and its output written. Each write goes by
 // a function that asks for the bytes of the definition, and takes what these are defined from beside them.
 //
-// Memory: two buffers of 64 KB, one of 4 KB, a line and the table, whatever comes in.
-ghost use Prim.Native.Nat.{_≤_};
+// Memory: two buffers of 64 KB, one of 4 KB, a line, the table and what it is prepared to (128 KB), whatever comes in.
+ghost use Prim.Native.Nat.{ℕ, _≤_};
 ghost use mathlib.Core.Path.{_≡_};
 ghost use mathlib.Core.Bool.{true, false};
-ghost use lib.ListN.{length};
+ghost use lib.ListN.{length, getD};
 ghost use Rattle.fsbm.specs.Machine.{wellFormed};
+ghost use Rattle.lines.specs.Line.{Ready};
 ghost use Rattle.stream.specs.Pieces.{mostKept, opening};
 ghost use Rattle.listing.specs.Output.{ReadFrom, HeldAfter, NextBytes, LastBytes, Buffers, PieceListed, done};
 use fsbm::machine::Machine;
+use images::Kinds;
 use libc::STDIN_FILENO;
 use libc::STDOUT_FILENO;
 use stream::Held;
@@ -52,12 +54,14 @@ fn list_piece(
     sheet: &[u8],
     m: Machine,
     list: &[u16],
+    targets: &[u64],
+    kinds: Kinds,
     input: &mut [u8],
     line: &mut [u8],
     out: &mut [u8],
     t: Turn,
 ) -> Turn
-    requires { ⌜ wellFormed m (now list) ≡ true ⌝ }
+    requires { ⌜ Ready m (now list) (now targets) kinds ⌝ }
     requires { ⌜ ReadFrom (now sheet) m (now list) ⌝ }
     requires { ⌜ Buffers (now input) (now line) (now out) (t .held) ⌝ }
     requires { ⌜ HeldAfter (now line) (t .held) ⌝ }
@@ -67,7 +71,7 @@ fn list_piece(
     let held = t.held;
     let got = libc::read(STDIN_FILENO, input);
     let count = io::count(got, input);
-    let taken = stream::take_piece(m, list, &input[..count], line, out, held);
+    let taken = stream::take_piece(m, list, targets, kinds, &input[..count], line, out, held);
     let used = taken.used;
     let after = taken.held;
     let written = write_piece(sheet, &input[..count], &out[..used]);
@@ -98,11 +102,13 @@ fn take_input(
     sheet: &[u8],
     m: Machine,
     list: &[u16],
+    targets: &[u64],
+    kinds: Kinds,
     input: &mut [u8],
     line: &mut [u8],
     out: &mut [u8],
 ) -> Turn
-    requires { ⌜ wellFormed m (now list) ≡ true ⌝ }
+    requires { ⌜ Ready m (now list) (now targets) kinds ⌝ }
     requires { ⌜ ReadFrom (now sheet) m (now list) ⌝ }
     requires { ⌜ Buffers (now input) (now line) (now out) (record { kept = 0; words = 0 }) ⌝ }
     ensures { λ r. ⌜ HeldAfter (now (line .exit)) (r .held) × (r .held .kept ≤ mostKept) × (done r ≡ true) ⌝ }
@@ -114,7 +120,7 @@ fn take_input(
     };
     let mut turns = u64::MAX;
     while 0 < turns {
-        t = list_piece(sheet, m, list, input, line, out, t);
+        t = list_piece(sheet, m, list, targets, kinds, input, line, out, t);
         if is_done(t) {
             return t;
         }
@@ -129,8 +135,17 @@ fn take_input(
 }
 
 // Lists the last line, unless the output is closed.
-fn end_input(sheet: &[u8], m: Machine, list: &[u16], line: &[u8], out: &mut [u8], t: Turn)
-    requires { ⌜ wellFormed m (now list) ≡ true ⌝ }
+fn end_input(
+    sheet: &[u8],
+    m: Machine,
+    list: &[u16],
+    targets: &[u64],
+    kinds: Kinds,
+    line: &[u8],
+    out: &mut [u8],
+    t: Turn,
+)
+    requires { ⌜ Ready m (now list) (now targets) kinds ⌝ }
     requires { ⌜ ReadFrom (now sheet) m (now list) ⌝ }
     requires { ⌜ HeldAfter (now line) (t .held) × (t .held .kept ≤ length (now line)) × (16 ≤ length (now out)) × (done t ≡ true) ⌝ }
 {
@@ -138,20 +153,20 @@ fn end_input(sheet: &[u8], m: Machine, list: &[u16], line: &[u8], out: &mut [u8]
         return;
     }
     let held = t.held;
-    let used = stream::finish(m, list, line, out, held);
+    let used = stream::finish(m, list, targets, kinds, line, out, held);
     write_end(sheet, line, t, &out[..used]);
 }
 
 // Lists the words of standard input over a table.
-fn list_words(sheet: &[u8], m: Machine, list: &[u16], out: &mut [u8])
-    requires { ⌜ wellFormed m (now list) ≡ true ⌝ }
+fn list_words(sheet: &[u8], m: Machine, list: &[u16], targets: &[u64], kinds: Kinds, out: &mut [u8])
+    requires { ⌜ Ready m (now list) (now targets) kinds ⌝ }
     requires { ⌜ ReadFrom (now sheet) m (now list) ⌝ }
     requires { ⌜ 65536 ≤ length (now out) ⌝ }
 {
     let mut input = io::buffer();
     let mut line = line_buffer();
-    let t = take_input(sheet, m, list, &mut input, &mut line, out);
-    end_input(sheet, m, list, &line, out, t);
+    let t = take_input(sheet, m, list, targets, kinds, &mut input, &mut line, out);
+    end_input(sheet, m, list, targets, kinds, &line, out, t);
 }
 
 // Room for a line and one byte more.
@@ -168,6 +183,25 @@ fn transition_buffer() -> [u16; 12000]
     [0; 12000]
 }
 
+// Room for the sets of the largest prepared table.
+fn target_buffer() -> [u64; 16065]
+    ensures { λ r. ⌜ (16065 ≡ length r) × ((i : ℕ) → getD r i 0 ≡ 0) ⌝ }
+{
+    [0; 16065]
+}
+
+// Prepares the table once, and lists the words of standard input over it.
+fn list_prepared(sheet: &[u8], m: Machine, list: &[u16], out: &mut [u8])
+    requires { ⌜ wellFormed m (now list) ≡ true ⌝ }
+    requires { ⌜ ReadFrom (now sheet) m (now list) ⌝ }
+    requires { ⌜ 65536 ≤ length (now out) ⌝ }
+{
+    let mut targets = target_buffer();
+    targets::prepare(m, list, &mut targets);
+    let kinds = images::kinds_of(&m.marks, m.states);
+    list_words(sheet, m, list, &targets, kinds, out);
+}
+
 // Prints the listing of a sheet and standard input.
 fn list_sheet(sheet: &[u8]) {
     let mut list = transition_buffer();
@@ -181,7 +215,7 @@ fn list_sheet(sheet: &[u8]) {
         return;
     }
     let machine = opened.machine;
-    list_words(sheet, machine, &list, &mut out);
+    list_prepared(sheet, machine, &list, &mut out);
 }
 
 // Reads the file table.txt, as much of it as is longer than any sheet, and answers how many bytes came; 0 where it cannot be opened.

@@ -12,12 +12,13 @@ ghost use mathlib.Core.Bool.{true};
 ghost use lib.Dec.{leb};
 ghost use lib.ListN.{length, take};
 ghost use Rattle.columns.specs.Column.{put};
-ghost use Rattle.fsbm.specs.Machine.{wellFormed};
+ghost use Rattle.lines.specs.Line.{Ready};
 ghost use Rattle.sheet.specs.Reading.{readList};
 ghost use Rattle.stream.specs.Listing.{wordLine, header, refusedSheet, mostWords};
 ghost use Rattle.stream.specs.Pieces.{mostKept, opening, endPrints};
 ghost use Rattle.stream.specs.Calls.{pendingOf, ended, openAnswer, Lent, ByteKept, ByteTaken, PieceTaken};
 use fsbm::machine::Machine;
+use images::Kinds;
 
 // The most words that are listed.
 pub const MOST_WORDS: usize = 99999;
@@ -114,15 +115,23 @@ pub fn is_full(held: Held) -> bool
 }
 
 // Prints the word in the kept bytes of a line behind the output so far.
-fn end_line(m: Machine, list: &[u16], line: &[u8], out: &mut [u8], p: Taken) -> Taken
-    requires { ⌜ wellFormed m (now list) ≡ true ⌝ }
+fn end_line(
+    m: Machine,
+    list: &[u16],
+    targets: &[u64],
+    kinds: Kinds,
+    line: &[u8],
+    out: &mut [u8],
+    p: Taken,
+) -> Taken
+    requires { ⌜ Ready m (now list) (now targets) kinds ⌝ }
     requires { ⌜ (p .held .kept ≤ length (now line)) × (p .held .words < mostWords) × (p .used + 16 ≤ length (now out)) ⌝ }
     ensures { λ r. ⌜ (r ≡ ended p) × (now (out .exit) ≡ put (p .used) (now (out .entry)) (wordLine m (now (list .entry)) (p .held .words + 1) (take (p .held .kept) (now (line .entry))))) ⌝ }
 {
     let kept = p.held.kept;
     let words = p.held.words + 1;
     let used = p.used;
-    let answer = lines::answer_line(m, list, &line[..kept]);
+    let answer = lines::answer_line(m, list, targets, kinds, &line[..kept]);
     lines::write_line(out, used, words, answer);
     Taken {
         held: Held { kept: 0, words },
@@ -143,8 +152,17 @@ fn keep(line: &mut [u8], kept: usize, b: u8) -> usize
 }
 
 // One byte of input: the end of a line, or one byte more of it; nothing after the last word.
-fn take_byte(m: Machine, list: &[u16], b: u8, line: &mut [u8], out: &mut [u8], p: Taken) -> Taken
-    requires { ⌜ wellFormed m (now list) ≡ true ⌝ }
+fn take_byte(
+    m: Machine,
+    list: &[u16],
+    targets: &[u64],
+    kinds: Kinds,
+    b: u8,
+    line: &mut [u8],
+    out: &mut [u8],
+    p: Taken,
+) -> Taken
+    requires { ⌜ Ready m (now list) (now targets) kinds ⌝ }
     requires { ⌜ Lent (now line) (now out) p ⌝ }
     ensures { λ r. ⌜ ByteTaken m (now (list .entry)) b p (now (line .entry)) (now (out .entry)) r (now (line .exit)) (now (out .exit)) ⌝ }
 {
@@ -152,7 +170,7 @@ fn take_byte(m: Machine, list: &[u16], b: u8, line: &mut [u8], out: &mut [u8], p
         return p;
     }
     if b == 10 {
-        return end_line(m, list, line, out, p);
+        return end_line(m, list, targets, kinds, line, out, p);
     }
     let kept = keep(line, p.held.kept, b);
     let words = p.held.words;
@@ -169,19 +187,21 @@ fn take_byte(m: Machine, list: &[u16], b: u8, line: &mut [u8], out: &mut [u8], p
 pub fn take_piece(
     m: Machine,
     list: &[u16],
+    targets: &[u64],
+    kinds: Kinds,
     piece: &[u8],
     line: &mut [u8],
     out: &mut [u8],
     held: Held,
 ) -> Taken
-    requires { ⌜ wellFormed m (now list) ≡ true ⌝ }
+    requires { ⌜ Ready m (now list) (now targets) kinds ⌝ }
     requires { ⌜ (length (now line) ≡ mostKept) × (held .kept ≤ mostKept) × (16 * length (now piece) ≤ length (now out)) ⌝ }
     ensures { λ r. ⌜ PieceTaken m (now (list .entry)) (now (piece .entry)) held (now (line .entry)) (now (out .entry)) r (now (line .exit)) (now (out .exit)) ⌝ }
 {
     let mut p = Taken { held, used: 0 };
     let mut i: usize = 0;
     while i < piece.len() {
-        p = take_byte(m, list, piece[i], line, out, p);
+        p = take_byte(m, list, targets, kinds, piece[i], line, out, p);
         i += 1;
     }
     p
@@ -189,8 +209,16 @@ pub fn take_piece(
 
 // Prints the last line, which no byte 10 ends, to the front of out, unless it is empty; answers how many bytes of output there are.
 // Time: that of the word's decision. Memory: none but what is lent.
-pub fn finish(m: Machine, list: &[u16], line: &[u8], out: &mut [u8], held: Held) -> usize
-    requires { ⌜ wellFormed m (now list) ≡ true ⌝ }
+pub fn finish(
+    m: Machine,
+    list: &[u16],
+    targets: &[u64],
+    kinds: Kinds,
+    line: &[u8],
+    out: &mut [u8],
+    held: Held,
+) -> usize
+    requires { ⌜ Ready m (now list) (now targets) kinds ⌝ }
     requires { ⌜ (held .kept ≤ length (now line)) × (16 ≤ length (now out)) ⌝ }
     ensures { λ r. ⌜ (r ≡ length (endPrints m (now (list .entry)) (pendingOf (now (line .entry)) held))) × (now (out .exit) ≡ put 0 (now (out .entry)) (endPrints m (now (list .entry)) (pendingOf (now (line .entry)) held))) ⌝ }
 {
@@ -200,6 +228,6 @@ pub fn finish(m: Machine, list: &[u16], line: &[u8], out: &mut [u8], held: Held)
     if held.kept == 0 {
         return 0;
     }
-    let last = end_line(m, list, line, out, Taken { held, used: 0 });
+    let last = end_line(m, list, targets, kinds, line, out, Taken { held, used: 0 });
     last.used
 }

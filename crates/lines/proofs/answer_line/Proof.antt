@@ -1,5 +1,5 @@
 use Rattle.adjacency.specs.Index.Laws.{sorted}
-use Rattle.lines.proofs.LineCases.{short-line}
+use Rattle.lines.proofs.LineCases.{short-line, line-lettered, answer-refused, answer-decided}
 use Prim.Native.Nat.{_/_}
 use mathlib.Core.Path.{sym, _∙_, ap}
 use mathlib.Core.Bool.{cond}
@@ -7,46 +7,45 @@ use native.Mathlib.Omega.{arith}
 use lib.ListN.{length}
 use lib.Seq.{length-take-le}
 use Rattle.lines.specs.declared.Answer.{Answer}
-use Rattle.lines.proofs.LineCases.{answer-refused, answer-decided}
 use borrow.Author.Needs.{needs}
 use Rattle.lines.proofs.answer_line.Statement.{statement}
 use Rattle.lines.proofs.answer_line.Tie as tie
 use Rattle.lines.proofs.answer_line.Reads as reads
 use Rattle.lines.proofs.answer_line.Lts as lts
-use Rattle.decide.proofs.words.is_accepted.Reads as is-accepted-reads
+use Rattle.decide.proofs.places.decide.Reads as decide-reads
 use Rattle.lines.proofs.read_word.Reads as read-word-reads
 
--- src/lib.rt:96:46
+-- src/lib.rt:101:46
 slice-aggregate-read-word : tie.Need-slice-aggregate-read-word
 slice-aggregate-read-word c = search needs
 
--- src/lib.rt:96:9
+-- src/lib.rt:101:9
 read-word-requires : tie.Need-read-word-requires
-read-word-requires c κs = (sorted (c .before .before .before .args .m) ((c .before .before .before .args .list) .now) (c .before .before .before .pre) .letters-fit, omega arith)
+read-word-requires c κs = (sorted ((c .before .before .before .before) .args .m) (((c .before .before .before .before) .args .list) .now) ((c .before .before .before .before) .pre .good) .letters-fit, omega arith)
 
--- src/lib.rt:98:9
+-- src/lib.rt:103:9
 returns : tie.Need-returns
-returns c = answer-refused (c .before .before .before .before .before .before .args .m) ((c .before .before .before .before .before .before .args .list) .now) ((c .before .before .before .before .before .before .args .line) .now) (c .before .before .read-word .result) ((c .before .before .read-word .last) .1 .1 .0) (c .before .before .read-word .ensures) (c .if1 .taken)
+returns c = answer-refused ((c .before .before .before .before .before .before .before) .args .m) (((c .before .before .before .before .before .before .before) .args .list) .now) (((c .before .before .before .before .before .before .before) .args .line) .now) ((c .before .before) .read-word .result) (((c .before .before) .read-word .last) .1 .1 .0) ((c .before .before) .read-word .ensures) ((c) .if1 .taken)
 
--- src/lib.rt:101:37
+-- src/lib.rt:106:59
 array-share-prefix-word : tie.Need-array-share-prefix-word
-array-share-prefix-word c = omega (arith, (c .before .word2 .given), short-line ((c .before .before .before .before .before .before .args .m) .letters) ((c .before .before .before .before .before .before .args .line) .now) (sym (c .if1 .left) ∙ (c .before .before .read-word .ensures .refusal)))
+array-share-prefix-word c = omega (arith, ((c .before) .word2 .given), short-line (((c .before .before .before .before .before .before .before) .args .m) .letters) (((c .before .before .before .before .before .before .before) .args .line) .now) (sym ((c) .if1 .left) ∙ ((c .before .before) .read-word .ensures .refusal)))
 
--- src/lib.rt:101:37
-slice-aggregate-is-accepted : tie.Need-slice-aggregate-is-accepted
-slice-aggregate-is-accepted c = sym (length-take-le _ ((c .before .before .before .read-word .last) .1 .1 .0) (omega (arith, (c .before .before .word2 .given), short-line ((c .before .before .before .before .before .before .before .args .m) .letters) ((c .before .before .before .before .before .before .before .args .line) .now) (sym (c .before .if1 .left) ∙ (c .before .before .before .read-word .ensures .refusal)))))
+-- src/lib.rt:106:59
+slice-aggregate-decide : tie.Need-slice-aggregate-decide
+slice-aggregate-decide c = sym (length-take-le _ (((c .before .before .before) .read-word .last) .1 .1 .0) (omega (arith, ((c .before .before) .word2 .given), short-line (((c .before .before .before .before .before .before .before .before) .args .m) .letters) (((c .before .before .before .before .before .before .before .before) .args .line) .now) (sym ((c .before) .if1 .left) ∙ ((c .before .before .before) .read-word .ensures .refusal)))))
 
--- src/lib.rt:101:8
-is-accepted-requires : tie.Need-is-accepted-requires
-is-accepted-requires c κs = ((c .before .before .before .before .before .before .before .pre), omega (arith, short-line ((c .before .before .before .before .before .before .before .args .m) .letters) ((c .before .before .before .before .before .before .before .args .line) .now) (sym (c .before .if1 .left) ∙ (c .before .before .before .read-word .ensures .refusal)), length-take-le (length ((c .before .before .before .before .before .before .before .args .line) .now) / 5) ((c .before .before .before .read-word .last) .1 .1 .0) (omega (arith, (c .before .before .word2 .given), short-line ((c .before .before .before .before .before .before .before .args .m) .letters) ((c .before .before .before .before .before .before .before .args .line) .now) (sym (c .before .if1 .left) ∙ (c .before .before .before .read-word .ensures .refusal))))))
+-- src/lib.rt:106:9
+decide-requires : tie.Need-decide-requires
+decide-requires c κs = ((c .before .before .before .before .before .before .before .before) .pre .good, omega (arith, short-line (((c .before .before .before .before .before .before .before .before) .args .m) .letters) (((c .before .before .before .before .before .before .before .before) .args .line) .now) (sym ((c .before) .if1 .left) ∙ ((c .before .before .before) .read-word .ensures .refusal)), length-take-le (length (((c .before .before .before .before .before .before .before .before) .args .line) .now) / 5) (((c .before .before .before) .read-word .last) .1 .1 .0) (omega (arith, ((c .before .before) .word2 .given), short-line (((c .before .before .before .before .before .before .before .before) .args .m) .letters) (((c .before .before .before .before .before .before .before .before) .args .line) .now) (sym ((c .before) .if1 .left) ∙ ((c .before .before .before) .read-word .ensures .refusal))))), (c .before .before .before .before .before .before .before .before) .pre .prepared _ (line-lettered _ (((c .before .before .before .before .before .before .before .before) .args .line) .now) (sym ((c .before) .if1 .left) ∙ ((c .before .before .before) .read-word .ensures .refusal)) _ ((c .before .before .before) .read-word .ensures .word-read ((c .before) .if1 .left))), (c .before .before .before .before .before .before .before .before) .pre .sets)
 
--- src/lib.rt:102:9
+-- src/lib.rt:108:9
 returns-2 : tie.Need-returns-2
-returns-2 c = ap {B = Answer} (λ z. record { answer = cond z 1 0; refusal = 0 }) (sym (c .if2 .taken)) ∙ answer-decided (c .before .before .before .before .before .before .before .before .before .args .m) ((c .before .before .before .before .before .before .before .before .before .args .list) .now) ((c .before .before .before .before .before .before .before .before .before .args .line) .now) (c .before .before .before .before .before .read-word .result) ((c .before .before .before .before .before .read-word .last) .1 .1 .0) (c .before .before .before .before .before .read-word .ensures) (c .before .before .before .if1 .left) (c .before .is-accepted .result) (c .before .is-accepted .ensures)
+returns-2 c = ap {B = Answer} (λ z. record { answer = cond z 1 0; refusal = 0 }) (sym ((c) .if2 .taken)) ∙ answer-decided ((c .before .before .before .before .before .before .before .before .before .before) .args .m) (((c .before .before .before .before .before .before .before .before .before .before) .args .list) .now) (((c .before .before .before .before .before .before .before .before .before .before) .args .line) .now) ((c .before .before .before .before .before) .read-word .result) (((c .before .before .before .before .before) .read-word .last) .1 .1 .0) ((c .before .before .before .before .before) .read-word .ensures) ((c .before .before .before) .if1 .left) _ (((c .before) .decide .ensures) .0)
 
--- src/lib.rt:91:1
+-- src/lib.rt:90:1
 returns-3 : tie.Need-returns-3
-returns-3 c = ap {B = Answer} (λ z. record { answer = cond z 1 0; refusal = 0 }) (sym (c .if2 .left)) ∙ answer-decided (c .before .before .before .before .before .before .before .before .before .args .m) ((c .before .before .before .before .before .before .before .before .before .args .list) .now) ((c .before .before .before .before .before .before .before .before .before .args .line) .now) (c .before .before .before .before .before .read-word .result) ((c .before .before .before .before .before .read-word .last) .1 .1 .0) (c .before .before .before .before .before .read-word .ensures) (c .before .before .before .if1 .left) (c .before .is-accepted .result) (c .before .is-accepted .ensures)
+returns-3 c = ap {B = Answer} (λ z. record { answer = cond z 1 0; refusal = 0 }) (sym ((c) .if2 .left)) ∙ answer-decided ((c .before .before .before .before .before .before .before .before .before .before) .args .m) (((c .before .before .before .before .before .before .before .before .before .before) .args .list) .now) (((c .before .before .before .before .before .before .before .before .before .before) .args .line) .now) ((c .before .before .before .before .before) .read-word .result) (((c .before .before .before .before .before) .read-word .last) .1 .1 .0) ((c .before .before .before .before .before) .read-word .ensures) ((c .before .before .before) .if1 .left) _ (((c .before) .decide .ensures) .0)
 
 pub answer-line-spec : {M : Type 1} → statement M
 answer-line-spec =
@@ -56,7 +55,7 @@ answer-line-spec =
     read-word-requires
     returns
     array-share-prefix-word
-    slice-aggregate-is-accepted
-    is-accepted-requires
+    slice-aggregate-decide
+    decide-requires
     returns-2
     returns-3)

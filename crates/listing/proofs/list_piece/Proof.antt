@@ -31,7 +31,7 @@ slice-aggregate-take-piece c = search needs
 
 -- src/main.rt:70:9
 take-piece-requires : tie.Need-take-piece-requires
-take-piece-requires c κs = search needs
+take-piece-requires c κs = (((c .before .before .before .before .before .before .before .before .before .before .before .before .before .before .before .before) .pre) .0, (((c .before .before .before .before .before .before .before .before .before .before .before .before .before .before .before .before) .pre) .1 .1 .0 .room, ((c .before .before .before .before .before .before .before .before .before .before .before .before .before .before .before .before) .pre) .1 .1 .0 .within, search needs))
 
 -- src/main.rt:73:38
 slice-reshare-prefix-write-piece : tie.Need-slice-reshare-prefix-write-piece
@@ -43,15 +43,15 @@ slice-aggregate-write-piece c = search needs
 
 -- src/main.rt:73:55
 slice-reshare-prefix-write-piece-2 : tie.Need-slice-reshare-prefix-write-piece-2
-slice-reshare-prefix-write-piece-2 c = used-fits ((c .before .before .before .before .before .before .before .before .before .before .before .before .before .before .before .before .before .before .before .before .before .before) .args .m) ((c .before .before .before .before .before .before .before .before .before .before .before .before .before .before .before .before .before .before .before .before .before .before) .args .list .now) (take ((c .before .before .before .before .before .before .before .before .before .before) .count .result) ((c .before .before .before .before .before .before .before .before .before .before .before .before .before .before) .read .last .1 .0)) ((c .before .before .before .before .before .before .before .before .before .before .before .before .before .before .before .before .before .before .before .before .before .before) .args .t .held) ((c .before .before .before .before .before .before .before .before .before .before .before .before .before .before .before .before .before .before .before .before .before .before) .args .line .now) ((c .before .before .before .before .before .before .before .before .before .before .before .before .before .before .before .before .before .before .before .before .before .before) .args .out .now) ((c .before .before .before .before .before .before) .take-piece .result) ((c .before .before .before .before .before .before) .take-piece .last .1 .1 .1 .0) ((c .before .before .before .before .before .before) .take-piece .last .1 .1 .1 .1 .0) ((c .before .before .before .before .before .before) .take-piece .ensures) (omega (arith, length-take-le ((c .before .before .before .before .before .before .before .before .before .before) .count .result) ((c .before .before .before .before .before .before .before .before .before .before .before .before .before .before) .read .last .1 .0) ((c .before .before .before .before .before .before .before .before .before .before) .count .ensures .0 .0), (c .before .before .before .before .before .before .before .before .before .before .before .before .before .before .before .before .before .before .before .before .before .before) .pre .1 .1 .0 .piece, (c .before .before .before .before .before .before .before .before .before .before .before .before .before) .input .given, (c .before .before .before .before .before .before .before .before .before .before) .count .ensures .0 .0))
+slice-reshare-prefix-write-piece-2 c = used-fits ((c .before .before .before .before .before .before .before .before .before .before .before .before .before .before .before .before .before .before .before .before .before .before .before) .args .m) ((c .before .before .before .before .before .before .before .before .before .before .before .before .before .before .before .before .before .before .before .before .before .before .before) .args .list .now) (take ((c .before .before .before .before .before .before .before .before .before .before) .count .result) ((c .before .before .before .before .before .before .before .before .before .before .before .before .before .before) .read .last .1 .0)) ((c .before .before .before .before .before .before .before .before .before .before .before .before .before .before .before .before .before .before .before .before .before .before .before) .args .t .held) ((c .before .before .before .before .before .before .before .before .before .before .before .before .before .before .before .before .before .before .before .before .before .before .before) .args .line .now) ((c .before .before .before .before .before .before .before .before .before .before .before .before .before .before .before .before .before .before .before .before .before .before .before) .args .out .now) ((c .before .before .before .before .before .before) .take-piece .result) ((c .before .before .before .before .before .before) .take-piece .last .1 .1 .1 .1 .1 .0) ((c .before .before .before .before .before .before) .take-piece .last .1 .1 .1 .1 .1 .1 .0) ((c .before .before .before .before .before .before) .take-piece .ensures) (omega (arith, length-take-le ((c .before .before .before .before .before .before .before .before .before .before) .count .result) ((c .before .before .before .before .before .before .before .before .before .before .before .before .before .before) .read .last .1 .0) ((c .before .before .before .before .before .before .before .before .before .before) .count .ensures .0 .0), (c .before .before .before .before .before .before .before .before .before .before .before .before .before .before .before .before .before .before .before .before .before .before .before) .pre .1 .1 .0 .piece, (c .before .before .before .before .before .before .before .before .before .before .before .before .before) .input .given, (c .before .before .before .before .before .before .before .before .before .before) .count .ensures .0 .0))
 
 -- src/main.rt:73:55
 slice-aggregate-write-piece-2 : tie.Need-slice-aggregate-write-piece-2
-slice-aggregate-write-piece-2 c = sym (length-take-le ((c .before .before .before .before .before .before .before) .take-piece .result .used) ((c .before .before .before .before .before .before .before) .take-piece .last .1 .1 .1 .1 .0) (used-fits ((c .before .before .before .before .before .before .before .before .before .before .before .before .before .before .before .before .before .before .before .before .before .before .before) .args .m) ((c .before .before .before .before .before .before .before .before .before .before .before .before .before .before .before .before .before .before .before .before .before .before .before) .args .list .now) (take ((c .before .before .before .before .before .before .before .before .before .before .before) .count .result) ((c .before .before .before .before .before .before .before .before .before .before .before .before .before .before .before) .read .last .1 .0)) ((c .before .before .before .before .before .before .before .before .before .before .before .before .before .before .before .before .before .before .before .before .before .before .before) .args .t .held) ((c .before .before .before .before .before .before .before .before .before .before .before .before .before .before .before .before .before .before .before .before .before .before .before) .args .line .now) ((c .before .before .before .before .before .before .before .before .before .before .before .before .before .before .before .before .before .before .before .before .before .before .before) .args .out .now) ((c .before .before .before .before .before .before .before) .take-piece .result) ((c .before .before .before .before .before .before .before) .take-piece .last .1 .1 .1 .0) ((c .before .before .before .before .before .before .before) .take-piece .last .1 .1 .1 .1 .0) ((c .before .before .before .before .before .before .before) .take-piece .ensures) (omega (arith, length-take-le ((c .before .before .before .before .before .before .before .before .before .before .before) .count .result) ((c .before .before .before .before .before .before .before .before .before .before .before .before .before .before .before) .read .last .1 .0) ((c .before .before .before .before .before .before .before .before .before .before .before) .count .ensures .0 .0), (c .before .before .before .before .before .before .before .before .before .before .before .before .before .before .before .before .before .before .before .before .before .before .before) .pre .1 .1 .0 .piece, (c .before .before .before .before .before .before .before .before .before .before .before .before .before .before) .input .given, (c .before .before .before .before .before .before .before .before .before .before .before) .count .ensures .0 .0))))
+slice-aggregate-write-piece-2 c = sym (length-take-le ((c .before .before .before .before .before .before .before) .take-piece .result .used) ((c .before .before .before .before .before .before .before) .take-piece .last .1 .1 .1 .1 .1 .1 .0) (used-fits ((c .before .before .before .before .before .before .before .before .before .before .before .before .before .before .before .before .before .before .before .before .before .before .before .before) .args .m) ((c .before .before .before .before .before .before .before .before .before .before .before .before .before .before .before .before .before .before .before .before .before .before .before .before) .args .list .now) (take ((c .before .before .before .before .before .before .before .before .before .before .before) .count .result) ((c .before .before .before .before .before .before .before .before .before .before .before .before .before .before .before) .read .last .1 .0)) ((c .before .before .before .before .before .before .before .before .before .before .before .before .before .before .before .before .before .before .before .before .before .before .before .before) .args .t .held) ((c .before .before .before .before .before .before .before .before .before .before .before .before .before .before .before .before .before .before .before .before .before .before .before .before) .args .line .now) ((c .before .before .before .before .before .before .before .before .before .before .before .before .before .before .before .before .before .before .before .before .before .before .before .before) .args .out .now) ((c .before .before .before .before .before .before .before) .take-piece .result) ((c .before .before .before .before .before .before .before) .take-piece .last .1 .1 .1 .1 .1 .0) ((c .before .before .before .before .before .before .before) .take-piece .last .1 .1 .1 .1 .1 .1 .0) ((c .before .before .before .before .before .before .before) .take-piece .ensures) (omega (arith, length-take-le ((c .before .before .before .before .before .before .before .before .before .before .before) .count .result) ((c .before .before .before .before .before .before .before .before .before .before .before .before .before .before .before) .read .last .1 .0) ((c .before .before .before .before .before .before .before .before .before .before .before) .count .ensures .0 .0), (c .before .before .before .before .before .before .before .before .before .before .before .before .before .before .before .before .before .before .before .before .before .before .before .before) .pre .1 .1 .0 .piece, (c .before .before .before .before .before .before .before .before .before .before .before .before .before .before) .input .given, (c .before .before .before .before .before .before .before .before .before .before .before) .count .ensures .0 .0))))
 
 -- src/main.rt:73:9
 write-piece-requires : tie.Need-write-piece-requires
-write-piece-requires c κs = next-bytes ((c .before .before .before .before .before .before .before .before .before .before .before .before .before .before .before .before .before .before .before .before .before .before .before) .args .m) ((c .before .before .before .before .before .before .before .before .before .before .before .before .before .before .before .before .before .before .before .before .before .before .before) .args .list .now) (take ((c .before .before .before .before .before .before .before .before .before .before .before) .count .result) ((c .before .before .before .before .before .before .before .before .before .before .before .before .before .before .before) .read .last .1 .0)) ((c .before .before .before .before .before .before .before .before .before .before .before .before .before .before .before .before .before .before .before .before .before .before .before) .args .t .held) ((c .before .before .before .before .before .before .before .before .before .before .before .before .before .before .before .before .before .before .before .before .before .before .before) .args .line .now) ((c .before .before .before .before .before .before .before .before .before .before .before .before .before .before .before .before .before .before .before .before .before .before .before) .args .out .now) ((c .before .before .before .before .before .before .before) .take-piece .result) ((c .before .before .before .before .before .before .before) .take-piece .last .1 .1 .1 .0) ((c .before .before .before .before .before .before .before) .take-piece .last .1 .1 .1 .1 .0) ((c .before .before .before .before .before .before .before) .take-piece .ensures) ((c .before .before .before .before .before .before .before .before .before .before .before .before .before .before .before .before .before .before .before .before .before .before .before) .args .sheet .now) ((c .before .before .before .before .before .before .before .before .before .before .before .before .before .before .before .before .before .before .before .before .before .before .before) .pre .1 .0) ((c .before .before .before .before .before .before .before .before .before .before .before .before .before .before .before .before .before .before .before .before .before .before .before) .pre .1 .1 .1 .0)
+write-piece-requires c κs = next-bytes ((c .before .before .before .before .before .before .before .before .before .before .before .before .before .before .before .before .before .before .before .before .before .before .before .before) .args .m) ((c .before .before .before .before .before .before .before .before .before .before .before .before .before .before .before .before .before .before .before .before .before .before .before .before) .args .list .now) (take ((c .before .before .before .before .before .before .before .before .before .before .before) .count .result) ((c .before .before .before .before .before .before .before .before .before .before .before .before .before .before .before) .read .last .1 .0)) ((c .before .before .before .before .before .before .before .before .before .before .before .before .before .before .before .before .before .before .before .before .before .before .before .before) .args .t .held) ((c .before .before .before .before .before .before .before .before .before .before .before .before .before .before .before .before .before .before .before .before .before .before .before .before) .args .line .now) ((c .before .before .before .before .before .before .before .before .before .before .before .before .before .before .before .before .before .before .before .before .before .before .before .before) .args .out .now) ((c .before .before .before .before .before .before .before) .take-piece .result) ((c .before .before .before .before .before .before .before) .take-piece .last .1 .1 .1 .1 .1 .0) ((c .before .before .before .before .before .before .before) .take-piece .last .1 .1 .1 .1 .1 .1 .0) ((c .before .before .before .before .before .before .before) .take-piece .ensures) ((c .before .before .before .before .before .before .before .before .before .before .before .before .before .before .before .before .before .before .before .before .before .before .before .before) .args .sheet .now) ((c .before .before .before .before .before .before .before .before .before .before .before .before .before .before .before .before .before .before .before .before .before .before .before .before) .pre .1 .0) ((c .before .before .before .before .before .before .before .before .before .before .before .before .before .before .before .before .before .before .before .before .before .before .before .before) .pre .1 .1 .1 .0)
 
 -- src/main.rt:51:1
 same-length : tie.Need-same-length

@@ -9,7 +9,7 @@ use Rattle.listing.proofs.list_sheet.Tie as tie
 use Rattle.listing.proofs.list_sheet.Reads as reads
 use Rattle.listing.proofs.list_sheet.Lts as lts
 use Rattle.io.proofs.large_buffer.Reads as large-buffer-reads
-use Rattle.listing.proofs.list_words.Reads as list-words-reads
+use Rattle.listing.proofs.list_prepared.Reads as list-prepared-reads
 use Rattle.listing.proofs.transition_buffer.Reads as transition-buffer-reads
 use Rattle.listing.proofs.write_opening.Reads as write-opening-reads
 use Rattle.stream.proofs.open.Reads as open-reads
@@ -55,16 +55,16 @@ returns-2 : tie.Need-returns-2
 returns-2 c = search needs
 
 -- src/main.rt:175:32
-slice-aggregate-list-words : tie.Need-slice-aggregate-list-words
-slice-aggregate-list-words c = search needs
+slice-aggregate-list-prepared : tie.Need-slice-aggregate-list-prepared
+slice-aggregate-list-prepared c = search needs
 
 -- src/main.rt:175:39
-slice-aggregate-list-words-2 : tie.Need-slice-aggregate-list-words-2
-slice-aggregate-list-words-2 c = search needs
+slice-aggregate-list-prepared-2 : tie.Need-slice-aggregate-list-prepared-2
+slice-aggregate-list-prepared-2 c = search needs
 
 -- src/main.rt:175:5
-list-words-requires : tie.Need-list-words-requires
-list-words-requires c κs = (opened-obeys ((c .before .before .before .before .before .before .before .before .before .before .before .before .before .before .before .before) .args .sheet .now) ((c .before .before .before .before .before .before .before .before .before .before .before .before .before .before) .transition-buffer .result) ((c .before .before .before .before .before .before .before .before .before .before) .«open» .last .1 .0) ((c .before .before .before .before .before .before .before .before .before .before .before .before .before) .large-buffer .result) ((c .before .before .before .before .before .before .before .before .before .before) .«open» .last .1 .1 .0) ((c .before .before .before .before .before .before .before .before .before .before) .«open» .result) ((c .before .before .before .before .before .before .before .before .before .before) .«open» .ensures) (omega (arith, (c .before .before .before .before .before .before .before .before .before .before .before .before .before .before) .transition-buffer .ensures)) (not-false _ ((c .before .before .before) .if2 .left)), (opened-table ((c .before .before .before .before .before .before .before .before .before .before .before .before .before .before .before .before) .args .sheet .now) ((c .before .before .before .before .before .before .before .before .before .before .before .before .before .before) .transition-buffer .result) ((c .before .before .before .before .before .before .before .before .before .before) .«open» .last .1 .0) ((c .before .before .before .before .before .before .before .before .before .before .before .before .before) .large-buffer .result) ((c .before .before .before .before .before .before .before .before .before .before) .«open» .last .1 .1 .0) ((c .before .before .before .before .before .before .before .before .before .before) .«open» .result) ((c .before .before .before .before .before .before .before .before .before .before) .«open» .ensures) (omega (arith, (c .before .before .before .before .before .before .before .before .before .before .before .before .before .before) .transition-buffer .ensures)) (not-false _ ((c .before .before .before) .if2 .left)), search needs))
+list-prepared-requires : tie.Need-list-prepared-requires
+list-prepared-requires c κs = (opened-obeys ((c .before .before .before .before .before .before .before .before .before .before .before .before .before .before .before .before) .args .sheet .now) ((c .before .before .before .before .before .before .before .before .before .before .before .before .before .before) .transition-buffer .result) ((c .before .before .before .before .before .before .before .before .before .before) .«open» .last .1 .0) ((c .before .before .before .before .before .before .before .before .before .before .before .before .before) .large-buffer .result) ((c .before .before .before .before .before .before .before .before .before .before) .«open» .last .1 .1 .0) ((c .before .before .before .before .before .before .before .before .before .before) .«open» .result) ((c .before .before .before .before .before .before .before .before .before .before) .«open» .ensures) (omega (arith, (c .before .before .before .before .before .before .before .before .before .before .before .before .before .before) .transition-buffer .ensures)) (not-false _ ((c .before .before .before) .if2 .left)), (opened-table ((c .before .before .before .before .before .before .before .before .before .before .before .before .before .before .before .before) .args .sheet .now) ((c .before .before .before .before .before .before .before .before .before .before .before .before .before .before) .transition-buffer .result) ((c .before .before .before .before .before .before .before .before .before .before) .«open» .last .1 .0) ((c .before .before .before .before .before .before .before .before .before .before .before .before .before) .large-buffer .result) ((c .before .before .before .before .before .before .before .before .before .before) .«open» .last .1 .1 .0) ((c .before .before .before .before .before .before .before .before .before .before) .«open» .result) ((c .before .before .before .before .before .before .before .before .before .before) .«open» .ensures) (omega (arith, (c .before .before .before .before .before .before .before .before .before .before .before .before .before .before) .transition-buffer .ensures)) (not-false _ ((c .before .before .before) .if2 .left)), search needs))
 
 -- src/main.rt:163:1
 returns-3 : tie.Need-returns-3
@@ -84,7 +84,7 @@ list-sheet-spec =
     write-opening-requires
     returns
     returns-2
-    slice-aggregate-list-words
-    slice-aggregate-list-words-2
-    list-words-requires
+    slice-aggregate-list-prepared
+    slice-aggregate-list-prepared-2
+    list-prepared-requires
     returns-3)

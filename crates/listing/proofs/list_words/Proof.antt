@@ -28,7 +28,7 @@ slice-aggregate-take-input-2 c = search needs
 
 -- src/main.rt:144:9
 take-input-requires : tie.Need-take-input-requires
-take-input-requires c κs = ((c .before .before .before .before .before .before .before .before) .pre .0, ((c .before .before .before .before .before .before .before .before) .pre .1 .0, record { piece = omega (arith, (c .before .before .before .before) .buffer .ensures); room = sym ((c .before .before .before) .line-buffer .ensures); within = omega arith }))
+take-input-requires c κs = ((c .before .before .before .before .before .before .before .before .before) .pre .0, ((c .before .before .before .before .before .before .before .before .before) .pre .1 .0, record { piece = omega (arith, (c .before .before .before .before) .buffer .ensures); room = sym ((c .before .before .before) .line-buffer .ensures); within = omega arith }))
 
 -- src/main.rt:145:31
 slice-aggregate-end-input : tie.Need-slice-aggregate-end-input
@@ -36,7 +36,7 @@ slice-aggregate-end-input c = search needs
 
 -- src/main.rt:145:5
 end-input-requires : tie.Need-end-input-requires
-end-input-requires c κs = ((c .before .before .before .before .before .before .before .before .before .before .before .before .before .before .before) .pre .0, ((c .before .before .before .before .before .before .before .before .before .before .before .before .before .before .before) .pre .1 .0, ((c .before .before .before .before .before .before) .take-input .ensures .0, omega (arith, (c .before .before .before .before .before .before) .take-input .ensures .1, (c .before .before .before .before .before .before .before .before .before .before) .line-buffer .ensures), omega (arith, (c .before .before .before .before .before .before .before .before .before .before .before .before .before .before .before) .pre .1 .1, (c .before .before .before) .out .given), (c .before .before .before .before .before .before) .take-input .ensures .2)))
+end-input-requires c κs = ((c .before .before .before .before .before .before .before .before .before .before .before .before .before .before .before .before) .pre .0, ((c .before .before .before .before .before .before .before .before .before .before .before .before .before .before .before .before) .pre .1 .0, ((c .before .before .before .before .before .before) .take-input .ensures .0, omega (arith, (c .before .before .before .before .before .before) .take-input .ensures .1, (c .before .before .before .before .before .before .before .before .before .before) .line-buffer .ensures), omega (arith, (c .before .before .before .before .before .before .before .before .before .before .before .before .before .before .before .before) .pre .1 .1, (c .before .before .before) .out .given), (c .before .before .before .before .before .before) .take-input .ensures .2)))
 
 -- src/main.rt:137:1
 same-length : tie.Need-same-length

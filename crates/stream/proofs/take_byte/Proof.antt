@@ -9,7 +9,7 @@ use Rattle.stream.proofs.keep.Reads as keep-reads
 
 -- src/lib.rt:144:9
 returns : tie.Need-returns
-returns c = byte-full ((c .before .before .before .before .before) .args .m) ((c .before .before .before .before .before) .args .list .now) ((c .before .before .before .before .before) .args .b) ((c .before .before .before .before .before) .args .p) ((c .before .before .before .before .before) .args .line .now) ((c .before .before .before .before .before) .args .out .now) ((c) .if1 .taken) ((c .before .before .before .before .before) .pre .1 .within)
+returns c = byte-full ((c .before .before .before .before .before .before) .args .m) ((c .before .before .before .before .before .before) .args .list .now) ((c .before .before .before .before .before .before) .args .b) ((c .before .before .before .before .before .before) .args .p) ((c .before .before .before .before .before .before) .args .line .now) ((c .before .before .before .before .before .before) .args .out .now) ((c) .if1 .taken) ((c .before .before .before .before .before .before) .pre .1 .within)
 
 -- src/lib.rt:147:9
 end-line-requires : tie.Need-end-line-requires
@@ -25,7 +25,7 @@ same-length-2 c = search needs
 
 -- src/lib.rt:147:9
 returns-2 : tie.Need-returns-2
-returns-2 c = byte-end ((c .before .before .before .before .before .before .before .before .before .before .before) .args .m) ((c .before .before .before .before .before .before .before .before .before .before .before) .args .list .now) ((c .before .before .before .before .before .before .before .before .before .before .before) .args .b) ((c .before .before .before .before .before .before .before .before .before .before .before) .args .p) ((c .before .before .before .before .before .before .before .before .before .before .before) .args .line .now) ((c .before .before .before .before .before .before .before .before .before .before .before) .args .out .now) ((c .before .before .before .before .before .before) .if1 .left) ((c .before .before .before .before .before) .if2 .taken) ((c .before .before) .end-line .result) ((c .before .before) .end-line .last .1 .1 .1 .0) ((c .before .before) .end-line .ensures)
+returns-2 c = byte-end ((c .before .before .before .before .before .before .before .before .before .before .before .before) .args .m) ((c .before .before .before .before .before .before .before .before .before .before .before .before) .args .list .now) ((c .before .before .before .before .before .before .before .before .before .before .before .before) .args .b) ((c .before .before .before .before .before .before .before .before .before .before .before .before) .args .p) ((c .before .before .before .before .before .before .before .before .before .before .before .before) .args .line .now) ((c .before .before .before .before .before .before .before .before .before .before .before .before) .args .out .now) ((c .before .before .before .before .before .before) .if1 .left) ((c .before .before .before .before .before) .if2 .taken) ((c .before .before) .end-line .result) ((c .before .before) .end-line .last .1 .1 .1 .1 .1 .0) ((c .before .before) .end-line .ensures)
 
 -- src/lib.rt:149:9
 keep-requires : tie.Need-keep-requires
@@ -37,7 +37,7 @@ same-length-3 c = search needs
 
 -- src/lib.rt:138:1
 returns-3 : tie.Need-returns-3
-returns-3 c = byte-more ((c .before .before .before .before .before .before .before .before .before .before) .args .m) ((c .before .before .before .before .before .before .before .before .before .before) .args .list .now) ((c .before .before .before .before .before .before .before .before .before .before) .args .b) ((c .before .before .before .before .before .before .before .before .before .before) .args .p) ((c .before .before .before .before .before .before .before .before .before .before) .args .line .now) ((c .before .before .before .before .before .before .before .before .before .before) .args .out .now) ((c .before .before .before .before .before .before .before .before .before .before) .pre .1 .room) ((c .before .before .before .before .before) .if1 .left) ((c .before .before .before .before) .if2 .left) ((c .before .before) .keep .result) ((c .before .before) .keep .last .0) ((c .before .before) .keep .ensures)
+returns-3 c = byte-more ((c .before .before .before .before .before .before .before .before .before .before .before) .args .m) ((c .before .before .before .before .before .before .before .before .before .before .before) .args .list .now) ((c .before .before .before .before .before .before .before .before .before .before .before) .args .b) ((c .before .before .before .before .before .before .before .before .before .before .before) .args .p) ((c .before .before .before .before .before .before .before .before .before .before .before) .args .line .now) ((c .before .before .before .before .before .before .before .before .before .before .before) .args .out .now) ((c .before .before .before .before .before .before .before .before .before .before .before) .pre .1 .room) ((c .before .before .before .before .before) .if1 .left) ((c .before .before .before .before) .if2 .left) ((c .before .before) .keep .result) ((c .before .before) .keep .last .0) ((c .before .before) .keep .ensures)
 
 pub take-byte-spec : {M : Type 1} → statement M
 take-byte-spec =

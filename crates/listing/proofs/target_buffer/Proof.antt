@@ -1,0 +1,15 @@
+use Prim.Native.Nat.{ℕ}
+use mathlib.Core.Path.{refl, sym}
+use lib.ListN.{length-replicate}
+use Rattle.adjacency.specs.Index.Laws.{zeros-at}
+use Rattle.listing.proofs.target_buffer.Statement.{statement}
+use Rattle.listing.proofs.target_buffer.Tie as tie
+use Rattle.listing.proofs.target_buffer.Reads as reads
+use Rattle.listing.proofs.target_buffer.Lts as lts
+
+-- src/main.rt:194:1
+returns : tie.Need-returns
+returns c = (sym (length-replicate {A = ℕ} 16065 0), zeros-at 16065)
+
+pub target-buffer-spec : {M : Type 1} → statement M
+target-buffer-spec = tie.close (tie.spec returns)
