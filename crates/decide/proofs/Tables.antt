@@ -6,36 +6,25 @@
 -- edge-listed, listed-edge == an edge of a letter of w, or of epsilon, is a transition that the mode may take
 use Prim.Native.Nat.{ℕ, _/_, _%_, _<_}
 use mathlib.Core.Path.{_≡_}
-use mathlib.Core.Logic.{_↔_, _⊎_, inl, inr}
-use mathlib.Core.Bool.{true, false}
+use mathlib.Core.Logic.{_↔_}
+use mathlib.Core.Bool.{true}
 use mathlib.Core.List.{List}
 use native.Mathlib.Omega.{arith}
-use lib.Dec.{ltb}
-use borrow.Author.Tests.{ltb-true, eqb-true, eq-eqb}
-use Rattle.graphs.specs.Search.Laws.{true-or-false}
+use borrow.Author.Tests.{eqb-true, eq-eqb}
 use Rattle.stateset.specs.Set.{width, In}
-use Rattle.fsbm.specs.Machine.{markOf, initial, final, buffering, matching, maxStates}
+use Rattle.fsbm.specs.Machine.{markOf, initial, final, buffering, matching}
 use Rattle.fsbm.specs.Published.{Listed}
+use Rattle.fsbm.specs.Rules.{Rules, marked}
 use Rattle.fsbm.specs.declared.machine.Machine.{Machine}
 use Rattle.fsbm.specs.declared.config.Mode.{Mode}
-use Rattle.adjacency.specs.Index.Laws.{Sorted}
 use Rattle.targets.specs.Targets.{Read, Targets}
 use Rattle.images.specs.Graph.{Members, graph, May, Edge, Good}
 
 pub good-table : {m : Machine} {list w numbers targets : List ℕ} → Targets m list w numbers targets → Good targets numbers
 good-table t = record { size = t .table .size; rows = t .table .rows; epsilons = t .epsilons }
 
--- a state whose mark is not 0 is one of the machine's
-marked : (m : Machine) (list : List ℕ) → Sorted m list → (q : ℕ) → (markOf (m .marks) q ≡ 0 → ⊥) → q < m .states
-marked m list s q some = at (true-or-false (ltb q maxStates)) (true-or-false (ltb q (m .states)))
-  where
-    at : (ltb q maxStates ≡ true) ⊎ (ltb q maxStates ≡ false) → (ltb q (m .states) ≡ true) ⊎ (ltb q (m .states) ≡ false) → q < m .states
-    at a (inl t) = ltb-true q (m .states) t
-    at (inl a) (inr f) = absurd (some (eqb-true (markOf (m .marks) q) 0 (rw f at (s .marks-good q (ltb-true q maxStates a)))))
-    at (inr a) (inr f) = absurd (some (rw a))
-
 -- a set made of one bit of the marks; b is the bit's value
-module _ (m : Machine) (list : List ℕ) (s : Sorted m list) (set : ℕ) where
+module _ (m : Machine) (list : List ℕ) (s : Rules m list) (set : ℕ) where
   pub final-says : Members set (λ q. (q < m .states) × (markOf (m .marks) q / 2 % 2 ≡ 1)) → (q : ℕ) → In set q ↔ (final (m .marks) q ≡ true)
   final-says k q = (
     λ h. eq-eqb (markOf (m .marks) q / 2 % 2) 1 (k .members q .0 h .1),
@@ -76,7 +65,7 @@ module _ (m : Machine) (list : List ℕ) (s : Sorted m list) (set : ℕ) where
       same y e = omega arith
 
 pub record Table (m : Machine) (list w targets numbers : List ℕ) (g h : ℕ) : Type 0 where
-  pub sorted : Sorted m list
+  pub rules : Rules m list
   pub holds : Targets m list w numbers targets
   pub stores : (q : ℕ) → In g q ↔ (buffering (m .marks) q ≡ true)
   pub matches : (q : ℕ) → In h q ↔ (matching (m .marks) q ≡ true)
@@ -87,8 +76,8 @@ module _ {m : Machine} {list w targets numbers : List ℕ} {g h : ℕ} (t : Tabl
 
   pub listed-edge : {T : Mode} {y p q : ℕ} → Read w y → Listed list (m .transitions) p y q → May g h T p q → Edge (graph targets numbers g h) T y p q
   listed-edge {y = y} {p = p} {q = q} r d a =
-      let small = t .sorted .from-below (d .number) (d .listed) in
-      let few = t .sorted .states-fit in
+      let small = t .rules .from-below (d .number) (d .listed) in
+      let few = t .rules .states-fit in
       let e = d .from in
       let state : p < width = omega arith in
       record { state = state; target = t .holds .table .listed y p q state r .1 d; may = a }

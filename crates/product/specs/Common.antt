@@ -41,7 +41,7 @@ use Rattle.product.specs.Count.{joined-count}
 use Rattle.product.specs.Product.{pairState, joint, jointMoves, joined, joinedTransitions, joinedCount, joinedMark, joinedMarks, joinedMachine, joinFault}
 use Rattle.product.specs.Rise.{Bounds, bounds}
 use Rattle.product.specs.Steps.{Step, moves-epsilon, moves-letter, joined-to, joined-of}
-use Rattle.product.specs.Tables.{TableRules, Joinable, joinable, pair-below}
+use Rattle.product.specs.Tables.{Joinable, joinable, pair-below}
 use Rattle.product.specs.WellFormed.{initial-joined, final-joined, buffering-joined, matching-joined, noTransition, listed-at, joined-well-formed}
 
 -- an element of a list stands at some place

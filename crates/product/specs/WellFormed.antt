@@ -27,7 +27,7 @@ use Rattle.product.specs.Each.Laws.{each-single}
 use Rattle.product.specs.Product.{pairState, joined, flat, joinedTransitions, joinedCount, pairMark, joinedMark, joinedMarks, joinedMachine, joinFault}
 use Rattle.product.specs.Rise.{Rises, rises-next, joined-rises, joined-bounds}
 use Rattle.product.specs.Steps.{flat-at}
-use Rattle.product.specs.Tables.{order, TableRules, Joinable, joinable, pair-below}
+use Rattle.product.specs.Tables.{order, Joinable, joinable, pair-below}
 
 -- Marks
 

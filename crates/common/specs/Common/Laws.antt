@@ -29,11 +29,12 @@ use Rattle.fsbm.specs.Moves.{accepting}
 use Rattle.fsbm.specs.Accepted.{runBound, accepted}
 use Rattle.fsbm.specs.Answers.{refusal}
 use Rattle.fsbm.specs.Published.{FSBM, fsbmOf, symbol, InLanguage}
+use Rattle.fsbm.specs.Rules.{rules}
 use Rattle.fsbm.specs.declared.machine.Machine.{Machine}
 use Rattle.language.specs.Agreement.{run-path}
 use Rattle.language.specs.Bound.{accepted-iff-run, accepted-iff-published}
 use Rattle.product.specs.Product.{joinedTransitions, joinedMachine, joinFault}
-use Rattle.product.specs.Tables.{table, Joinable, joinable}
+use Rattle.product.specs.Tables.{Joinable, joinable}
 use Rattle.product.specs.WellFormed.{joined-well-formed}
 use Rattle.product.specs.Common.{joined-accepted}
 use Rattle.pieces.specs.Pieces.{Stores, stored, store, Leads, ended, read, copy}
@@ -121,7 +122,7 @@ module _ (M : FSBM) (n : ℕ) (letters : (p a q : ℕ) → M .δ p a q → a < n
 accepted-letters : (m : Machine) (list : List ℕ) → wellFormed m list ≡ true → (w : List ℕ) → accepted m list w ≡ true → AllBelow (suc (m .letters)) w
 accepted-letters m list good w t =
     let l = accepted-iff-published m list w good .0 t in
-    let tab = table m list good in
+    let tab = rules m list good in
     leads-below (fsbmOf m list) (suc (m .letters))
     (λ p a q d. omega (arith, tab .letter-below (d .number) (d .listed), d .letter))
     (path-leads (run-path m list (l .run)))

@@ -26,16 +26,15 @@ use Rattle.stateset.specs.Set.{In}
 use Rattle.fsbm.specs.Machine.{transitionAt, matching}
 use Rattle.fsbm.specs.Moves.{beginBuffering, beginEmptying, backToNormal}
 use Rattle.fsbm.specs.Published.{fsbmOf, symbol}
-use Rattle.fsbm.specs.Rules.{rules, matching-below}
+use Rattle.fsbm.specs.Rules.{Rules, rules, matching-below, one-kind}
 use Rattle.fsbm.specs.declared.machine.Machine.{Machine}
-use Rattle.product.specs.Tables.{TableRules}
 use Rattle.pieces.specs.Pieces.{Leads}
 use Rattle.pieces.specs.Pieces.Laws.{leads-append}
 use Rattle.pieces.specs.Pairs.{unit}
 use Rattle.pieces.specs.Pairs.Laws.{weigh-symbol}
 use Rattle.pieces.specs.Blocks.{nothing, costOf, cell, blockOf}
 use Rattle.pieces.specs.Blocks.Laws.{cost-past}
-use Rattle.pieces.specs.Tight.{TightMove, TightCopy, settled-back, settled-start, settled-leads, block-tight, kinds-apart}
+use Rattle.pieces.specs.Tight.{TightMove, TightCopy, settled-back, settled-start, settled-leads, block-tight}
 use Rattle.pieces.specs.Rounds.Laws.{stores-enters}
 use Rattle.pieces.specs.Written.{Takes, LeadsBy, ended, read, copy}
 use Rattle.pieces.specs.Written.Laws.{leads-counted}
@@ -69,7 +68,7 @@ module _ {m : Machine} {list : List ℕ} where
 
 -- A normal move
 
-module _ (m : Machine) (list d : List ℕ) (q : ℕ) (word : List ℕ) (i : ℕ) (run : List ℕ) (r : ℕ) (t : TableRules m list) (fits : Fits m list d q i r) (word-fits : i ≤ length word) (run-fits : r ≤ length run)
+module _ (m : Machine) (list d : List ℕ) (q : ℕ) (word : List ℕ) (i : ℕ) (run : List ℕ) (r : ℕ) (t : Rules m list) (fits : Fits m list d q i r) (word-fits : i ≤ length word) (run-fits : r ≤ length run)
     (k : ℕ) (below : k < m .transitions) (f : NormalFits m list d q k) where
   abbrev from : ℕ
   from = transitionAt list k .from
@@ -155,7 +154,7 @@ module _ (m : Machine) (list index : List ℕ) (starts ends middles : ℕ) (d : 
         block = λ e. absurd (false≢true e);
         tight = λ e. absurd (false≢true e);
         bad = λ e t is.
-            let (p, a, δ, other) = stores-enters (kinds-apart m list (rules m list (s .ready .good))) (t .buffers) (t .turns) (t .route) in
+            let (p, a, δ, other) = stores-enters (one-kind m list (rules m list (s .ready .good))) (t .buffers) (t .turns) (t .route) in
             out (subst (λ (o : ℕ). In middles o) is (s .turnings .all p a (t .middle) δ (t .turns) other));
       }
 

@@ -1,5 +1,5 @@
 -- `targets::fill` meets its contract. Assumes nothing.
-use Rattle.adjacency.specs.Index.Laws.{sorted}
+use Rattle.fsbm.specs.Rules.{rules}
 use Rattle.targets.specs.Targets.Laws.{noted}
 use borrow.Author.Needs.{needs}
 use native.Mathlib.Omega.{arith}
@@ -12,7 +12,7 @@ fill-rows-requires c κs = search needs
 
 -- src/lib.rt:170:9
 sources-requires : tie.Need-sources-requires
-sources-requires c κs = (sorted (c .before .before .before .before .before .before .before .before .before .before .before .args .m) ((c .before .before .before .before .before .before .before .before .before .before .before .args .list) .now) ((c .before .before .before .before .before .before .before .before .before .before .before .pre) .0) .states-fit, omega (arith, (c .before .before .before .before .targets .given), (c .before .before .before .before .before .before .before .before .before .before .before .pre) .2))
+sources-requires c κs = (rules (c .before .before .before .before .before .before .before .before .before .before .before .args .m) ((c .before .before .before .before .before .before .before .before .before .before .before .args .list) .now) ((c .before .before .before .before .before .before .before .before .before .before .before .pre) .0) .states-fit, omega (arith, (c .before .before .before .before .targets .given), (c .before .before .before .before .before .before .before .before .before .before .before .pre) .2))
 
 -- src/lib.rt:171:16
 sub-last : tie.Need-sub-last

@@ -1,7 +1,7 @@
-use Rattle.adjacency.specs.Index.Laws.{sorted}
 use Rattle.targets.specs.Targets.{Filled}
 use Rattle.targets.specs.Targets.Laws.{inside-at, filled-start, filled-end}
 use Rattle.fsbm.specs.Machine.{wellFormed}
+use Rattle.fsbm.specs.Rules.{rules}
 use mathlib.Core.Path.{_≡_, refl, _∙_}
 use mathlib.Core.Bool.{true}
 use Prim.Native.Nat.{_≤_, _-_}
@@ -22,7 +22,7 @@ loop-holds c = ((c .before .before .before .pre) .0, omega arith, refl, filled-s
 
 -- src/lib.rt:131:9
 put-requires : tie.Need-put-requires Inv-loop μ-loop
-put-requires c κs = (inside-at (c .before .before .before .before .before .before .before .before .args .m) ((c .before .before .before .before .before .before .before .before .args .list) .now) ((c .before .before .before .before .before .before .before .before .args .numbers) .now) (c .before .before .before .before .loop .targets) ((c .before .before .before .before .loop .inv) .0) _ (c .before .before .if1 .taken), (c .before .before .before .before .loop .inv) .3, (c .before .before .before .before .loop .inv) .4, omega (arith, (c .before .before .if1 .taken), sorted (c .before .before .before .before .before .before .before .before .args .m) ((c .before .before .before .before .before .before .before .before .args .list) .now) ((c .before .before .before .before .loop .inv) .0) .transitions-fit))
+put-requires c κs = (inside-at (c .before .before .before .before .before .before .before .before .args .m) ((c .before .before .before .before .before .before .before .before .args .list) .now) ((c .before .before .before .before .before .before .before .before .args .numbers) .now) (c .before .before .before .before .loop .targets) ((c .before .before .before .before .loop .inv) .0) _ (c .before .before .if1 .taken), (c .before .before .before .before .loop .inv) .3, (c .before .before .before .before .loop .inv) .4, omega (arith, (c .before .before .if1 .taken), rules (c .before .before .before .before .before .before .before .before .args .m) ((c .before .before .before .before .before .before .before .before .args .list) .now) ((c .before .before .before .before .loop .inv) .0) .transitions-fit))
 
 -- src/lib.rt:132:9
 add-k : tie.Need-add-k Inv-loop μ-loop

@@ -21,8 +21,9 @@ use Rattle.stateset.specs.Set.{width, In, SetIs}
 use Rattle.stateset.specs.Set.Laws.{empty-in}
 use Rattle.fsbm.specs.Machine.{transitionAt, wellFormed}
 use Rattle.fsbm.specs.Published.{Listed}
+use Rattle.fsbm.specs.Rules.{rules}
 use Rattle.fsbm.specs.declared.machine.Machine.{Machine}
-use Rattle.adjacency.specs.Index.Laws.{sorted, zeros-at}
+use Rattle.adjacency.specs.Index.Laws.{zeros-at}
 use Rattle.targets.specs.Targets.{Distinct, Next, Numbered, Kept, Inside, Put, Filled, Read, Rows, Sources, Targets}
 
 -- what holds of the element that was set and of every other one holds of each
@@ -170,7 +171,7 @@ module _ (list numbers targets : List ℕ) (k n : ℕ) (inside : Inside list k) 
 module _ (m : Machine) (list numbers targets : List ℕ) where
   pub inside-at : wellFormed m list ≡ true → (k : ℕ) → k < m .transitions → Inside list k
   inside-at good k lt =
-      let s = sorted m list good in
+      let s = rules m list good in
       record {
         fits = let a = s .list-fits in omega arith;
         from = let a = s .from-below k lt in let b = s .states-fit in omega arith;
@@ -260,7 +261,7 @@ noted m list w numbers targets v good none inside t from =
     has : (p q : ℕ) → p < width → In (getD targets (getD numbers 0 0 * 64 + p) 0) q → In v p
     has p q lt h =
         let d = t .listed 0 p q lt (inl refl) .0 h in
-        let small = sorted m list good .from-below (d .number) (d .listed) in
+        let small = rules m list good .from-below (d .number) (d .listed) in
         let e = d .from in
         let at : getD numbers 0 0 * 64 + p ≡ p = omega (arith, none) in
         from p q (omega arith) (subst (λ (n : ℕ). In (getD targets n 0) q) at h)

@@ -1,7 +1,7 @@
-use Rattle.adjacency.specs.Index.Laws.{sorted}
 use borrow.Author.Needs.{needs}
 use native.Mathlib.Omega.{arith}
 use borrow.Author.Needs.{needs}
+use Rattle.fsbm.specs.Rules.{rules}
 use Rattle.decide.proofs.words.accepts_with.Statement.{statement}
 use Rattle.decide.proofs.words.accepts_with.Tie as tie
 use Rattle.decide.proofs.words.accepts_with.Reads as reads
@@ -16,7 +16,7 @@ fill-requires c κs = ((c .before .before .before .before .before .before .pre) 
 
 -- src/words.rt:28:9
 kinds-of-requires : tie.Need-kinds-of-requires
-kinds-of-requires c κs = sorted (c .before .before .before .before .before .before .before .before .before .before .before .before .before .args .t1) ((c .before .before .before .before .before .before .before .before .before .before .before .before .before .args .list) .now) ((c .before .before .before .before .before .before .before .before .before .before .before .before .before .pre) .0) .states-fit
+kinds-of-requires c κs = rules (c .before .before .before .before .before .before .before .before .before .before .before .before .before .args .t1) ((c .before .before .before .before .before .before .before .before .before .before .before .before .before .args .list) .now) ((c .before .before .before .before .before .before .before .before .before .before .before .before .before .pre) .0) .states-fit
 
 -- src/words.rt:29:9
 decide-requires : tie.Need-decide-requires
