@@ -4,7 +4,9 @@
 -- rising                  == where a table obeys the rules, this number rises along its list
 -- Joinable ..             == what the laws use of joinFault ≡ 0
 -- joinable                == joinFault ≡ 0 says it
--- pair-below, pair-before, pair-same == the number of a pair: below the product of the state counts, rising, its parts
+-- pair-below, pair-before == the number of a pair: below the product of the state counts, rising
+-- pair-first, pair-second, pair-same == its parts; it is the number of one pair only
+-- first-below, second-below == the parts of a state of the product are states of the two machines
 use Prim.Native.Nat.{ℕ, zero, suc, _+_, _*_, _-_, _/_, _%_, _≤_, _<_}
 use mathlib.Core.Path.{_≡_, refl, sym, ap, _∙_}
 use mathlib.Core.Logic.{_⊎_, inl, inr}
@@ -12,7 +14,7 @@ use mathlib.Core.Bool.{Bool, true, false, cond, not, false≢true}
 use mathlib.Core.List.{List}
 use native.Mathlib.Omega.{arith}
 use native.Mathlib.Decide.{ℕ-discrete}
-use native.Mathlib.Nat.{mul-le-mul-right, suc-mul, mul-add-div-right, div-eq-of-lt}
+use native.Mathlib.Nat.{mul-le-mul-right, suc-mul, mul-add-div-right, div-eq-of-lt, mul-add-mod-self-right, mod-eq-of-lt, mod-lt, div-lt-iff-lt-mul}
 use lib.Dec.{leb, ltb, eqb}
 use borrow.Author.Tests.{leb-true, ltb-true, eqb-true, eqb-false, not-true}
 use Rattle.graphs.specs.Search.{allBelow}
@@ -127,12 +129,25 @@ pair-below a n p r lt lr =
     let row = suc-mul p n in
     omega arith
 
-pub pair-same : (n p r q s : ℕ) → r < n → s < n → p * n + r ≡ q * n + s → (p ≡ q) × (r ≡ s)
-pair-same n p r q s lr ls e =
+pub pair-first : (n p r : ℕ) → r < n → (p * n + r) / n ≡ p
+pair-first n p r lr =
     let pos : 0 < n = omega arith in
-    let quotients = sym (mul-add-div-right pos p r) ∙ ap (λ (z : ℕ). z / n) e ∙ mul-add-div-right pos q s in
-    let dr = div-eq-of-lt lr in
-    let ds = div-eq-of-lt ls in
-    let same : p ≡ q = omega arith in
-    let rows = ap (λ (z : ℕ). z * n) same in
-    (same, omega arith)
+    let e = mul-add-div-right pos p r in
+    let z = div-eq-of-lt lr in
+    omega arith
+
+pub pair-second : (n p r : ℕ) → r < n → (p * n + r) % n ≡ r
+pair-second n p r lr = mul-add-mod-self-right p n r ∙ mod-eq-of-lt lr
+
+pub pair-same : (n p r q s : ℕ) → r < n → s < n → p * n + r ≡ q * n + s → (p ≡ q) × (r ≡ s)
+pair-same n p r q s lr ls e = (
+  sym (pair-first n p r lr) ∙ (ap (λ (z : ℕ). z / n) e ∙ pair-first n q s ls),
+  sym (pair-second n p r lr) ∙ (ap (λ (z : ℕ). z % n) e ∙ pair-second n q s ls),
+)
+
+module _ {m₁ : Machine} {l₁ : List ℕ} {m₂ : Machine} {l₂ : List ℕ} (j : Joinable m₁ l₁ m₂ l₂) (q : ℕ) where
+  pub first-below : q < m₁ .states * m₂ .states → q / m₂ .states < m₁ .states
+  first-below lt = div-lt-iff-lt-mul (j .second .some-state) .1 lt
+
+  pub second-below : q % m₂ .states < m₂ .states
+  second-below = mod-lt q (j .second .some-state)
