@@ -1,7 +1,6 @@
 -- The laws of specs/Common.antt: leastCommon speaks of words of any length.
 --
 -- common-runs, common-published == a word is common exactly if each machine has an accepting run of it; if it is in both published languages
--- answer-values        == the number and values of the answer are those that the rules give
 -- answer-fault, answer-none, answer-word, answer-first, answer-second, answer-found == the answer in each case
 -- common-parts         == exactly if each accepts it
 -- common-joined        == exactly if the product accepts it, with anything behind its list
@@ -13,7 +12,7 @@
 use Prim.Native.Nat.{ℕ, zero, suc, _+_, _≤_, _<_}
 use mathlib.Core.Path.{_≡_, refl, sym, _∙_}
 use mathlib.Core.Logic.{_↔_, _⊎_, inl, inr}
-use mathlib.Core.Bool.{Bool, true, false, cond, _&&_}
+use mathlib.Core.Bool.{true, false, _&&_}
 use mathlib.Core.List.{List, [], _++_}
 use native.Mathlib.Omega.{arith}
 use native.Mathlib.Decide.{decLe}
@@ -41,20 +40,8 @@ use Rattle.pieces.specs.Pieces.{Stores, stored, store, Leads, ended, read, copy
 use Rattle.pieces.specs.Pieces.Laws.{path-leads}
 use Rattle.pieces.specs.Bound.{wordBound}
 use Rattle.pieces.specs.Bound.Laws.{short-word}
-use Rattle.common.specs.declared.Common.{Common}
 use Rattle.common.specs.declared.Common.the-variants.{Refused, NoCommonWord, Found}
-use Rattle.common.specs.Common.{isCommon, hasCommon, leastCommon, commonAnswer, commonValues, answerValues}
-
--- The values of the answer
-
-values-cond : (b : Bool) (x y : Common) → commonValues (cond b x y) ≡ cond b (commonValues x) (commonValues y)
-values-cond true x y = refl
-values-cond false x y = refl
-
-pub answer-values : (m₁ : Machine) (l₁ : List ℕ) (m₂ : Machine) (l₂ : List ℕ) (word first second entries : ℕ)
-    → commonValues (commonAnswer m₁ l₁ m₂ l₂ word first second entries) ≡ answerValues m₁ l₁ m₂ l₂ word first second entries
-unfolding commonAnswer answerValues
-answer-values m₁ l₁ m₂ l₂ word first second entries = simp values-cond
+use Rattle.common.specs.Common.{isCommon, hasCommon, leastCommon, commonAnswer}
 
 -- The answer in each case
 
