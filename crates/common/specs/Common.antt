@@ -6,7 +6,7 @@
 -- leastCommon ..       == the number of letters of a shortest common word; one more than the longest that is searched where there is none
 -- commonAnswer .. word first second entries == the answer to slices of these lengths; entries is the length of the first run that is written
 -- commonValues r       == document 01's number and values for each case of the answer
--- answerValues ..      == the number and values that the rules give
+-- answerValues ..      == those of the answer that the rules give
 -- Front k before after == k elements stand at the front of a slice, and the rest is as it was
 -- CommonWord           == the contract: the answer with its number and values, the word and the runs at the front of the slices, the rest as it was
 use Prim.Native.Nat.{ℕ, suc, _+_, _≤_}
@@ -75,19 +75,8 @@ commonValues NoCommonWord = nothingFound 0 0
 commonValues (Found k) = record { refusal = 0; needed = 0; found = 1; letters = k .letters; first = k .first; second = k .second }
 
 module _ (m₁ : Machine) (l₁ : List ℕ) (m₂ : Machine) (l₂ : List ℕ) where
-  unfoldable pub answerValues : ℕ → ℕ → ℕ → ℕ → CommonValues
-  answerValues word first second entries =
-      cond (eqb (joinFault m₁ l₁ m₂ l₂) 0)
-      (cond (leb (leastCommon m₁ l₁ m₂ l₂) wordBound)
-      (cond (leb (leastCommon m₁ l₁ m₂ l₂) word)
-      (cond (leb (runBound m₁ (leastCommon m₁ l₁ m₂ l₂)) first)
-      (cond (leb (leastCommon m₁ l₁ m₂ l₂ + 1) second)
-      (record { refusal = 0; needed = 0; found = 1; letters = leastCommon m₁ l₁ m₂ l₂; first = entries; second = leastCommon m₁ l₁ m₂ l₂ + 1 })
-      (nothingFound 17 (leastCommon m₁ l₁ m₂ l₂ + 1)))
-      (nothingFound 17 (runBound m₁ (leastCommon m₁ l₁ m₂ l₂))))
-      (nothingFound 18 (leastCommon m₁ l₁ m₂ l₂)))
-      (nothingFound 0 0))
-      (nothingFound (joinFault m₁ l₁ m₂ l₂) 0)
+  abbrev pub answerValues : ℕ → ℕ → ℕ → ℕ → CommonValues
+  answerValues word first second entries = commonValues (commonAnswer m₁ l₁ m₂ l₂ word first second entries)
 
 pub record Front (k : ℕ) (before after : List ℕ) : Type 0 where
   pub fits : k ≤ length before

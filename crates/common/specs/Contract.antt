@@ -3,7 +3,7 @@
 -- contract-unchanged   == an answer with which nothing is written, and the slices as they were
 -- contract-found       == a word and two accepting runs at the front of slices that are long enough
 use Prim.Native.Nat.{ℕ, _+_, _≤_}
-use mathlib.Core.Path.{_≡_, refl, ap, _∙_, subst₂}
+use mathlib.Core.Path.{_≡_, refl, ap, subst₂}
 use mathlib.Core.Bool.{true}
 use mathlib.Core.List.{List}
 use native.Mathlib.Omega.{arith}
@@ -17,7 +17,7 @@ use Rattle.common.specs.declared.Lengths.{Lengths}
 use Rattle.common.specs.declared.Common.{Common}
 use Rattle.common.specs.declared.Common.the-variants.{Refused, NoCommonWord, Found}
 use Rattle.common.specs.Common.{leastCommon, commonAnswer, commonValues, Front, CommonWord}
-use Rattle.common.specs.Common.Laws.{answer-values, answer-found}
+use Rattle.common.specs.Common.Laws.{answer-found}
 
 front-same : (l : List ℕ) → Front 0 l l
 front-same l = record { fits = omega arith; size = refl; rest = refl }
@@ -32,7 +32,7 @@ module _ (m₁ : Machine) (l₁ : List ℕ) (m₂ : Machine) (l₂ word first se
       record {
         entries = entries;
         answer = e;
-        values = ap commonValues e ∙ answer-values m₁ l₁ m₂ l₂ (length word) (length first) (length second) entries;
+        values = ap commonValues e;
         bounded = omega arith;
         of-word = front-same word;
         of-first = front-same first;
@@ -44,7 +44,7 @@ module _ (m₁ : Machine) (l₁ : List ℕ) (m₂ : Machine) (l₂ word first se
       record {
         entries = entries;
         answer = e;
-        values = ap commonValues e ∙ answer-values m₁ l₁ m₂ l₂ (length word) (length first) (length second) entries;
+        values = ap commonValues e;
         bounded = omega arith;
         of-word = front-same word;
         of-first = front-same first;
@@ -66,7 +66,7 @@ module _ (m₁ : Machine) (l₁ : List ℕ) (m₂ : Machine) (l₂ word first se
       record {
         entries = entries;
         answer = is;
-        values = ap commonValues is ∙ answer-values m₁ l₁ m₂ l₂ (length word) (length first) (length second) entries;
+        values = ap commonValues is;
         bounded = bounded;
         of-word = w;
         of-first = f;

@@ -19,7 +19,7 @@ use Rattle.fsbm.specs.declared.machine.Machine.{Machine}
 use Rattle.fsbm.specs.declared.config.Mode.the-variants.{Normal}
 use Rattle.graphs.specs.Bools.{same-truth}
 use Rattle.language.specs.Bound.{accepted-iff-published}
-use Rattle.adjacency.specs.Index.Laws.{sorted}
+use Rattle.fsbm.specs.Rules.{rules}
 use Rattle.targets.specs.Prepared.{Prepared}
 use Rattle.images.specs.declared.Kinds.{Kinds}
 use Rattle.images.specs.Graph.{Members, graph, KindsOf}
@@ -35,10 +35,10 @@ module _ (m : Machine) (list w targets : List ℕ) (good : wellFormed m list ≡
   table : Table m list w targets (k .buffering) (k .matching)
   table =
       record {
-        sorted = sorted m list good;
+        rules = rules m list good;
         holds = t;
-        stores = buffering-says m list (sorted m list good) (k .buffering) (kinds .buffering);
-        matches = matching-says m list (sorted m list good) (k .matching) (kinds .matching);
+        stores = buffering-says m list (rules m list good) (k .buffering) (kinds .buffering);
+        matches = matching-says m list (rules m list good) (k .matching) (kinds .matching);
       }
 
   pub decided : (end both : ℕ) → Members end (Reach (graph targets (m .states) (k .buffering) (k .matching)) w (k .initial) (length w)) → Members both (λ q. In end q × In (k .finals) q)
@@ -53,21 +53,21 @@ module _ (m : Machine) (list w targets : List ℕ) (good : wellFormed m list ≡
           accepted-iff-published m list w good .1 (record {
             first = o;
             last = q;
-            first-initial = initial-says m list (sorted m list good) (k .initial) (kinds .initial) o .0 io;
-            last-final = final-says m list (sorted m list good) (k .finals) (kinds .finals) q .0 is-final;
+            first-initial = initial-says m list (rules m list good) (k .initial) (kinds .initial) o .0 io;
+            last-final = final-says m list (rules m list good) (k .finals) (kinds .finals) q .0 is-final;
             run = subst (λ (u : List ℕ). Run (fsbmOf m list) (config w o [] Normal) (config u q [] Normal)) (drop-length w) run;
           })
 
       from : accepted m list w ≡ true → not (eqb both 0) ≡ true
       from e =
           let l = accepted-iff-published m list w good .0 e in
-          let r = run-reach w table (k .initial) (initial-says m list (sorted m list good) (k .initial) (kinds .initial) (l .first) .1 (l .first-initial)) (l .run) in
+          let r = run-reach w table (k .initial) (initial-says m list (rules m list good) (k .initial) (kinds .initial) (l .first) .1 (l .first-initial)) (l .run) in
           let all : length w - 0 ≡ length w = omega arith in
           let ended = reached .members (l .last) .1 (subst (λ (n : ℕ). Reach (graph targets (m .states) (k .buffering) (k .matching)) w (k .initial) n (l .last)) all r) in
-          let y = shared .members (l .last) .1 (ended, final-says m list (sorted m list good) (k .finals) (kinds .finals) (l .last) .1 (l .last-final)) in
+          let y = shared .members (l .last) .1 (ended, final-says m list (rules m list good) (k .finals) (kinds .finals) (l .last) .1 (l .last-final)) in
           ap not (ne-eqb both 0 (λ z. none-in z (l .last) y))
 
   pub covered : (sets : List ℕ) → Stage (graph targets (m .states) (k .buffering) (k .matching)) w (k .initial) sets (length w + 1) → Covers m list w sets
   covered sets st o q u first run =
       stage-reach (graph targets (m .states) (k .buffering) (k .matching)) w (k .initial) sets (length w + 1) st (omega arith)
-      (run-reach w table (k .initial) (initial-says m list (sorted m list good) (k .initial) (kinds .initial) o .1 first) run)
+      (run-reach w table (k .initial) (initial-says m list (rules m list good) (k .initial) (kinds .initial) o .1 first) run)

@@ -21,7 +21,7 @@ use Rattle.fsbm.specs.Machine.{wellFormed, markOf, initial, final, buffering, m
 use Rattle.fsbm.specs.Published.{Listed}
 use Rattle.fsbm.specs.declared.machine.Machine.{Machine}
 use Rattle.fsbm.specs.declared.config.Mode.{Mode}
-use Rattle.adjacency.specs.Index.Laws.{Sorted, sorted}
+use Rattle.fsbm.specs.Rules.{Rules, rules, marked}
 use Rattle.targets.specs.Prepared.{Row, Prepared}
 use Rattle.decide.specs.Reach.{Rooms}
 use Rattle.images.specs.Graph.{Members, graph, May, Edge, Good}
@@ -34,7 +34,7 @@ module _ {m : Machine} {list w targets : List ℕ} (t : Prepared m list w target
   pub good-table : wellFormed m list ≡ true → Good targets (m .states)
   good-table good =
       record {
-        few = sorted m list good .states-fit;
+        few = rules m list good .states-fit;
         row = t .epsilon .room;
         epsilons = λ p q lt h. t .sources p q (t .epsilon .listed p q lt .0 h);
       }
@@ -47,17 +47,8 @@ module _ {m : Machine} {list w targets : List ℕ} (t : Prepared m list w target
   row-read (inl e) = subst (Row m list targets) (sym e) (t .epsilon)
   row-read (inr (i, lt, e, some)) = subst (Row m list targets) e (t .letters i lt)
 
--- a state whose mark is not 0 is one of the machine's
-marked : (m : Machine) (list : List ℕ) → Sorted m list → (q : ℕ) → (markOf (m .marks) q ≡ 0 → ⊥) → q < m .states
-marked m list s q some = at (true-or-false (ltb q maxStates)) (true-or-false (ltb q (m .states)))
-  where
-    at : (ltb q maxStates ≡ true) ⊎ (ltb q maxStates ≡ false) → (ltb q (m .states) ≡ true) ⊎ (ltb q (m .states) ≡ false) → q < m .states
-    at a (inl t) = ltb-true q (m .states) t
-    at (inl a) (inr f) = absurd (some (eqb-true (markOf (m .marks) q) 0 (rw f at (s .marks-good q (ltb-true q maxStates a)))))
-    at (inr a) (inr f) = absurd (some (rw a))
-
 -- a set made of one bit of the marks; b is the bit's value
-module _ (m : Machine) (list : List ℕ) (s : Sorted m list) (set : ℕ) where
+module _ (m : Machine) (list : List ℕ) (s : Rules m list) (set : ℕ) where
   pub final-says : Members set (λ q. (q < m .states) × (markOf (m .marks) q / 2 % 2 ≡ 1)) → (q : ℕ) → In set q ↔ (final (m .marks) q ≡ true)
   final-says k q = (
     λ h. eq-eqb (markOf (m .marks) q / 2 % 2) 1 (k .members q .0 h .1),
@@ -98,7 +89,7 @@ module _ (m : Machine) (list : List ℕ) (s : Sorted m list) (set : ℕ) where
       same y e = omega arith
 
 pub record Table (m : Machine) (list w targets : List ℕ) (g h : ℕ) : Type 0 where
-  pub sorted : Sorted m list
+  pub rules : Rules m list
   pub holds : Prepared m list w targets
   pub stores : (q : ℕ) → In g q ↔ (buffering (m .marks) q ≡ true)
   pub matches : (q : ℕ) → In h q ↔ (matching (m .marks) q ≡ true)
@@ -109,7 +100,7 @@ module _ {m : Machine} {list w targets : List ℕ} {g h : ℕ} (t : Table m list
 
   pub listed-edge : {T : Mode} {y p q : ℕ} → Read w y → Listed list (m .transitions) p y q → May g h T p q → Edge (graph targets (m .states) g h) T y p q
   listed-edge {y = y} {p = p} {q = q} r d a =
-      let small = t .sorted .from-below (d .number) (d .listed) in
+      let small = t .rules .from-below (d .number) (d .listed) in
       let e = d .from in
       let state : p < m .states = omega arith in
       record { state = state; target = row-read (t .holds) r .listed p q state .1 d; may = a }

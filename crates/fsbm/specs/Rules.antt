@@ -2,42 +2,66 @@
 --
 -- Rules m list         == what the laws use of wellFormed
 -- rules                == wellFormed says it
--- buffering-below, matching-below == a state of that kind is one of the machine's
+-- marked               == a state whose mark is not 0 is one of the machine's
+-- buffering-below, matching-below == so is a state of that kind
+-- one-kind             == no state is both buffering and matching
 -- Placed m w c t       == what wellPlaced says of c, its mode taken as t
 -- placed, unplaced     == wellPlaced is true exactly if it holds
-use Prim.Native.Nat.{ℕ, _*_, _-_, _/_, _%_, _≤_, _<_}
-use mathlib.Core.Path.{_≡_}
+use Prim.Native.Nat.{ℕ, suc, _*_, _-_, _/_, _%_, _≤_, _<_}
+use mathlib.Core.Path.{_≡_, subst}
 use mathlib.Core.Logic.{_⊎_, inl, inr}
-use mathlib.Core.Bool.{Bool, true, false, _&&_, _||_}
+use mathlib.Core.Bool.{Bool, true, false, cond, not, _&&_, _||_}
 use mathlib.Core.List.{List}
 use native.Mathlib.Omega.{arith}
 use lib.ListN.{length}
 use lib.Dec.{leb, ltb, eqb}
 use borrow.Author.Tests.{leb-true, ltb-true, eqb-true, le-leb, lt-ltb}
 use Rattle.graphs.specs.Search.{allBelow}
-use Rattle.graphs.specs.Search.Laws.{and-true, and-both-true, true-or-false, allBelow-true}
+use Rattle.graphs.specs.Bools.{not-and-says}
+use Rattle.graphs.specs.Search.Laws.{and-true, and-both-true, true-or-false, allBelow-true, or-true}
 use Rattle.fsbm.specs.Machine.{wellFormed, goodMark, named, precedes, goodTransition, transitionAt, markOf, maxStates, maxLetters, maxTransitions, buffering, matching}
 use Rattle.fsbm.specs.Moves.{wellPlaced, bufferFits}
 use Rattle.fsbm.specs.declared.machine.Machine.{Machine}
-use Rattle.fsbm.specs.declared.machine.Transition.{Transition}
 use Rattle.fsbm.specs.declared.config.Config.{Config}
 use Rattle.fsbm.specs.declared.config.Mode.{Mode}
 
 pub record Rules (m : Machine) (list : List ℕ) : Type 0 where
   pub some-state : 1 ≤ m .states
   pub states-fit : m .states ≤ 64
+  pub letters-fit : m .letters ≤ 250
   pub transitions-fit : m .transitions ≤ 4000
   pub list-fits : m .transitions * 3 ≤ length list
   pub marks-good : (q : ℕ) → q < 64 → goodMark m q ≡ true
   pub from-below : (k : ℕ) → k < m .transitions → transitionAt list k .from < m .states
+  pub letter-below : (k : ℕ) → k < m .transitions → transitionAt list k .letter ≤ m .letters
   pub to-below : (k : ℕ) → k < m .transitions → transitionAt list k .to < m .states
+  pub rises : (k : ℕ) → suc k < m .transitions → precedes (transitionAt list k) (transitionAt list (suc k)) ≡ true
 
-named-says : (m : Machine) (t : Transition) (b : Bool) → (named (m .states) (m .letters) t && b) ≡ true → (t .from < m .states) × (t .to < m .states)
-named-says m t b h =
-    let n = and-true (named (m .states) (m .letters) t) b h .0 in
+record Good (m : Machine) (list : List ℕ) (k : ℕ) : Type 0 where
+  from : transitionAt list k .from < m .states
+  letter : transitionAt list k .letter ≤ m .letters
+  to : transitionAt list k .to < m .states
+  after : (eqb k 0 || precedes (transitionAt list (k - 1)) (transitionAt list k)) ≡ true
+
+good-says : (m : Machine) (list : List ℕ) (k : ℕ) → goodTransition (m .states) (m .letters) list k ≡ true → Good m list k
+good-says m list k h =
+    let t = transitionAt list k in
+    let (n, after) = and-true (named (m .states) (m .letters) t) (eqb k 0 || precedes (transitionAt list (k - 1)) t) h in
     let (from, rest) = and-true (ltb (t .from) (m .states)) (leb (t .letter) (m .letters) && ltb (t .to) (m .states)) n in
     let (letter, to) = and-true (leb (t .letter) (m .letters)) (ltb (t .to) (m .states)) rest in
-    (ltb-true (t .from) (m .states) from, ltb-true (t .to) (m .states) to)
+    record {
+      from = ltb-true (t .from) (m .states) from;
+      letter = leb-true (t .letter) (m .letters) letter;
+      to = ltb-true (t .to) (m .states) to;
+      after = after;
+    }
+
+good-rises : (m : Machine) (list : List ℕ) (k : ℕ) → Good m list (suc k) → precedes (transitionAt list k) (transitionAt list (suc k)) ≡ true
+good-rises m list k g = at (or-true (eqb (suc k) 0) (precedes (transitionAt list (suc k - 1)) (transitionAt list (suc k))) (g .after))
+  where
+    at : (eqb (suc k) 0 ≡ true) ⊎ (precedes (transitionAt list (suc k - 1)) (transitionAt list (suc k)) ≡ true) → precedes (transitionAt list k) (transitionAt list (suc k)) ≡ true
+    at (inl z) = let e = eqb-true (suc k) 0 z in absurd (omega arith)
+    at (inr t) = let e : suc k - 1 ≡ k = omega arith in subst (λ (j : ℕ). precedes (transitionAt list j) (transitionAt list (suc k)) ≡ true) e t
 
 pub rules : (m : Machine) (list : List ℕ) → wellFormed m list ≡ true → Rules m list
 unfolding wellFormed
@@ -53,20 +77,21 @@ rules m list h =
     let (d, r₄) = and-true few (enough && all) r₃ in
     let (e, r₅) = and-true enough all r₄ in
     let (marks, moves) = and-true (allBelow maxStates (goodMark m)) (allBelow (m .transitions) good) r₅ in
-    let each : (k : ℕ) → k < m .transitions → (transitionAt list k .from < m .states) × (transitionAt list k .to < m .states) =
-    λ k lt. named-says m (transitionAt list k) (eqb k 0 || precedes (transitionAt list (k - 1)) (transitionAt list k)) (allBelow-true good (m .transitions) .0 moves k lt) in
+    let each : (k : ℕ) → k < m .transitions → Good m list k = λ k lt. good-says m list k (allBelow-true good (m .transitions) .0 moves k lt) in
     record {
       some-state = leb-true 1 (m .states) a;
       states-fit = leb-true (m .states) maxStates b;
+      letters-fit = leb-true (m .letters) maxLetters c;
       transitions-fit = leb-true (m .transitions) maxTransitions d;
       list-fits = leb-true (m .transitions * 3) (length list) e;
       marks-good = allBelow-true (goodMark m) maxStates .0 marks;
-      from-below = λ k lt. each k lt .0;
-      to-below = λ k lt. each k lt .1;
+      from-below = λ k lt. each k lt .from;
+      letter-below = λ k lt. each k lt .letter;
+      to-below = λ k lt. each k lt .to;
+      rises = λ k lt. good-rises m list k (each (suc k) lt);
     }
 
--- a state whose mark is not 0 is one of the machine's
-marked : (m : Machine) (list : List ℕ) → Rules m list → (q : ℕ) → (markOf (m .marks) q ≡ 0 → ⊥) → q < m .states
+pub marked : (m : Machine) (list : List ℕ) → Rules m list → (q : ℕ) → (markOf (m .marks) q ≡ 0 → ⊥) → q < m .states
 marked m list r q some = at (true-or-false (ltb q maxStates)) (true-or-false (ltb q (m .states)))
   where
     at : (ltb q maxStates ≡ true) ⊎ (ltb q maxStates ≡ false) → (ltb q (m .states) ≡ true) ⊎ (ltb q (m .states) ≡ false) → q < m .states
@@ -85,6 +110,15 @@ matching-below m list r q h = marked m list r q (λ z. zero-bit (markOf (m .mark
   where
     zero-bit : (x : ℕ) → x / 8 % 2 ≡ 1 → x ≡ 0 → ⊥
     zero-bit x e z = omega arith
+
+pub one-kind : (m : Machine) (list : List ℕ) → Rules m list → (q : ℕ) → buffering (m .marks) q ≡ true → matching (m .marks) q ≡ true → ⊥
+one-kind m list r q b h =
+    let lt = buffering-below m list r q b in
+    let good = r .marks-good q (omega (arith, r .states-fit)) in
+    let small = leb (markOf (m .marks) q) 15 in
+    let one = not (buffering (m .marks) q && matching (m .marks) q) in
+    let here : (small && one) ≡ true = subst (λ (z : Bool). cond z (small && one) (eqb (markOf (m .marks) q) 0) ≡ true) (lt-ltb q (m .states) lt) good in
+    not-and-says (buffering (m .marks) q) (matching (m .marks) q) (and-true small one here .1) (b, h)
 
 pub record Placed (m : Machine) (w : List ℕ) (c : Config) (t : Mode) : Type 0 where
   pub in-word : c .position ≤ length w

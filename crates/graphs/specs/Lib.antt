@@ -1,4 +1,5 @@
 pub mod Bools
+pub mod Lists
 pub mod Search
 pub mod Counting
 pub mod Paths

@@ -25,7 +25,7 @@ use Rattle.fsbm.specs.declared.config.Mode.the-variants.{Normal, Buffering, Emp
 use Rattle.language.specs.NoWord.{passable}
 use Rattle.fsbm.specs.Rules.{rules}
 use Rattle.layers.specs.Ways.{keyIn, opens, Next, HasKey, StateWays, Ways, Visited}
-use Rattle.layers.specs.Ways.Laws.{list-rules, key-says, open-passable, leads-key, key-in-below}
+use Rattle.layers.specs.Ways.Laws.{key-says, open-passable, leads-key, key-in-below}
 use Rattle.layers.specs.Costs.{at}
 use Rattle.layers.specs.Rows.{lesserOf, lowered, Lowered, Lowering, ByPass, ByChange, Closed}
 use Rattle.layers.specs.Rows.Laws.{pass-start, pass-skip, pass-none, pass-one, change-start, change-skip, change-one, closed-here, closed-more, pass-stays, pass-falls, change-stays, change-falls}
@@ -81,7 +81,7 @@ visit-fits m list k good lt =
     let n = r .transitions-fit in
     let f = r .from-below k lt in
     let g = r .to-below k lt in
-    let l = list-rules m list good .list-fits in
+    let l = r .list-fits in
     (omega arith, omega arith, omega arith, omega arith)
 
 module _ (marks list : List ℕ) (t : Mode) (k : ℕ) (next row : List ℕ) (b : Bool) (is : b ≡ opens marks (transitionAt list k .from) (transitionAt list k .to) t) where

@@ -24,7 +24,7 @@ use Rattle.fsbm.specs.declared.config.Mode.the-variants.{Normal, Buffering, Emp
 use Rattle.fsbm.specs.Rules.{rules}
 use Rattle.layers.specs.Costs.{none, at}
 use Rattle.layers.specs.Ways.{keyOf, keyIn, empties, kindHead, WaysFrom, Ways, pushed, Cleared, stateLinked}
-use Rattle.layers.specs.Ways.Laws.{list-rules, key-below, pushed-size, transition-step, state-step}
+use Rattle.layers.specs.Ways.Laws.{key-below, pushed-size, transition-step, state-step}
 
 module _ (marks : List ℕ) (t : Transition) (b : Bool) (both : b ≡ bothMatching marks t) where
   pub key-both : b ≡ true → t .letter * 2 + 1 ≡ keyOf marks t
@@ -148,7 +148,7 @@ module _ (m : Machine) (list : List ℕ) (good : wellFormed m list ≡ true) whe
     key-there = key-is ∙ ap (keyOf (m .marks)) is
 
     key-small : keyOf (m .marks) (transitionAt list k) < 512
-    key-small = key-below (m .marks) (transitionAt list k) (list-rules m list good .letter-fits k (omega (arith, h .below)))
+    key-small = let r = rules m list good in key-below (m .marks) (transitionAt list k) (omega (arith, r .letters-fit, r .letter-below k (omega (arith, h .below))))
 
     pub push-fits : (key < length ways) × (578 + k < length ways)
     push-fits = let a = key-there in let b = key-small in let c = h .linked .size in let d = h .below in (omega arith, omega arith)

@@ -27,7 +27,7 @@ pub fn fall(d: &mut [u64; 64], got: u64, q: usize, v: u64) -> u64
 }
 
 // The weight of a move by the letter x.
-fn weight(x: u16) -> u64
+pub fn weight(x: u16) -> u64
     ensures { λ r. ⌜ (r ≡ weigh x) × (r ≤ 4294967297) ⌝ }
 {
     if x == 0 {

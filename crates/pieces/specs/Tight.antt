@@ -1,6 +1,5 @@
 -- The last piece of a least run, found from settled numbers: laws for writing a run from its end.
 --
--- kinds-apart          == no state of a machine that obeys the rules is both buffering and matching
 -- TightMove M D q      == a normal move into q with D q = (its weight) + D p
 -- TightCopy M D q      == a copy that ends in q with D q = (its weight) + D g
 -- settled-back         == where D q is neither 0 nor none there is one or the other
@@ -13,22 +12,14 @@
 use Prim.Native.Nat.{ℕ, _+_, _*_, _-_, _≤_, _<_}
 use mathlib.Core.Path.{_≡_, subst}
 use mathlib.Core.Logic.{_⊎_, inl, inr}
-use mathlib.Core.Bool.{Bool, true, cond, not, _&&_}
 use mathlib.Core.List.{List, _++_}
 use native.Mathlib.Omega.{arith}
 use lib.ListN.{length, length-append}
-use lib.Dec.{leb, eqb}
-use borrow.Author.Tests.{lt-ltb}
-use Rattle.graphs.specs.Search.Laws.{and-true}
-use Rattle.graphs.specs.Bools.{not-and-says}
 use Rattle.graphs.specs.Cost.{Route, Settled}
 use Rattle.graphs.specs.Cost.Laws.{descend, zero-goal}
 use Rattle.graphs.specs.Back.{Back}
 use Rattle.graphs.specs.Back.Laws.{route-back}
-use Rattle.fsbm.specs.Machine.{markOf, buffering, matching}
-use Rattle.fsbm.specs.Published.{FSBM, fsbmOf}
-use Rattle.fsbm.specs.Rules.{Rules, buffering-below}
-use Rattle.fsbm.specs.declared.machine.Machine.{Machine}
+use Rattle.fsbm.specs.Published.{FSBM}
 use Rattle.pieces.specs.Pieces.{Leads}
 use Rattle.pieces.specs.Pieces.Laws.{leads-append}
 use Rattle.pieces.specs.Pairs.{unit, weigh, Pair, both, PairMove, moves, Piece, moved, copied}
@@ -36,15 +27,6 @@ use Rattle.pieces.specs.Pairs.Laws.{route-leads, piece-positive}
 use Rattle.pieces.specs.Blocks.{Node, outside, inside, BlockEdge}
 use Rattle.pieces.specs.Blocks.Laws.{block-copies}
 use Rattle.pieces.specs.Rounds.Laws.{copy-origin}
-
-pub kinds-apart : (m : Machine) (list : List ℕ) → Rules m list → (q : ℕ) → fsbmOf m list .G q → fsbmOf m list .H q → ⊥
-kinds-apart m list r q b h =
-    let lt = buffering-below m list r q b in
-    let good = r .marks-good q (omega (arith, r .states-fit)) in
-    let small = leb (markOf (m .marks) q) 15 in
-    let one = not (buffering (m .marks) q && matching (m .marks) q) in
-    let here : (small && one) ≡ true = subst (λ (z : Bool). cond z (small && one) (eqb (markOf (m .marks) q) 0) ≡ true) (lt-ltb q (m .states) lt) good in
-    not-and-says (buffering (m .marks) q) (matching (m .marks) q) (and-true small one here .1) (b, h)
 
 pub record TightMove (M : FSBM) (D : ℕ → ℕ) (q : ℕ) : Type 0 where
   pub from : ℕ

@@ -23,13 +23,13 @@ use lib.Dec.{leb, ltb, eqb}
 use borrow.Author.Tests.{eq-eqb, ne-eqb, le-leb, lt-leb, lt-ltb, le-ltb}
 use Rattle.graphs.specs.Search.Loops.{first, second, pass, stop}
 use Rattle.fsbm.specs.Machine.{initial, final, buffering, matching, transitionAt, wellFormed, maxStates, maxTransitions}
+use Rattle.fsbm.specs.Rules.{Rules}
 use Rattle.fsbm.specs.declared.machine.Machine.{Machine}
 use Rattle.fsbm.specs.declared.machine.Transition.{Transition}
 use Rattle.product.specs.Each.{each, sumOver, zerosOf}
 use Rattle.product.specs.Each.Laws.{each-single, length-each}
 use Rattle.product.specs.Each.Sums.{sum-const, sum-same}
 use Rattle.product.specs.Product.{plain, letterCount, joinedCount, pairMark, joinedMark, joinedMarks, joinFault}
-use Rattle.product.specs.Tables.{TableRules, table}
 
 pub zeros-length : (n : ℕ) → length (zerosOf n) ≡ n
 unfolding zerosOf
@@ -101,7 +101,7 @@ module _ (f : ℕ → ℕ) (letters total x : ℕ) (so-far : total + sumOver x (
 pub products-start : (f : ℕ → ℕ) (letters : ℕ) → 0 + sumOver 1 (suc letters - 1) f ≡ sumOver 1 letters f
 products-start f letters = let same : suc letters - 1 ≡ letters = omega arith in let h = ap (λ (k : ℕ). sumOver 1 k f) same in omega arith
 
-pub count-is : (m₁ : Machine) (l₁ : List ℕ) (m₂ : Machine) (l₂ a b : List ℕ) → TableRules m₁ l₁ → ((x : ℕ) → x < 256 → getD a x 0 ≡ letterCount l₁ (m₁ .transitions) x)
+pub count-is : (m₁ : Machine) (l₁ : List ℕ) (m₂ : Machine) (l₂ a b : List ℕ) → Rules m₁ l₁ → ((x : ℕ) → x < 256 → getD a x 0 ≡ letterCount l₁ (m₁ .transitions) x)
     → ((x : ℕ) → x < 256 → getD b x 0 ≡ letterCount l₂ (m₂ .transitions) x) → (total : ℕ) → total ≡ sumOver 1 (m₁ .letters) (λ x. getD a x 0 * getD b x 0)
     → getD a 0 0 * m₂ .states + total ≡ joinedCount m₁ l₁ m₂ l₂
 unfolding joinedCount

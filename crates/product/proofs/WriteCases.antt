@@ -27,6 +27,7 @@ use borrow.Author.Tests.{eq-eqb, ne-eqb, eqb-true}
 use Rattle.graphs.specs.Search.Laws.{and-true, and-both-true}
 use Rattle.graphs.specs.Search.Loops.{first, second}
 use Rattle.fsbm.specs.Machine.{transitionAt}
+use Rattle.fsbm.specs.Rules.{Rules}
 use Rattle.fsbm.specs.declared.machine.Machine.{Machine}
 use Rattle.fsbm.specs.declared.machine.Transition.{Transition}
 use Rattle.graphs.specs.Bools.{cond-elim}
@@ -37,7 +38,7 @@ use Rattle.product.specs.Letters.{Marked, Matches, Occurs, Starts, Index
 use Rattle.product.specs.Order.{letterKey, Lower, Block, Moving}
 use Rattle.product.specs.Product.{joint, jointMoves, joinedFrom, joined, flat, joinedTransitions}
 use Rattle.product.specs.Steps.{letterMove}
-use Rattle.product.specs.Tables.{TableRules, Joinable, pair-below, pair-same}
+use Rattle.product.specs.Tables.{rising, Joinable, pair-below, pair-same}
 
 pub put-three : (l : List ℕ) (k a b c : ℕ) → k + 3 ≤ length l → set (set (set l k a) (k + 1) b) (k + 2) c ≡ replaced l k (a ∷ b ∷ c ∷ [])
 unfolding replaced
@@ -325,14 +326,14 @@ module _ {list starts letters : List ℕ} {p i hi : ℕ} (s : Searching list sta
 
 -- Tables
 
-pub keys-sorted : (m : Machine) (list : List ℕ) → TableRules m list → (i k : ℕ) → i ≤ k → k < m .transitions → letterKey list i ≤ letterKey list k
+pub keys-sorted : (m : Machine) (list : List ℕ) → Rules m list → (i k : ℕ) → i ≤ k → k < m .transitions → letterKey list i ≤ letterKey list k
 keys-sorted m list t i k le lt = at (ℕ-discrete i k)
   where
     at : Dec (i ≡ k) → letterKey list i ≤ letterKey list k
     at (yes e) = let same = ap (letterKey list) e in omega arith
-    at (no d) = let up = t .rising i k (omega arith) lt in let small = t .to-below k lt in let few = t .states-fit in omega arith
+    at (no d) = let up = rising m list t i k (omega arith) lt in let small = t .to-below k lt in let few = t .states-fit in omega arith
 
-pub table-key : (m : Machine) (list : List ℕ) → TableRules m list → (k : ℕ) → k < m .transitions → letterKey list k < 16384
+pub table-key : (m : Machine) (list : List ℕ) → Rules m list → (k : ℕ) → k < m .transitions → letterKey list k < 16384
 table-key m list t k lt = omega (arith, t .from-below k lt, t .letter-below k lt, t .states-fit, t .letters-fit)
 
 module _ {m₁ : Machine} {l₁ : List ℕ} {m₂ : Machine} {l₂ : List ℕ} (j : Joinable m₁ l₁ m₂ l₂) where

@@ -11,11 +11,10 @@
 use Prim.Native.Nat.{ℕ, zero, suc, _+_, _*_, _-_, _/_, _%_, _≤_, _<_}
 use mathlib.Core.Path.{_≡_, refl, sym, ap, _∙_, subst}
 use mathlib.Core.Logic.{_↔_, _⊎_, inl, inr}
-use mathlib.Core.Bool.{Bool, true, false, cond, _&&_, false≢true, true≢false}
+use mathlib.Core.Bool.{true, false, cond, _&&_, false≢true, true≢false}
 use mathlib.Core.List.{List, [], _∷_, _++_, List·Memᴰ, List·Memᴰ·head, List·Memᴰ·tail}
 use native.Mathlib.Omega.{arith}
 use native.Mathlib.Decide.{decLt}
-use native.Mathlib.Nat.{mul-add-div-right, div-eq-of-lt, mul-add-mod-self-right, mod-eq-of-lt, mod-lt, div-lt-iff-lt-mul, div-add-mod'}
 use lib.ListN.{length, getD, drop}
 use lib.Seq.{slice, slice-empty, drop-length}
 use lib.Dec.{ltb, eqb}
@@ -25,7 +24,7 @@ use Rattle.graphs.specs.Search.Laws.{and-true, and-both-true, not-both}
 use Rattle.graphs.specs.Search.Loops.{first, second}
 use Rattle.graphs.specs.Paths.{Path, here, step}
 use Rattle.fsbm.specs.Accepted.{accepted}
-use Rattle.fsbm.specs.Machine.{maxStates, markOf, initial, final, buffering, matching, transitionAt, wellFormed}
+use Rattle.fsbm.specs.Machine.{maxStates, markOf, initial, final, matching, transitionAt, wellFormed}
 use Rattle.fsbm.specs.Moves.{move, startAt, isNormal, accepts, acceptingFrom, accepting}
 use Rattle.fsbm.specs.Published.{FSBM, Listed, fsbmOf, Configuration, config, symbol, Yields, normal, buffer, empty, begin-buffering, begin-emptying, back-to-normal}
 use Rattle.fsbm.specs.declared.machine.Machine.{Machine}
@@ -41,8 +40,8 @@ use Rattle.product.specs.Count.{joined-count}
 use Rattle.product.specs.Product.{pairState, joint, jointMoves, joined, joinedTransitions, joinedCount, joinedMark, joinedMarks, joinedMachine, joinFault}
 use Rattle.product.specs.Rise.{Bounds, bounds}
 use Rattle.product.specs.Steps.{Step, moves-epsilon, moves-letter, joined-to, joined-of}
-use Rattle.product.specs.Tables.{TableRules, Joinable, joinable, pair-below}
-use Rattle.product.specs.WellFormed.{initial-joined, final-joined, buffering-joined, matching-joined, noTransition, listed-at, joined-well-formed}
+use Rattle.product.specs.Tables.{Joinable, joinable, pair-below, pair-first, pair-second, first-below, second-below}
+use Rattle.product.specs.WellFormed.{initial-joined, final-joined, buffering-joined, matching-joined, initial-at, final-at, buffering-at, matching-at, noTransition, listed-at, joined-well-formed}
 
 -- an element of a list stands at some place
 place-of : {A : Type 0} {x : A} (l : List A) (d : A) → List·Memᴰ x l → (k : ℕ) × (k < length l) × (getD l k d ≡ x)
@@ -58,39 +57,6 @@ module _ (m₁ : Machine) (l₁ : List ℕ) (m₂ : Machine) (l₂ : List ℕ) (
 
   j : Joinable m₁ l₁ m₂ l₂
   j = joinable m₁ l₁ m₂ l₂ fine
-
-  some-second : 0 < m₂ .states
-  some-second = omega (arith, j .second .some-state)
-
-  quotient : (p r : ℕ) → r < m₂ .states → pairState (m₂ .states) p r / m₂ .states ≡ p
-  quotient p r lr = let e = mul-add-div-right some-second p r in let z = div-eq-of-lt lr in omega arith
-
-  remainder : (p r : ℕ) → r < m₂ .states → pairState (m₂ .states) p r % m₂ .states ≡ r
-  remainder p r lr = mul-add-mod-self-right p (m₂ .states) r ∙ mod-eq-of-lt lr
-
-  -- The states of the product are pairs
-
-  module _ (q : ℕ) (lt : q < m₁ .states * m₂ .states) where
-    first-below : q / m₂ .states < m₁ .states
-    first-below = div-lt-iff-lt-mul some-second .1 lt
-
-    second-below : q % m₂ .states < m₂ .states
-    second-below = mod-lt q some-second
-
-    at-pair : (test : List ℕ → ℕ → Bool) → test (joinedMarks m₁ m₂) q ≡ test (joinedMarks m₁ m₂) (pairState (m₂ .states) (q / m₂ .states) (q % m₂ .states))
-    at-pair test = ap (test (joinedMarks m₁ m₂)) (sym (div-add-mod' q (m₂ .states)))
-
-    initial-at : initial (joinedMarks m₁ m₂) q ≡ (initial (m₁ .marks) (q / m₂ .states) && initial (m₂ .marks) (q % m₂ .states))
-    initial-at = at-pair initial ∙ initial-joined j (q / m₂ .states) (q % m₂ .states) first-below second-below
-
-    final-at : final (joinedMarks m₁ m₂) q ≡ (final (m₁ .marks) (q / m₂ .states) && final (m₂ .marks) (q % m₂ .states))
-    final-at = at-pair final ∙ final-joined j (q / m₂ .states) (q % m₂ .states) first-below second-below
-
-    buffering-at : buffering (joinedMarks m₁ m₂) q ≡ buffering (m₁ .marks) (q / m₂ .states)
-    buffering-at = at-pair buffering ∙ buffering-joined j (q / m₂ .states) (q % m₂ .states) first-below second-below
-
-    matching-at : matching (joinedMarks m₁ m₂) q ≡ matching (m₁ .marks) (q / m₂ .states)
-    matching-at = at-pair matching ∙ matching-joined j (q / m₂ .states) (q % m₂ .states) first-below second-below
 
   joined-rules : Rules J L
   joined-rules = rules J L (joined-well-formed m₁ l₁ m₂ l₂ fine rest)
@@ -111,10 +77,10 @@ module _ (m₁ : Machine) (l₁ : List ℕ) (m₂ : Machine) (l₂ : List ℕ) (
       let from : P ≡ pairState (m₂ .states) (transitionAt l₁ i .from) r = sym (d .from) ∙ ap (λ (z : Transition). z .from) at ∙ b .step .from in
       let letter : x ≡ transitionAt l₁ i .letter = sym (d .letter) ∙ ap (λ (z : Transition). z .letter) at ∙ b .step .letter in
       let to : Q ≡ pairState (m₂ .states) (transitionAt l₁ i .to) (b .step .next) = sym (d .to) ∙ ap (λ (z : Transition). z .to) at ∙ b .step .to in
-      let p-first : P / m₂ .states ≡ transitionAt l₁ i .from = ap (λ (z : ℕ). z / m₂ .states) from ∙ quotient (transitionAt l₁ i .from) r lr in
-      let p-second : P % m₂ .states ≡ r = ap (λ (z : ℕ). z % m₂ .states) from ∙ remainder (transitionAt l₁ i .from) r lr in
-      let q-first : Q / m₂ .states ≡ transitionAt l₁ i .to = ap (λ (z : ℕ). z / m₂ .states) to ∙ quotient (transitionAt l₁ i .to) (b .step .next) (b .next-below) in
-      let q-second : Q % m₂ .states ≡ b .step .next = ap (λ (z : ℕ). z % m₂ .states) to ∙ remainder (transitionAt l₁ i .to) (b .step .next) (b .next-below) in
+      let p-first : P / m₂ .states ≡ transitionAt l₁ i .from = ap (λ (z : ℕ). z / m₂ .states) from ∙ pair-first (m₂ .states) (transitionAt l₁ i .from) r lr in
+      let p-second : P % m₂ .states ≡ r = ap (λ (z : ℕ). z % m₂ .states) from ∙ pair-second (m₂ .states) (transitionAt l₁ i .from) r lr in
+      let q-first : Q / m₂ .states ≡ transitionAt l₁ i .to = ap (λ (z : ℕ). z / m₂ .states) to ∙ pair-first (m₂ .states) (transitionAt l₁ i .to) (b .step .next) (b .next-below) in
+      let q-second : Q % m₂ .states ≡ b .step .next = ap (λ (z : ℕ). z % m₂ .states) to ∙ pair-second (m₂ .states) (transitionAt l₁ i .to) (b .step .next) (b .next-below) in
       record {
         from-below = let small = b .from-small in let e = b .step .from in omega arith;
         to-below = let small = b .to-small in let e = b .step .to in omega arith;
@@ -174,22 +140,22 @@ module _ (m₁ : Machine) (l₁ : List ℕ) (m₂ : Machine) (l₂ : List ℕ) (
 
   apart-first : {P x Q : ℕ} → Split P x Q → ((matching (joinedMarks m₁ m₂) P ≡ true) × (matching (joinedMarks m₁ m₂) Q ≡ true) → ⊥)
       → (matching (m₁ .marks) (P / m₂ .states) ≡ true) × (matching (m₁ .marks) (Q / m₂ .states) ≡ true) → ⊥
-  apart-first {P} {x} {Q} s apart (a, b) = apart (matching-at P (s .from-below) ∙ a, matching-at Q (s .to-below) ∙ b)
+  apart-first {P} {x} {Q} s apart (a, b) = apart (matching-at j P (s .from-below) ∙ a, matching-at j Q (s .to-below) ∙ b)
 
   split-first : {D D′ : Configuration} → Yields (fsbmOf J L) D D′ → Yields (fsbmOf m₁ l₁) (firstOf D) (firstOf D′)
   unfolding joinedMachine
   split-first (normal {p = P} {x = x} {q = Q} δ apart n) =
       let s = listed-split δ in
-      normal (s .of-first) (apart-first s apart) (λ g. n (buffering-at P (s .from-below) ∙ g))
+      normal (s .of-first) (apart-first s apart) (λ g. n (buffering-at j P (s .from-below) ∙ g))
   split-first (buffer {p = P} {x = x} {q = Q} δ apart n) =
       let s = listed-split δ in
-      buffer (s .of-first) (apart-first s apart) (λ g. n (buffering-at Q (s .to-below) ∙ g))
+      buffer (s .of-first) (apart-first s apart) (λ g. n (buffering-at j Q (s .to-below) ∙ g))
   split-first (empty {p = P} {x = x} {q = Q} δ a b) =
       let s = listed-split δ in
-      empty (s .of-first) (sym (matching-at P (s .from-below)) ∙ a) (sym (matching-at Q (s .to-below)) ∙ b)
-  split-first (begin-buffering {q = q} is) = begin-buffering (sym (buffering-at q (buffering-below J L joined-rules q is)) ∙ is)
-  split-first (begin-emptying {q = q} is) = begin-emptying (sym (matching-at q (matching-below J L joined-rules q is)) ∙ is)
-  split-first (back-to-normal {q = q} is) = back-to-normal (sym (matching-at q (matching-below J L joined-rules q is)) ∙ is)
+      empty (s .of-first) (sym (matching-at j P (s .from-below)) ∙ a) (sym (matching-at j Q (s .to-below)) ∙ b)
+  split-first (begin-buffering {q = q} is) = begin-buffering (sym (buffering-at j q (buffering-below J L joined-rules q is)) ∙ is)
+  split-first (begin-emptying {q = q} is) = begin-emptying (sym (matching-at j q (matching-below J L joined-rules q is)) ∙ is)
+  split-first (back-to-normal {q = q} is) = back-to-normal (sym (matching-at j q (matching-below J L joined-rules q is)) ∙ is)
 
   path-first : {D D′ : Configuration} {n : ℕ} → Path Configuration (Yields (fsbmOf J L)) D D′ n → Path Configuration (Yields (fsbmOf m₁ l₁)) (firstOf D) (firstOf D′) n
   path-first here = here
@@ -210,7 +176,7 @@ module _ (m₁ : Machine) (l₁ : List ℕ) (m₂ : Machine) (l₂ : List ℕ) (
       at : ((suc x ≡ 0) × (Q % m₂ .states ≡ P % m₂ .states)) ⊎ ((suc x ≡ 0 → ⊥) × Listed l₂ (m₂ .transitions) (P % m₂ .states) (suc x) (Q % m₂ .states)) → SecondMoves (config (suc x ∷ u) P v t) (config u Q v′ t′)
       at (inl (z, e)) = absurd (omega arith)
       at (inr (z, d)) =
-          let from = second-below P (s .from-below) in
+          let from = second-below j P in
           inr (normal d (λ h. not-both (h .0) (j .not-matching (P % m₂ .states) from)) (λ g. not-both g (j .not-buffering (P % m₂ .states) from)), refl)
 
   split-second : {D D′ : Configuration} → Yields (fsbmOf J L) D D′ → SecondMoves D D′
@@ -361,11 +327,11 @@ module _ (m₁ : Machine) (l₁ : List ℕ) (m₂ : Machine) (l₂ : List ℕ) (
       let n₂ = m₂ .states in
       let inside : q < m₁ .states * m₂ .states = i .0 in
       let end : last < m₁ .states * m₂ .states = final-below J L joined-rules last f in
-      let (i₁, i₂) = and-true (initial (m₁ .marks) (q / n₂)) (initial (m₂ .marks) (q % n₂)) (sym (initial-at q inside) ∙ i .1) in
-      let (f₁, f₂) = and-true (final (m₁ .marks) (last / n₂)) (final (m₂ .marks) (last % n₂)) (sym (final-at last end) ∙ f) in
-      let (run₁, size₁, below₁, a₁) = path-accepting m₁ l₁ w (rules m₁ l₁ (j .good₁)) (q / n₂) (last / n₂) n (first-below q inside, i₁) f₁ (path-first p) in
+      let (i₁, i₂) = and-true (initial (m₁ .marks) (q / n₂)) (initial (m₂ .marks) (q % n₂)) (sym (initial-at j q inside) ∙ i .1) in
+      let (f₁, f₂) = and-true (final (m₁ .marks) (last / n₂)) (final (m₂ .marks) (last % n₂)) (sym (final-at j last end) ∙ f) in
+      let (run₁, size₁, below₁, a₁) = path-accepting m₁ l₁ w (rules m₁ l₁ (j .good₁)) (q / n₂) (last / n₂) n (first-below j q inside, i₁) f₁ (path-first p) in
       let (k, letters, p₂) = path-second p in
-      let (run₂, size₂, below₂, a₂) = path-accepting m₂ l₂ w (rules m₂ l₂ (j .good₂)) (q % n₂) (last % n₂) k (second-below q inside, i₂) f₂ p₂ in
+      let (run₂, size₂, below₂, a₂) = path-accepting m₂ l₂ w (rules m₂ l₂ (j .good₂)) (q % n₂) (last % n₂) k (second-below j q, i₂) f₂ p₂ in
       ((run₁, size₁ ∙ sym size, below₁, a₁), (run₂, omega arith, below₂, a₂))
 
   pub splits-join : (w run₁ run₂ : List ℕ) → accepting m₁ l₁ w run₁ ≡ true → accepting m₂ l₂ w run₂ ≡ true

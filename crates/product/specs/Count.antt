@@ -22,7 +22,7 @@ use Rattle.product.specs.Each.{each, sumOver}
 use Rattle.product.specs.Each.Laws.{length-each}
 use Rattle.product.specs.Each.Sums.{sum-same, sum-none, sum-last, sum-times, sum-const, sum-swap, sum-pick}
 use Rattle.product.specs.Product.{joint, jointMoves, joinedFrom, joined, flat, letterCount, joinedTransitions, joinedCount, joinFault}
-use Rattle.product.specs.Tables.{TableRules, Joinable, joinable}
+use Rattle.product.specs.Tables.{Joinable, joinable}
 
 pub letter-sum : (list : List ℕ) (n x : ℕ) → letterCount list n x ≡ sumOver 0 n (λ k. cond (eqb (transitionAt list k .letter) x) 1 0)
 unfolding letterCount sumOver

@@ -24,7 +24,7 @@ use Rattle.product.specs.Each.{each}
 use Rattle.product.specs.Each.Laws.{each-to}
 use Rattle.product.specs.Product.{pairState, joint, jointMoves, joinedFrom, joined}
 use Rattle.product.specs.Steps.{Step, letterMove, letter-at, moves-to, from-to, joined-to}
-use Rattle.product.specs.Tables.{order, TableRules, Joinable, pair-before, pair-below}
+use Rattle.product.specs.Tables.{order, rising, Joinable, pair-before, pair-below}
 
 pub data Rises : List Transition → Type 0 where
   none : Rises []
@@ -120,7 +120,7 @@ module _ {m₁ : Machine} {l₁ : List ℕ} {m₂ : Machine} {l₂ : List ℕ} (
       apart k l lt ll x y mx my =
           let (ex, fx, lx) = letter-at (m₂ .states) (m₂ .transitions) l₂ r (transitionAt l₁ i) k mx in
           let (ey, fy, ly) = letter-at (m₂ .states) (m₂ .transitions) l₂ r (transitionAt l₁ i) l my in
-          let up = j .second .rising k l lt ll in
+          let up = rising m₂ l₂ (j .second) k l lt ll in
           let to-x = ap (λ (z : Transition). z .to) ex in
           let to-y = ap (λ (z : Transition). z .to) ey in
           order-to x y (ap (λ (z : Transition). z .from) ex ∙ sym (ap (λ (z : Transition). z .from) ey)) (ap (λ (z : Transition). z .letter) ex ∙ sym (ap (λ (z : Transition). z .letter) ey)) (omega arith)
@@ -146,7 +146,7 @@ module _ {m₁ : Machine} {l₁ : List ℕ} {m₂ : Machine} {l₂ : List ℕ} (
       apart i k lt lk x y mx my =
           let (fx, bx) = in-part i x (omega arith) mx in
           let (fy, by) = in-part k y lk my in
-          at bx by (j .first .rising i k lt lk) (fx ∙ sym fy) (decLt (transitionAt l₁ i .letter) (transitionAt l₁ k .letter))
+          at bx by (rising m₁ l₁ (j .first) i k lt lk) (fx ∙ sym fy) (decLt (transitionAt l₁ i .letter) (transitionAt l₁ k .letter))
         where
           at : (bx : Bounds i r x) (by : Bounds k r y) → order (transitionAt l₁ i) < order (transitionAt l₁ k) → transitionAt l₁ i .from ≡ transitionAt l₁ k .from
               → Dec (transitionAt l₁ i .letter < transitionAt l₁ k .letter) → order x < order y

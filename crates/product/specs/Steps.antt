@@ -23,7 +23,7 @@ use Rattle.graphs.specs.Bools.{cond-elim}
 use Rattle.product.specs.Each.{each}
 use Rattle.product.specs.Each.Laws.{each-to, each-of}
 use Rattle.product.specs.Product.{pairState, joint, jointMoves, joinedFrom, joined, flat}
-use Rattle.product.specs.Tables.{TableRules, Joinable}
+use Rattle.product.specs.Tables.{Joinable}
 
 -- the only element of a list of one
 only : {A : Type 0} {x y : A} → List·Memᴰ x (y ∷ []) → x ≡ y

@@ -1,26 +1,26 @@
--- What the rules of a table and the absence of refusals say, part by part, and the arithmetic of pairs.
+-- The rise of a table's list, what the absence of refusals says, part by part, and the arithmetic of pairs.
 --
 -- order t                 == transition t by from, letter and to, as one number
--- TableRules m list            == what the laws use of wellFormed
--- table                   == wellFormed says it
+-- rising                  == where a table obeys the rules, this number rises along its list
 -- Joinable ..             == what the laws use of joinFault ≡ 0
 -- joinable                == joinFault ≡ 0 says it
--- pair-below, pair-before, pair-same == the number of a pair: below the product of the state counts, rising, its parts
+-- pair-below, pair-before == the number of a pair: below the product of the state counts, rising
+-- pair-first, pair-second, pair-same == its parts; it is the number of one pair only
+-- first-below, second-below == the parts of a state of the product are states of the two machines
 use Prim.Native.Nat.{ℕ, zero, suc, _+_, _*_, _-_, _/_, _%_, _≤_, _<_}
 use mathlib.Core.Path.{_≡_, refl, sym, ap, _∙_}
 use mathlib.Core.Logic.{_⊎_, inl, inr}
-use mathlib.Core.Bool.{Bool, true, false, cond, not, _&&_, _||_, false≢true}
+use mathlib.Core.Bool.{Bool, true, false, cond, not, false≢true}
 use mathlib.Core.List.{List}
 use native.Mathlib.Omega.{arith}
-use native.Mathlib.Numerals.{sub-one}
 use native.Mathlib.Decide.{ℕ-discrete}
-use native.Mathlib.Nat.{mul-le-mul-right, suc-mul, mul-add-div-right, div-eq-of-lt}
-use lib.ListN.{length}
-use lib.Dec.{leb, ltb, eqb, eqb·suc-zero}
+use native.Mathlib.Nat.{mul-le-mul-right, suc-mul, mul-add-div-right, div-eq-of-lt, mul-add-mod-self-right, mod-eq-of-lt, mod-lt, div-lt-iff-lt-mul}
+use lib.Dec.{leb, ltb, eqb}
 use borrow.Author.Tests.{leb-true, ltb-true, eqb-true, eqb-false, not-true}
 use Rattle.graphs.specs.Search.{allBelow}
 use Rattle.graphs.specs.Search.Laws.{and-true, true-or-false, allBelow-true}
-use Rattle.fsbm.specs.Machine.{maxStates, maxLetters, maxTransitions, buffering, matching, transitionAt, goodMark, named, precedes, goodTransition, wellFormed}
+use Rattle.fsbm.specs.Machine.{maxStates, maxTransitions, buffering, matching, transitionAt, precedes, wellFormed}
+use Rattle.fsbm.specs.Rules.{Rules, rules}
 use Rattle.fsbm.specs.declared.machine.Machine.{Machine}
 use Rattle.fsbm.specs.declared.machine.Transition.{Transition}
 use Rattle.graphs.specs.Bools.{cond-elim}
@@ -28,18 +28,6 @@ use Rattle.product.specs.Product.{plainState, plainTransition, plain, jo
 
 abbrev pub order : Transition → ℕ
 order t = (t .from * 256 + t .letter) * 64 + t .to
-
-pub record TableRules (m : Machine) (list : List ℕ) : Type 0 where
-  pub some-state : 1 ≤ m .states
-  pub states-fit : m .states ≤ 64
-  pub letters-fit : m .letters ≤ 250
-  pub transitions-fit : m .transitions ≤ 4000
-  pub listed : m .transitions * 3 ≤ length list
-  pub marks-good : (q : ℕ) → q < 64 → goodMark m q ≡ true
-  pub from-below : (k : ℕ) → k < m .transitions → transitionAt list k .from < m .states
-  pub letter-below : (k : ℕ) → k < m .transitions → transitionAt list k .letter ≤ m .letters
-  pub to-below : (k : ℕ) → k < m .transitions → transitionAt list k .to < m .states
-  pub rising : (i k : ℕ) → i < k → k < m .transitions → order (transitionAt list i) < order (transitionAt list k)
 
 -- Rise
 
@@ -54,76 +42,28 @@ precedes-order s t ls ts =
     Rises : Bool → Type 0
     Rises b = b ≡ true → order s < order t
 
-record Named (m : Machine) (t : Transition) : Type 0 where
-  from : t .from < m .states
-  letter : t .letter ≤ m .letters
-  to : t .to < m .states
+module _ (m : Machine) (list : List ℕ) (r : Rules m list) where
+  next : (k : ℕ) → suc k < m .transitions → order (transitionAt list k) < order (transitionAt list (suc k))
+  next k lt =
+      precedes-order (transitionAt list k) (transitionAt list (suc k)) (omega (arith, r .letters-fit, r .letter-below k (omega arith))) (omega (arith, r .states-fit, r .to-below k (omega arith)))
+      (r .rises k lt)
 
-named-says : (m : Machine) (t : Transition) → named (m .states) (m .letters) t ≡ true → Named m t
-named-says m t n =
-    let (from, rest) = and-true (ltb (t .from) (m .states)) (leb (t .letter) (m .letters) && ltb (t .to) (m .states)) n in
-    let (letter, to) = and-true (leb (t .letter) (m .letters)) (ltb (t .to) (m .states)) rest in
-    record { from = ltb-true (t .from) (m .states) from; letter = leb-true (t .letter) (m .letters) letter; to = ltb-true (t .to) (m .states) to }
-
-module _ (m : Machine) (list : List ℕ) (few-states : m .states ≤ 64) (few-letters : m .letters ≤ 250)
-    (each-good : (k : ℕ) → k < m .transitions → goodTransition (m .states) (m .letters) list k ≡ true) where
-  good-named : (k : ℕ) → k < m .transitions → Named m (transitionAt list k)
-  good-named k lt =
-      named-says m (transitionAt list k)
-      (and-true (named (m .states) (m .letters) (transitionAt list k)) (eqb k 0 || precedes (transitionAt list (k - 1)) (transitionAt list k)) (each-good k lt) .0)
-
-  good-next : (k : ℕ) → suc k < m .transitions → order (transitionAt list k) < order (transitionAt list (suc k))
-  good-next k lt =
-      let here = good-named k (omega arith) in
-      let next = and-true (named (m .states) (m .letters) (transitionAt list (suc k))) (eqb (suc k) 0 || precedes (transitionAt list (suc k - 1)) (transitionAt list (suc k))) (each-good (suc k) lt) .1 in
-      precedes-order (transitionAt list k) (transitionAt list (suc k)) (omega (arith, here .letter)) (omega (arith, here .to)) (rw (eqb·suc-zero, sub-one) at next)
-
-  good-rising : (i k : ℕ) → i < k → k < m .transitions → order (transitionAt list i) < order (transitionAt list k)
-  good-rising i zero h lt = absurd (omega arith)
-  good-rising i (suc k) h lt = at (ℕ-discrete i k) (good-rising i k) (good-next k lt)
+  pub rising : (i k : ℕ) → i < k → k < m .transitions → order (transitionAt list i) < order (transitionAt list k)
+  rising i zero h lt = absurd (omega arith)
+  rising i (suc k) h lt = at (ℕ-discrete i k) (rising i k) (next k lt)
     where
       at : Dec (i ≡ k) → (i < k → k < m .transitions → order (transitionAt list i) < order (transitionAt list k))
           → order (transitionAt list k) < order (transitionAt list (suc k)) → order (transitionAt list i) < order (transitionAt list (suc k))
-      at (yes e) before next = rw e next
-      at (no d) before next = let b = before (omega arith) (omega arith) in omega arith
-
-pub table : (m : Machine) (list : List ℕ) → wellFormed m list ≡ true → TableRules m list
-unfolding wellFormed
-table m list h =
-    let good = goodTransition (m .states) (m .letters) list in
-    let all = allBelow maxStates (goodMark m) && allBelow (m .transitions) good in
-    let enough = leb (m .transitions * 3) (length list) in
-    let few = leb (m .transitions) maxTransitions in
-    let letters = leb (m .letters) maxLetters in
-    let (a, r₁) = and-true (leb 1 (m .states)) (leb (m .states) maxStates && (letters && (few && (enough && all)))) h in
-    let (b, r₂) = and-true (leb (m .states) maxStates) (letters && (few && (enough && all))) r₁ in
-    let (c, r₃) = and-true letters (few && (enough && all)) r₂ in
-    let (d, r₄) = and-true few (enough && all) r₃ in
-    let (e, r₅) = and-true enough all r₄ in
-    let (marks, moves) = and-true (allBelow maxStates (goodMark m)) (allBelow (m .transitions) good) r₅ in
-    let sb = leb-true (m .states) maxStates b in
-    let sl = leb-true (m .letters) maxLetters c in
-    let each = allBelow-true good (m .transitions) .0 moves in
-    record {
-      some-state = leb-true 1 (m .states) a;
-      states-fit = sb;
-      letters-fit = sl;
-      transitions-fit = leb-true (m .transitions) maxTransitions d;
-      listed = leb-true (m .transitions * 3) (length list) e;
-      marks-good = allBelow-true (goodMark m) maxStates .0 marks;
-      from-below = λ k lt. good-named m list sb sl each k lt .from;
-      letter-below = λ k lt. good-named m list sb sl each k lt .letter;
-      to-below = λ k lt. good-named m list sb sl each k lt .to;
-      rising = good-rising m list sb sl each;
-    }
+      at (yes e) before on = rw e on
+      at (no d) before on = let b = before (omega arith) (omega arith) in omega arith
 
 -- No refusal
 
 pub record Joinable (m₁ : Machine) (l₁ : List ℕ) (m₂ : Machine) (l₂ : List ℕ) : Type 0 where
   pub good₁ : wellFormed m₁ l₁ ≡ true
   pub good₂ : wellFormed m₂ l₂ ≡ true
-  pub first : TableRules m₁ l₁
-  pub second : TableRules m₂ l₂
+  pub first : Rules m₁ l₁
+  pub second : Rules m₂ l₂
   pub not-buffering : (q : ℕ) → q < m₂ .states → buffering (m₂ .marks) q ≡ false
   pub not-matching : (q : ℕ) → q < m₂ .states → matching (m₂ .marks) q ≡ false
   pub not-epsilon : (k : ℕ) → k < m₂ .transitions → transitionAt l₂ k .letter ≡ 0 → ⊥
@@ -165,8 +105,8 @@ module _ (m₁ : Machine) (l₁ : List ℕ) (m₂ : Machine) (l₂ : List ℕ) w
           record {
             good₁ = a;
             good₂ = b;
-            first = table m₁ l₁ a;
-            second = table m₂ l₂ b;
+            first = rules m₁ l₁ a;
+            second = rules m₂ l₂ b;
             not-buffering = λ q lt. not-true (buffering (m₂ .marks) q) (and-true (not (buffering (m₂ .marks) q)) (not (matching (m₂ .marks) q)) (states q lt) .0);
             not-matching = λ q lt. not-true (matching (m₂ .marks) q) (and-true (not (buffering (m₂ .marks) q)) (not (matching (m₂ .marks) q)) (states q lt) .1);
             not-epsilon = λ k lt. eqb-false (transitionAt l₂ k .letter) 0 (not-true (eqb (transitionAt l₂ k .letter) 0) (moves k lt));
@@ -189,12 +129,25 @@ pair-below a n p r lt lr =
     let row = suc-mul p n in
     omega arith
 
-pub pair-same : (n p r q s : ℕ) → r < n → s < n → p * n + r ≡ q * n + s → (p ≡ q) × (r ≡ s)
-pair-same n p r q s lr ls e =
+pub pair-first : (n p r : ℕ) → r < n → (p * n + r) / n ≡ p
+pair-first n p r lr =
     let pos : 0 < n = omega arith in
-    let quotients = sym (mul-add-div-right pos p r) ∙ ap (λ (z : ℕ). z / n) e ∙ mul-add-div-right pos q s in
-    let dr = div-eq-of-lt lr in
-    let ds = div-eq-of-lt ls in
-    let same : p ≡ q = omega arith in
-    let rows = ap (λ (z : ℕ). z * n) same in
-    (same, omega arith)
+    let e = mul-add-div-right pos p r in
+    let z = div-eq-of-lt lr in
+    omega arith
+
+pub pair-second : (n p r : ℕ) → r < n → (p * n + r) % n ≡ r
+pair-second n p r lr = mul-add-mod-self-right p n r ∙ mod-eq-of-lt lr
+
+pub pair-same : (n p r q s : ℕ) → r < n → s < n → p * n + r ≡ q * n + s → (p ≡ q) × (r ≡ s)
+pair-same n p r q s lr ls e = (
+  sym (pair-first n p r lr) ∙ (ap (λ (z : ℕ). z / n) e ∙ pair-first n q s ls),
+  sym (pair-second n p r lr) ∙ (ap (λ (z : ℕ). z % n) e ∙ pair-second n q s ls),
+)
+
+module _ {m₁ : Machine} {l₁ : List ℕ} {m₂ : Machine} {l₂ : List ℕ} (j : Joinable m₁ l₁ m₂ l₂) (q : ℕ) where
+  pub first-below : q < m₁ .states * m₂ .states → q / m₂ .states < m₁ .states
+  first-below lt = div-lt-iff-lt-mul (j .second .some-state) .1 lt
+
+  pub second-below : q % m₂ .states < m₂ .states
+  second-below = mod-lt q (j .second .some-state)

@@ -1,6 +1,7 @@
 -- The product is a well-formed table.
 --
 -- initial-joined, final-joined, buffering-joined, matching-joined == the tests of the product's marks at a pair
+-- initial-at, final-at, buffering-at, matching-at == the same at a state, by its parts
 -- listed-at               == transition k of the product's list, with anything behind it
 -- joined-well-formed      == the product's record and its list obey the rules of a table
 use Prim.Native.Nat.{ℕ, zero, suc, _+_, _*_, _-_, _/_, _%_, _≤_, _<_}
@@ -10,24 +11,25 @@ use mathlib.Core.Bool.{Bool, true, false, cond, not, _&&_, _||_}
 use mathlib.Core.List.{List, [], _∷_, _++_, List·Memᴰ, List·Memᴰ·head, List·Memᴰ·tail}
 use native.Mathlib.Omega.{arith}
 use native.Mathlib.Numerals.{sub-one}
-use native.Mathlib.Nat.{mul-le-mul, mul-add-div-right, div-eq-of-lt, mul-add-mod-self-right, mod-eq-of-lt, mod-lt, div-lt-iff-lt-mul, div-add-mod'}
+use native.Mathlib.Nat.{mul-le-mul, div-add-mod'}
 use lib.ListN.{length, getD, length-append}
 use lib.Dec.{leb, ltb, eqb, eqb·suc-zero}
 use borrow.Author.Tests.{leb-true, ltb-true, ltb-false, lt-ltb, le-ltb, le-leb, eq-eqb, ne-eqb, eqb-true, eqb-false, not-true}
 use Rattle.graphs.specs.Search.{allBelow}
-use Rattle.graphs.specs.Search.Laws.{and-true, and-both-true, true-or-false, allBelow-true}
+use Rattle.graphs.specs.Search.Laws.{and-both-true, true-or-false, allBelow-true}
 use Rattle.graphs.specs.Search.Loops.{first, second}
 use Rattle.fsbm.specs.Machine.{maxStates, maxLetters, maxTransitions, markOf, initial, final, buffering, matching, transitionAt, goodMark, named, precedes, goodTransition, wellFormed}
+use Rattle.fsbm.specs.Rules.{one-kind}
 use Rattle.fsbm.specs.declared.machine.Machine.{Machine}
 use Rattle.fsbm.specs.declared.machine.Transition.{Transition}
-use Rattle.graphs.specs.Bools.{cond-elim}
+use Rattle.graphs.specs.Bools.{cond-elim, says-not-and}
 use Rattle.product.specs.Count.{joined-count, joined-length}
 use Rattle.product.specs.Each.{each}
 use Rattle.product.specs.Each.Laws.{each-single}
 use Rattle.product.specs.Product.{pairState, joined, flat, joinedTransitions, joinedCount, pairMark, joinedMark, joinedMarks, joinedMachine, joinFault}
 use Rattle.product.specs.Rise.{Rises, rises-next, joined-rises, joined-bounds}
 use Rattle.product.specs.Steps.{flat-at}
-use Rattle.product.specs.Tables.{order, TableRules, Joinable, joinable, pair-below}
+use Rattle.product.specs.Tables.{order, Joinable, joinable, pair-below, pair-first, pair-second, first-below, second-below}
 
 -- Marks
 
@@ -57,9 +59,6 @@ flags-say false false false true = (refl, refl, refl, refl, refl)
 flags-say false false false false = (refl, refl, refl, refl, refl)
 
 module _ {m₁ : Machine} {l₁ : List ℕ} {m₂ : Machine} {l₂ : List ℕ} (j : Joinable m₁ l₁ m₂ l₂) where
-  some-second : 0 < m₂ .states
-  some-second = omega (arith, j .second .some-state)
-
   -- the mark of state q below 64
   mark-at : (q : ℕ) → q < 64 → markOf (joinedMarks m₁ m₂) q ≡ joinedMark m₁ m₂ q
   unfolding joinedMarks
@@ -74,20 +73,14 @@ module _ {m₁ : Machine} {l₁ : List ℕ} {m₂ : Machine} {l₂ : List ℕ} (
   unfolding joinedMark pairMark flags
   mark-flags q lt = mark-at q (omega (arith, j .few-states)) ∙ sym (first 0 (lt-ltb q (m₁ .states * m₂ .states) lt) refl)
 
-  quotient : (p r : ℕ) → r < m₂ .states → pairState (m₂ .states) p r / m₂ .states ≡ p
-  quotient p r lr = let e = mul-add-div-right some-second p r in let z = div-eq-of-lt lr in omega arith
-
-  remainder : (p r : ℕ) → r < m₂ .states → pairState (m₂ .states) p r % m₂ .states ≡ r
-  remainder p r lr = mul-add-mod-self-right p (m₂ .states) r ∙ mod-eq-of-lt lr
-
   -- at the pair (p, r)
   pair-flags : (p r : ℕ) → p < m₁ .states → r < m₂ .states
       → markOf (joinedMarks m₁ m₂) (pairState (m₂ .states) p r)
       ≡ flags (initial (m₁ .marks) p && initial (m₂ .marks) r) (final (m₁ .marks) p && final (m₂ .marks) r) (buffering (m₁ .marks) p) (matching (m₁ .marks) p)
   pair-flags p r lp lr =
       mark-flags (pairState (m₂ .states) p r) (pair-below (m₁ .states) (m₂ .states) p r lp lr)
-      ∙ ap (λ (z : ℕ). flags (initial (m₁ .marks) z && initial (m₂ .marks) (pairState (m₂ .states) p r % m₂ .states)) (final (m₁ .marks) z && final (m₂ .marks) (pairState (m₂ .states) p r % m₂ .states)) (buffering (m₁ .marks) z) (matching (m₁ .marks) z)) (quotient p r lr)
-      ∙ ap (λ (z : ℕ). flags (initial (m₁ .marks) p && initial (m₂ .marks) z) (final (m₁ .marks) p && final (m₂ .marks) z) (buffering (m₁ .marks) p) (matching (m₁ .marks) p)) (remainder p r lr)
+      ∙ ap (λ (z : ℕ). flags (initial (m₁ .marks) z && initial (m₂ .marks) (pairState (m₂ .states) p r % m₂ .states)) (final (m₁ .marks) z && final (m₂ .marks) (pairState (m₂ .states) p r % m₂ .states)) (buffering (m₁ .marks) z) (matching (m₁ .marks) z)) (pair-first (m₂ .states) p r lr)
+      ∙ ap (λ (z : ℕ). flags (initial (m₁ .marks) p && initial (m₂ .marks) z) (final (m₁ .marks) p && final (m₂ .marks) z) (buffering (m₁ .marks) p) (matching (m₁ .marks) p)) (pair-second (m₂ .states) p r lr)
 
   module _ (p r : ℕ) (lp : p < m₁ .states) (lr : r < m₂ .states) where
     says : (eqb (flags (initial (m₁ .marks) p && initial (m₂ .marks) r) (final (m₁ .marks) p && final (m₂ .marks) r) (buffering (m₁ .marks) p) (matching (m₁ .marks) p) % 2) 1 ≡ (initial (m₁ .marks) p && initial (m₂ .marks) r))
@@ -117,10 +110,23 @@ module _ {m₁ : Machine} {l₁ : List ℕ} {m₂ : Machine} {l₂ : List ℕ} (
     not-both-kinds =
         ap (λ (z : Bool). not (z && matching (joinedMarks m₁ m₂) (pairState (m₂ .states) p r))) buffering-joined
         ∙ ap (λ (z : Bool). not (buffering (m₁ .marks) p && z)) matching-joined
-        ∙ and-true (leb (markOf (m₁ .marks) p) 15) (not (buffering (m₁ .marks) p && matching (m₁ .marks) p)) (first-good (j .first .marks-good p (omega (arith, j .first .states-fit)))) .1
-      where
-        first-good : goodMark m₁ p ≡ true → (leb (markOf (m₁ .marks) p) 15 && not (buffering (m₁ .marks) p && matching (m₁ .marks) p)) ≡ true
-        first-good g = first _ (lt-ltb p (m₁ .states) lp) refl ∙ g
+        ∙ says-not-and (buffering (m₁ .marks) p) (matching (m₁ .marks) p) (λ z. one-kind m₁ l₁ (j .first) p (z .0) (z .1))
+
+  module _ (q : ℕ) (lt : q < m₁ .states * m₂ .states) where
+    at-pair : (test : List ℕ → ℕ → Bool) → test (joinedMarks m₁ m₂) q ≡ test (joinedMarks m₁ m₂) (pairState (m₂ .states) (q / m₂ .states) (q % m₂ .states))
+    at-pair test = ap (test (joinedMarks m₁ m₂)) (sym (div-add-mod' q (m₂ .states)))
+
+    pub initial-at : initial (joinedMarks m₁ m₂) q ≡ (initial (m₁ .marks) (q / m₂ .states) && initial (m₂ .marks) (q % m₂ .states))
+    initial-at = at-pair initial ∙ initial-joined (q / m₂ .states) (q % m₂ .states) (first-below j q lt) (second-below j q)
+
+    pub final-at : final (joinedMarks m₁ m₂) q ≡ (final (m₁ .marks) (q / m₂ .states) && final (m₂ .marks) (q % m₂ .states))
+    final-at = at-pair final ∙ final-joined (q / m₂ .states) (q % m₂ .states) (first-below j q lt) (second-below j q)
+
+    pub buffering-at : buffering (joinedMarks m₁ m₂) q ≡ buffering (m₁ .marks) (q / m₂ .states)
+    buffering-at = at-pair buffering ∙ buffering-joined (q / m₂ .states) (q % m₂ .states) (first-below j q lt) (second-below j q)
+
+    pub matching-at : matching (joinedMarks m₁ m₂) q ≡ matching (m₁ .marks) (q / m₂ .states)
+    matching-at = at-pair matching ∙ matching-joined (q / m₂ .states) (q % m₂ .states) (first-below j q lt) (second-below j q)
 
   mark-past : (q : ℕ) → ltb q (m₁ .states * m₂ .states) ≡ false → joinedMark m₁ m₂ q ≡ 0
   unfolding joinedMark
@@ -140,8 +146,8 @@ module _ {m₁ : Machine} {l₁ : List ℕ} {m₂ : Machine} {l₂ : List ℕ} (
       inside h =
           let p = q / m₂ .states in
           let r = q % m₂ .states in
-          let lp : q / m₂ .states < m₁ .states = div-lt-iff-lt-mul some-second .1 h in
-          let lr : q % m₂ .states < m₂ .states = mod-lt q some-second in
+          let lp = first-below j q h in
+          let lr = second-below j q in
           subst Good (div-add-mod' q (m₂ .states))
           (and-both-true (leb (markOf (joinedMarks m₁ m₂) (pairState (m₂ .states) p r)) 15)
           (not (buffering (joinedMarks m₁ m₂) (pairState (m₂ .states) p r) && matching (joinedMarks m₁ m₂) (pairState (m₂ .states) p r)))

@@ -6,19 +6,17 @@
 use Prim.Native.Nat.{ℕ, zero, suc, _+_, _*_, _-_, _<_, _≤_}
 use mathlib.Core.Path.{_≡_, refl, sym, ap, _∙_, subst}
 use mathlib.Core.List.{List, [], _∷_, _++_, append-assoc, append-nil}
-use mathlib.Core.Bool.{Bool, true, false, cond, _&&_, _||_}
+use mathlib.Core.Bool.{Bool, true, false, cond}
 use native.Mathlib.Omega.{arith}
 use lib.ListN.{length, take, drop, set, length-append, take-append-drop}
-use lib.Dec.{leb, ltb, eqb}
-use borrow.Author.Tests.{le-leb, lt-leb, leb-true, ltb-true}
+use lib.Dec.{leb, eqb}
+use borrow.Author.Tests.{le-leb, lt-leb}
 use Rattle.columns.specs.Column.{columnOf, put}
 use Rattle.columns.specs.Column.Laws.{column-length, put-length, put-put, put-one, put-zero}
-use Rattle.graphs.specs.Search.{allBelow}
-use Rattle.graphs.specs.Search.Laws.{and-true, allBelow-true}
-use Rattle.fsbm.specs.Machine.{markOf, transitionAt, goodMark, named, precedes, goodTransition, wellFormed}
+use Rattle.fsbm.specs.Machine.{markOf, transitionAt, wellFormed}
 use Rattle.fsbm.specs.Answers.{refusal}
+use Rattle.fsbm.specs.Rules.{rules}
 use Rattle.fsbm.specs.declared.machine.Machine.{Machine}
-use Rattle.fsbm.specs.declared.machine.Transition.{Transition}
 use Rattle.fsbm.specs.declared.answer.Refusal.{Refusal}
 use Rattle.sheet.specs.Series.{eachBelow}
 use Rattle.sheet.specs.Series.Laws.{each-next, each-length}
@@ -192,43 +190,14 @@ module _ (m : Machine) (list sheet : List ℕ) where
 
 -- what a table that obeys the rules says of its counts
 pub well-formed-counts : (m : Machine) (list : List ℕ) (b : Bool) → b ≡ wellFormed m list → b ≡ true → (m .states ≤ 64) × (m .transitions ≤ 4000) × (m .transitions * 3 ≤ length list)
-unfolding wellFormed
-well-formed-counts m list b e t =
-    let a = and-true (leb 1 (m .states)) _ (sym e ∙ t) in
-    let c = and-true (leb (m .states) 64) _ (a .1) in
-    let d = and-true (leb (m .letters) 250) _ (c .1) in
-    let f = and-true (leb (m .transitions) 4000) _ (d .1) in
-    let g = and-true (leb (m .transitions * 3) (length list)) _ (f .1) in
-    (leb-true _ _ (c .0), leb-true _ _ (f .0), leb-true _ _ (g .0))
+well-formed-counts m list b e t = let r = rules m list (sym e ∙ t) in (r .states-fit, r .transitions-fit, r .list-fits)
 
 -- and of its letters and transitions
 module _ (m : Machine) (list : List ℕ) (b : Bool) (e : b ≡ wellFormed m list) (t : b ≡ true) where
-  letters-and-transitions : (m .letters ≤ 250) × (allBelow (m .transitions) (goodTransition (m .states) (m .letters) list) ≡ true)
-  unfolding wellFormed
-  letters-and-transitions =
-      let a = and-true (leb 1 (m .states)) _ (sym e ∙ t) in
-      let c = and-true (leb (m .states) 64) _ (a .1) in
-      let d = and-true (leb (m .letters) 250) _ (c .1) in
-      let f = and-true (leb (m .transitions) 4000) _ (d .1) in
-      let g = and-true (leb (m .transitions * 3) (length list)) _ (f .1) in
-      let h = and-true (allBelow 64 (goodMark m)) _ (g .1) in
-      (leb-true _ _ (d .0), h .1)
-
   pub well-formed-letters : m .letters ≤ 250
-  well-formed-letters = letters-and-transitions .0
-
-  short-of : (x : Transition) → named (m .states) (m .letters) x ≡ true → Short x
-  short-of x n =
-      let few = well-formed-counts m list b e t in
-      let p = and-true (ltb (x .from) (m .states)) (leb (x .letter) (m .letters) && ltb (x .to) (m .states)) n in
-      let q = and-true (leb (x .letter) (m .letters)) (ltb (x .to) (m .states)) (p .1) in
-      let a = ltb-true (x .from) (m .states) (p .0) in
-      let d = leb-true (x .letter) (m .letters) (q .0) in
-      let f = ltb-true (x .to) (m .states) (q .1) in
-      (omega (arith, few .0), omega (arith, well-formed-letters), omega (arith, few .0))
+  well-formed-letters = rules m list (sym e ∙ t) .letters-fit
 
   pub well-formed-short : (k : ℕ) → k < m .transitions → Short (transitionAt list k)
   well-formed-short k l =
-      let g = allBelow-true (goodTransition (m .states) (m .letters) list) (m .transitions) .0 (letters-and-transitions .1) k l in
-      short-of (transitionAt list k)
-      (and-true (named (m .states) (m .letters) (transitionAt list k)) (eqb k 0 || precedes (transitionAt list (k - 1)) (transitionAt list k)) g .0)
+      let r = rules m list (sym e ∙ t) in
+      (omega (arith, r .states-fit, r .from-below k l), omega (arith, r .letters-fit, r .letter-below k l), omega (arith, r .states-fit, r .to-below k l))

@@ -1,12 +1,11 @@
 -- The tests of src/find.rt case by case, over plain variables.
 --
 -- makes-less, makes-is      == the ways through makes
--- weigh-letter              == the weight of a letter
 -- normal-is, store-is, match-is == a test, of the transition as it was read
 -- back-storing, back-matching, back-none, back-both == the ways through back
 -- letter-none, letter-matching, letter-buffering, letter-alone, letter-both == the ways through letter_fits
-use Prim.Native.Nat.{ℕ, zero, suc, _+_, _-_, _<_, _≤_}
-use mathlib.Core.Path.{_≡_, refl, sym, ap, _∙_, subst}
+use Prim.Native.Nat.{ℕ, _+_, _-_, _<_, _≤_}
+use mathlib.Core.Path.{_≡_, sym, ap, _∙_, subst}
 use mathlib.Core.Bool.{true, false, not, _&&_, false≢true, true≢false}
 use mathlib.Core.List.{List}
 use native.Mathlib.Omega.{arith}
@@ -30,10 +29,6 @@ makes-is v w want h = at (ℕ-discrete v (want - w))
     at : Dec (v ≡ want - w) → eqb v (want - w) ≡ eqb (v + w) want
     at (yes e) = eq-eqb v (want - w) e ∙ sym (eq-eqb (v + w) want (omega arith))
     at (no d) = ne-eqb v (want - w) d ∙ sym (ne-eqb (v + w) want (λ (e : v + w ≡ want). d (omega arith)))
-
-pub weigh-letter : (a : ℕ) → (a ≡ 0 → ⊥) → 4294967297 ≡ weigh a
-weigh-letter zero some = absurd (some refl)
-weigh-letter (suc a) some = refl
 
 module _ (marks list : List ℕ) (k : ℕ) (t : Transition) (is : t ≡ transitionAt list k) where
   pub normal-is : (d : List ℕ) (want : ℕ)

@@ -5,13 +5,13 @@ ghost use mathlib.Core.Path.{_≡_};
 ghost use mathlib.Core.Bool.{true};
 ghost use lib.Dec.{eqb};
 ghost use Rattle.fsbm.specs.Machine.{wellFormed, transitionAt};
-ghost use Rattle.pieces.specs.Pairs.{weigh};
 ghost use Rattle.pieces.specs.Blocks.{costOf, cell};
 ghost use Rattle.shortest.specs.Into.{Into};
 ghost use Rattle.shortest.specs.Find.{Finds, Tried, normalTest, NormalFits, storeTest, StoreFits, matchTest, MatchFits, LetterStep, LetterFits, Backs};
 use blocks::gather;
 use fsbm::machine;
 use fsbm::machine::Machine;
+use least::fall;
 
 // The weight of a move of both halves by a letter.
 pub const PAIR: u64 = 8589934594;
@@ -20,16 +20,6 @@ pub const PAIR: u64 = 8589934594;
 pub struct Halves {
     pub storing: usize,
     pub matching: usize,
-}
-
-// The weight of a move by a letter, or by epsilon.
-fn weight(letter: u16) -> u64
-    ensures { λ r. ⌜ r ≡ weigh letter ⌝ }
-{
-    if letter == 0 {
-        return 1;
-    }
-    4294967297
 }
 
 // Whether v and w make the number that is wanted.
@@ -71,7 +61,7 @@ fn normal_fits(marks: &[u8; 64], list: &[u16], d: &[u64; 64], want: u64, k: usiz
     if machine::is_buffering(marks, p) {
         return false;
     }
-    makes(cost(d, p), weight(t.letter), want)
+    makes(cost(d, p), fall::weight(t.letter), want)
 }
 
 // The same of a transition by epsilon in buffering mode, for a pair whose matching half is in t.

@@ -707,7 +707,7 @@ mod tests {
     use compare::calls::{self, Slices};
     use compare::copy_chains::{chain, cycles, every_word, short_copies};
     use compare::dense::{dense, dense_plain, doubled, Kind};
-    use compare::pairs::{random_chain, random_copying, random_plain};
+    use compare::pairs::{random_chain, random_copying, random_second};
     use compare::{break_a_rule, filled, filled_bytes, random_machine, record_of, Rng};
     use reference::{Machine, Record};
     use zagvirk::common::Lengths;
@@ -795,15 +795,7 @@ mod tests {
                 1 => random_copying(&mut rng, 7, letters),
                 _ => random_chain(&mut rng, letters),
             };
-            let letters = match rng.below(12) {
-                0 => rng.below(4),
-                _ => first.letters,
-            };
-            let second = match rng.below(24) {
-                0 => random_machine(&mut rng, 4, letters),
-                1 => random_plain(&mut rng, 60, letters),
-                _ => random_plain(&mut rng, 5, letters),
-            };
+            let second = random_second(&mut rng, &first, 5);
             let (mut one, mut two) = (first.record(), second.record());
             match rng.below(24) {
                 0 => one = break_a_rule(&mut rng, &first),

@@ -1,5 +1,6 @@
 //! Machines for the common-word search whose shortest word is long, and how many letters it has.
 
+use reference::families::length_modulo;
 use reference::Machine;
 
 /// The least common multiple.
@@ -12,18 +13,6 @@ pub fn common_multiple(p: usize, q: usize) -> usize {
 /// The plain machine that accepts every word.
 pub fn every_word(letters: usize) -> Machine {
     length_modulo(letters, 1, 0)
-}
-
-/// The plain machine of the words whose length is `rest` more than a multiple of `cycle`.
-pub fn length_modulo(letters: usize, cycle: usize, rest: usize) -> Machine {
-    let marks: Vec<u8> = (0..cycle)
-        .map(|state| u8::from(state == 0) + 2 * u8::from(state == rest))
-        .collect();
-    let mut transitions = Vec::new();
-    for state in 0..cycle {
-        transitions.extend((1..=letters).map(|letter| (state, letter, (state + 1) % cycle)));
-    }
-    Machine::new(letters, &marks, &transitions)
 }
 
 /// The plain machine of the words that begin with the letters of `front`.

@@ -365,34 +365,6 @@ pub fn random_word(rng: &mut Rng, letters: usize, longest: usize) -> Vec<u8> {
     word
 }
 
-/// All machines with `states` states over one letter whose set of transitions is in `subsets`: bit k stands for transition
-/// k of all there can be, in rising order.
-pub fn small_machines(states: usize, subsets: std::ops::Range<usize>) -> Vec<Machine> {
-    let mut all = Vec::new();
-    for from in 0..states {
-        for letter in 0..2 {
-            for to in 0..states {
-                all.push((from, letter, to));
-            }
-        }
-    }
-    let good: Vec<u8> = (0..16).filter(|mark| mark & 12 != 12).collect();
-    let mut found = Vec::new();
-    for subset in subsets {
-        let chosen: Vec<_> = (0..all.len())
-            .filter(|bit| subset >> bit & 1 == 1)
-            .map(|bit| all[bit])
-            .collect();
-        for number in 0..good.len().pow(states as u32) {
-            let marks: Vec<u8> = (0..states as u32)
-                .map(|state| good[number / good.len().pow(state) % good.len()])
-                .collect();
-            found.push(Machine::new(1, &marks, &chosen));
-        }
-    }
-    found
-}
-
 /// How many cases met each refusal, 0 for none, as it is printed.
 pub fn tally(counts: &[u64]) -> String {
     let each: Vec<String> = counts

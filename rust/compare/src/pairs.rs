@@ -1,7 +1,8 @@
 //! Random machines for the common-word search.
 
-use crate::copy_chains::{every_word, length_modulo};
-use crate::Rng;
+use crate::copy_chains::every_word;
+use crate::{random_machine, Rng};
+use reference::families::length_modulo;
 use reference::Machine;
 
 /// A machine of 2 to `states` states, mostly with a copy on the way from the first state to the last.
@@ -84,4 +85,18 @@ pub fn random_plain(rng: &mut Rng, states: usize, letters: usize) -> Machine {
         }
     }
     Machine::new(letters, &marks, &transitions)
+}
+
+/// A second machine for `first`: mostly plain with up to the given number of states and as many letters; at times plain
+/// with too many states, of any kind, or with another number of letters.
+pub fn random_second(rng: &mut Rng, first: &Machine, states: usize) -> Machine {
+    let letters = match rng.below(12) {
+        0 => rng.below(4),
+        _ => first.letters,
+    };
+    match rng.below(24) {
+        0 => random_machine(rng, 4, letters),
+        1 | 2 => random_plain(rng, 60, letters),
+        _ => random_plain(rng, states, letters),
+    }
 }

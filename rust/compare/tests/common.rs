@@ -2,15 +2,15 @@
 //! Both runs go through the proved checker and through the reference's own.
 
 use compare::calls::{check_run, common_word, common_word_record, find, Lent, Slices};
-use compare::copy_chains::{begins_with, chain, cycles, every_word, length_modulo, short_copies};
+use compare::copy_chains::{begins_with, chain, cycles, every_word, short_copies};
 use compare::dense::{dense, dense_plain, doubled, Kind};
 use compare::many_copies::zones;
-use compare::pairs::{random_chain, random_copying, random_plain};
+use compare::pairs::{random_chain, random_copying, random_plain, random_second};
 use compare::{
-    break_a_rule, filled, filled_bytes, in_threads, random_machine, record_of, small_machines,
-    tally, Rng,
+    break_a_rule, filled, filled_bytes, in_threads, random_machine, record_of, tally, Rng,
 };
 use reference::common::{least_letters, shortest, shortest_by, Room};
+use reference::families::{length_modulo, small_machines};
 use reference::{folder, moves, product, Machine, Record, Refusal};
 use reference::{BEGIN_BUFFERING, BEGIN_EMPTYING};
 use zagvirk::common::{needed, CommonRecord, Lengths, Needed, MOST_LETTERS};
@@ -988,15 +988,7 @@ fn random_refusals() {
             0 => random_machine(&mut rng, 4, letters),
             _ => random_chain(&mut rng, letters),
         };
-        let letters = match rng.below(12) {
-            0 => rng.below(4),
-            _ => first.letters,
-        };
-        let second = match rng.below(24) {
-            0 => random_machine(&mut rng, 4, letters),
-            1 | 2 => random_plain(&mut rng, 60, letters),
-            _ => random_plain(&mut rng, 3, letters),
-        };
+        let second = random_second(&mut rng, &first, 3);
         let (mut one, mut two) = (first.record(), second.record());
         match rng.below(16) {
             0 => one = break_a_rule(&mut rng, &first),

@@ -3,10 +3,9 @@
 
 use compare::calls::{check_run, recognize, recognize_record};
 use compare::many_copies::{long_word, repetitive_word, zone_circle, zones};
-use compare::{
-    break_a_rule, filled, in_threads, random_machine, random_word, record_of, small_machines, Rng,
-};
+use compare::{break_a_rule, filled, in_threads, random_machine, random_word, record_of, Rng};
 use reference::common::next_word;
+use reference::families::small_machines;
 use reference::{folder, moves, published, shortest, Machine, Record};
 use zagvirk::recognize::{run_length, RecognizedRecord};
 

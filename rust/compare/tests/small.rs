@@ -1,6 +1,7 @@
 //! Every machine of one state and every machine of two states over one letter.
 
-use compare::{in_threads, small_machines, Case};
+use compare::{in_threads, Case};
+use reference::families::small_machines;
 use reference::{Config, Machine, Record};
 
 /// Entries that name a transition, one that is absent, the three mode changes and the number before them.

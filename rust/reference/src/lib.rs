@@ -17,6 +17,7 @@
 //! - [`relations`]: the least number of letters of a word that a small machine accepts, for words of any length.
 //! - [`listing`]: the listing program as a function from bytes to bytes.
 //! - [`folder`]: the machines of the folder `data/machines`.
+//! - [`families`]: families of machines that tests go through.
 //!
 //! # Example
 //!
@@ -35,6 +36,7 @@
 
 pub mod common;
 pub mod copies;
+pub mod families;
 pub mod folder;
 pub mod listing;
 mod machine;

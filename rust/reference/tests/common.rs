@@ -1,6 +1,7 @@
 //! The number of letters of a shortest common word, by the relations of strings, agrees with trying every word.
 
 use reference::common::{least_letters, shortest};
+use reference::families::{length_modulo, small_machines};
 use reference::{folder, published, Machine};
 
 /// A pseudo-random generator (xorshift).
@@ -91,39 +92,13 @@ impl Counts {
     }
 }
 
-/// The words whose length is so much more than a multiple of `cycle`.
-fn length_modulo(letters: usize, cycle: usize, rest: usize) -> Machine {
-    let marks: Vec<u8> = (0..cycle)
-        .map(|state| u8::from(state == 0) + 2 * u8::from(state == rest))
-        .collect();
-    let mut transitions = Vec::new();
-    for state in 0..cycle {
-        transitions.extend((1..=letters).map(|letter| (state, letter, (state + 1) % cycle)));
-    }
-    Machine::new(letters, &marks, &transitions)
-}
-
 #[test]
 fn two_states() {
-    let mut all = Vec::new();
-    for from in 0..2 {
-        for letter in 0..2 {
-            all.extend([(from, letter, 0), (from, letter, 1)]);
-        }
-    }
-    let good: Vec<u8> = (0..16).filter(|mark| mark & 12 != 12).collect();
     let mut counts = Counts::default();
     let plain = [length_modulo(1, 1, 0), length_modulo(1, 3, 2)];
     for subset in 0..256 {
-        let chosen: Vec<_> = (0..8)
-            .filter(|bit| subset >> bit & 1 == 1)
-            .map(|bit| all[bit])
-            .collect();
-        for &one in &good {
-            for &two in &good {
-                let machine = Machine::new(1, &[one, two], &chosen);
-                counts.pair(&machine, &plain[subset % 2], 5);
-            }
+        for machine in small_machines(2, subset..subset + 1) {
+            counts.pair(&machine, &plain[subset % 2], 5);
         }
     }
     counts.report("all machines of two states over one letter", "5");

@@ -2,6 +2,7 @@
 //! move: with the buffer as a stretch of the word and with the buffer as a string.
 
 use reference::common::next_word;
+use reference::families::small_machines;
 use reference::folder;
 use reference::moves::{self, accepting, follow, step};
 use reference::product::product;
@@ -116,20 +117,8 @@ fn as_strings(word: &[u8], config: Config) -> published::Config {
 /// step of "yields" with the same entry, and conversely.
 #[test]
 fn the_two_definitions_agree() {
-    let mut all = Vec::new();
-    for from in 0..2 {
-        for letter in 0..2 {
-            for to in 0..2 {
-                all.push((from, letter, to));
-            }
-        }
-    }
     let mut cases = 0;
-    for marks in 0..=255u8 {
-        let machine = Machine::new(1, &[marks % 16, marks / 16], &all);
-        if machine.record().0.machine(&machine.list()).is_err() {
-            continue;
-        }
+    for machine in small_machines(2, 255..256) {
         for length in 0..=3 {
             cases += agree_on_configurations(&machine, &vec![1; length]);
         }

@@ -1,6 +1,7 @@
 //! The two recognizers agree: `published`, by the definition, and `shortest`, over numbered configurations.
 
 use reference::common::next_word;
+use reference::families::small_machines;
 use reference::moves::{self, accepting};
 use reference::{folder, published, shortest, Config, Machine};
 
@@ -22,29 +23,11 @@ fn agree(machine: &Machine, word: &[u8]) -> bool {
 
 #[test]
 fn two_states() {
-    let mut all = Vec::new();
-    for from in 0..2 {
-        for letter in 0..2 {
-            for to in 0..2 {
-                all.push((from, letter, to));
-            }
-        }
-    }
-    let good: Vec<u8> = (0..16).filter(|mark| mark & 12 != 12).collect();
     let (mut cases, mut yes) = (0, 0);
-    for subset in 0..256 {
-        let chosen: Vec<_> = (0..8)
-            .filter(|bit| subset >> bit & 1 == 1)
-            .map(|bit| all[bit])
-            .collect();
-        for &one in &good {
-            for &two in &good {
-                let machine = Machine::new(1, &[one, two], &chosen);
-                for length in 0..3 {
-                    yes += u64::from(agree(&machine, &vec![1; length]));
-                    cases += 1;
-                }
-            }
+    for machine in small_machines(2, 0..256) {
+        for length in 0..3 {
+            yes += u64::from(agree(&machine, &vec![1; length]));
+            cases += 1;
         }
     }
     println!("two states, one letter: {cases} words, {yes} accepted");

@@ -152,15 +152,12 @@ pub fn common_word(
         first_run,
         second_run,
     );
-    match Refusal::of(common.refusal, common.needed) {
-        Some(refusal) => Err(refusal),
-        None if common.found == 1 => Ok(Some(Lengths {
-            letters: common.letters,
-            first_entries: common.first_entries,
-            second_entries: common.second_entries,
-        })),
-        None => Ok(None),
-    }
+    Refusal::check(common.refusal, common.needed)?;
+    Ok((common.found == 1).then_some(Lengths {
+        letters: common.letters,
+        first_entries: common.first_entries,
+        second_entries: common.second_entries,
+    }))
 }
 
 /// The number of letters of a shortest common word, or `None` if there is no common word. Refuses as [`common_word`]

@@ -87,11 +87,9 @@ pub fn list_copies(
     copies: &mut [u16],
 ) -> Result<Copies, Refusal> {
     let listed = list_copies_record(machine, list, word, run, copies);
-    match Refusal::of(listed.refusal, listed.needed) {
-        Some(refusal) => Err(refusal),
-        None => Ok(Copies {
-            count: listed.copies,
-            total: listed.total,
-        }),
-    }
+    Refusal::check(listed.refusal, listed.needed)?;
+    Ok(Copies {
+        count: listed.copies,
+        total: listed.total,
+    })
 }

@@ -116,21 +116,18 @@ pub fn step(
     entry: u16,
 ) -> Result<Option<Config>, Refusal> {
     let stepped = records::step(machine, list, word, config.into(), entry);
-    match Refusal::of(stepped.refusal, 0) {
-        Some(refusal) => Err(refusal),
-        None if stepped.allowed == 1 => Ok(Some(Config {
-            position: stepped.config.position,
-            state: stepped.config.state,
-            mode: match stepped.config.mode {
-                0 => Mode::Normal,
-                1 => Mode::Buffering,
-                _ => Mode::Emptying,
-            },
-            start: stepped.config.start,
-            end: stepped.config.end,
-        })),
-        None => Ok(None),
-    }
+    Refusal::check(stepped.refusal, 0)?;
+    Ok((stepped.allowed == 1).then_some(Config {
+        position: stepped.config.position,
+        state: stepped.config.state,
+        mode: match stepped.config.mode {
+            0 => Mode::Normal,
+            1 => Mode::Buffering,
+            _ => Mode::Emptying,
+        },
+        start: stepped.config.start,
+        end: stepped.config.end,
+    }))
 }
 
 /// Whether the run accepts the word. A run is its start state, then one entry a move.
@@ -148,8 +145,6 @@ pub fn check_run(
     run: &[u16],
 ) -> Result<bool, Refusal> {
     let checked = records::check_run(machine, list, word, run);
-    match Refusal::of(checked.refusal, 0) {
-        Some(refusal) => Err(refusal),
-        None => Ok(checked.accepting == 1),
-    }
+    Refusal::check(checked.refusal, 0)?;
+    Ok(checked.accepting == 1)
 }

@@ -79,8 +79,6 @@ pub fn join(
     list: &mut [u16],
 ) -> Result<Machine, Refusal> {
     let joined = join_record(first, first_list, second, second_list, list);
-    match Refusal::of(joined.refusal, joined.needed) {
-        Some(refusal) => Err(refusal),
-        None => Ok(joined.machine),
-    }
+    Refusal::check(joined.refusal, joined.needed)?;
+    Ok(joined.machine)
 }

@@ -78,9 +78,6 @@ pub fn recognize(
     run: &mut [u16],
 ) -> Result<Option<usize>, Refusal> {
     let recognized = recognize_record(machine, list, word, run);
-    match Refusal::of(recognized.refusal, recognized.needed) {
-        Some(refusal) => Err(refusal),
-        None if recognized.accepted == 1 => Ok(Some(recognized.entries)),
-        None => Ok(None),
-    }
+    Refusal::check(recognized.refusal, recognized.needed)?;
+    Ok((recognized.accepted == 1).then_some(recognized.entries))
 }

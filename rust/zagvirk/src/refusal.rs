@@ -84,10 +84,10 @@ impl Refusal {
         }
     }
 
-    /// The refusal of a record: nothing for 0.
-    pub(crate) fn of(number: u8, needed: usize) -> Option<Refusal> {
-        Some(match number {
-            0 => return None,
+    /// The refusal of a record as an error: none for 0.
+    pub(crate) fn check(number: u8, needed: usize) -> Result<(), Refusal> {
+        Err(match number {
+            0 => return Ok(()),
             1 => Refusal::LineCutShort,
             2 => Refusal::ColumnBroken,
             3 => Refusal::CountOutOfRange,

@@ -81,10 +81,8 @@ pub fn write_record(machine: &Machine, list: &[u16], sheet: &mut [u8]) -> Writte
 /// ```
 pub fn read(sheet: &[u8], list: &mut [u16]) -> Result<Machine, Refusal> {
     let read = read_record(sheet, list);
-    match Refusal::of(read.refusal, read.needed) {
-        Some(refusal) => Err(refusal),
-        None => Ok(read.machine),
-    }
+    Refusal::check(read.refusal, read.needed)?;
+    Ok(read.machine)
 }
 
 /// The number of bytes of the machine's sheet, which is written to the front of `sheet`; the rest of `sheet` stays as it
@@ -97,8 +95,6 @@ pub fn read(sheet: &[u8], list: &mut [u16]) -> Result<Machine, Refusal> {
 /// Time: in proportion to the sheet's bytes. Memory: constant.
 pub fn write(machine: &Machine, list: &[u16], sheet: &mut [u8]) -> Result<usize, Refusal> {
     let written = write_record(machine, list, sheet);
-    match Refusal::of(written.refusal, written.needed) {
-        Some(refusal) => Err(refusal),
-        None => Ok(written.bytes),
-    }
+    Refusal::check(written.refusal, written.needed)?;
+    Ok(written.bytes)
 }

@@ -42,8 +42,6 @@ pub fn translate_record(bytes: &[u8], word: &mut [u8]) -> TranslatedRecord {
 /// ```
 pub fn translate(bytes: &[u8], word: &mut [u8]) -> Result<usize, Refusal> {
     let translated = translate_record(bytes, word);
-    match Refusal::of(translated.refusal, translated.needed) {
-        Some(refusal) => Err(refusal),
-        None => Ok(translated.letters),
-    }
+    Refusal::check(translated.refusal, translated.needed)?;
+    Ok(translated.letters)
 }

@@ -4,7 +4,8 @@ use mathlib.Core.Bool.{true}
 use native.Mathlib.Omega.{arith}
 use lib.ListN.{length}
 use Rattle.fsbm.specs.Machine.{wellFormed}
-use Rattle.adjacency.specs.Index.Laws.{Built, sorted, built-start, built-turn, built-index}
+use Rattle.fsbm.specs.Rules.{rules}
+use Rattle.adjacency.specs.Index.Laws.{Built, built-start, built-turn, built-index}
 use Rattle.adjacency.proofs.index.Statement.{statement}
 use Rattle.adjacency.proofs.index.Tie as tie
 use Rattle.adjacency.proofs.index.Reads as reads
@@ -19,31 +20,31 @@ abbrev μ-loop : tie.MeasureT-loop
 
 -- src/lib.rt:48:5
 loop-holds : tie.Need-loop-holds Inv-loop μ-loop
-loop-holds c = ((c .before .pre), built-start _ _ (sorted _ _ (c .before .pre)))
+loop-holds c = ((c .before .pre), built-start _ _ (rules _ _ (c .before .pre)))
 
 -- src/lib.rt:49:45
 cast-seek : tie.Need-cast-seek Inv-loop μ-loop
-cast-seek c = omega (arith, sorted _ _ (c .before .before .loop .inv .0) .states-fit)
+cast-seek c = omega (arith, rules _ _ (c .before .before .loop .inv .0) .states-fit)
 
 -- src/lib.rt:49:9
 seek-requires : tie.Need-seek-requires Inv-loop μ-loop
-seek-requires c κs = (omega arith, (c .before .before .loop .inv .1) .at-most, sorted _ _ (c .before .before .loop .inv .0) .list-fits)
+seek-requires c κs = (omega arith, (c .before .before .loop .inv .1) .at-most, rules _ _ (c .before .before .loop .inv .0) .list-fits)
 
 -- src/lib.rt:50:20
 cast-first : tie.Need-cast-first Inv-loop μ-loop
-cast-first c = omega (arith, sorted _ _ (c .before .before .before .loop .inv .0) .transitions-fit, (c .seek .ensures) .within)
+cast-first c = omega (arith, rules _ _ (c .before .before .before .loop .inv .0) .transitions-fit, (c .seek .ensures) .within)
 
 -- src/lib.rt:50:9
 mul-first : tie.Need-mul-first Inv-loop μ-loop
-mul-first c = omega (arith, sorted _ _ (c .before .before .before .loop .inv .0) .states-fit)
+mul-first c = omega (arith, rules _ _ (c .before .before .before .loop .inv .0) .states-fit)
 
 -- src/lib.rt:50:9
 array-write-first : tie.Need-array-write-first Inv-loop μ-loop
-array-write-first c = omega (arith, sorted _ _ (c .before .before .before .loop .inv .0) .states-fit)
+array-write-first c = omega (arith, rules _ _ (c .before .before .before .loop .inv .0) .states-fit)
 
 -- src/lib.rt:51:9
 add-q : tie.Need-add-q Inv-loop μ-loop
-add-q c = omega (arith, sorted _ _ (c .before .before .before .loop .inv .0) .states-fit)
+add-q c = omega (arith, rules _ _ (c .before .before .before .loop .inv .0) .states-fit)
 
 -- src/lib.rt:48:5
 loop-less : tie.Need-loop-less Inv-loop μ-loop
@@ -51,11 +52,11 @@ loop-less c = omega arith
 
 -- src/lib.rt:48:5
 loop-again : tie.Need-loop-again Inv-loop μ-loop
-loop-again c = ((c .before .before .before .loop .inv .0), built-turn _ _ (sorted _ _ (c .before .before .before .loop .inv .0)) _ _ _ _ (c .before .before .before .loop .inv .1) (omega arith) (c .seek .ensures))
+loop-again c = ((c .before .before .before .loop .inv .0), built-turn _ _ (rules _ _ (c .before .before .before .loop .inv .0)) _ _ _ _ (c .before .before .before .loop .inv .1) (omega arith) (c .seek .ensures))
 
 -- src/lib.rt:41:1
 returns : tie.Need-returns Inv-loop μ-loop
-returns c = built-index _ _ (sorted _ _ (c .before .before .loop .inv .0)) _ _ _ (c .before .before .loop .inv .1) (omega arith)
+returns c = built-index _ _ (rules _ _ (c .before .before .loop .inv .0)) _ _ _ (c .before .before .loop .inv .1) (omega arith)
 
 pub index-spec : {M : Type 1} → statement M
 index-spec =

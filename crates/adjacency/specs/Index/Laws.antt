@@ -1,7 +1,5 @@
 -- What the rise of the list gives, and which transitions an index names.
 --
--- Sorted m list     == what the laws use of wellFormed: the counts, the names, the rise
--- sorted            == wellFormed says it
 -- from-rises        == a later transition leaves no lower state
 -- letter-rises      == a later transition of the same state has no lower letter
 -- leaves            == the transitions that leave q are those from first[q] up to first[q + 1]
@@ -11,86 +9,20 @@
 use Prim.Native.Nat.{ℕ, zero, suc, _+_, _*_, _-_, _≤_, _<_}
 use mathlib.Core.Path.{_≡_, refl, sym, ap, _∙_, subst}
 use mathlib.Core.Logic.{_↔_, _⊎_, inl, inr}
-use mathlib.Core.Bool.{Bool, true, false, cond, not, _&&_, _||_, false≢true}
+use mathlib.Core.Bool.{Bool, true, false, cond, not, false≢true}
 use mathlib.Core.List.{List}
 use native.Mathlib.Omega.{arith}
 use native.Mathlib.Decide.{decLe, decLt, ℕ-discrete}
 use lib.ListN.{length, getD, set, length-set, replicate, length-replicate}
 use lib.Seq.{getD-set-same, getD-set-other}
-use lib.Dec.{leb, ltb, eqb}
-use borrow.Author.Tests.{leb-true, ltb-true, eqb-true, eqb-false, eq-eqb}
-use Rattle.graphs.specs.Search.{allBelow}
-use Rattle.graphs.specs.Search.Laws.{and-true, true-or-false, allBelow-true, or-true}
-use Rattle.fsbm.specs.Machine.{wellFormed, goodMark, named, precedes, goodTransition, transitionAt, maxStates, maxLetters, maxTransitions}
+use lib.Dec.{eqb}
+use borrow.Author.Tests.{ltb-true, eqb-true, eqb-false, eq-eqb}
+use Rattle.graphs.specs.Search.Laws.{true-or-false}
+use Rattle.fsbm.specs.Machine.{precedes, transitionAt}
+use Rattle.fsbm.specs.Rules.{Rules}
 use Rattle.fsbm.specs.declared.machine.Machine.{Machine}
 use Rattle.fsbm.specs.declared.machine.Transition.{Transition}
 use Rattle.adjacency.specs.Index.{column, Sought, Index}
-
-pub record Sorted (m : Machine) (list : List ℕ) : Type 0 where
-  pub some-state : 1 ≤ m .states
-  pub states-fit : m .states ≤ 64
-  pub letters-fit : m .letters ≤ 250
-  pub transitions-fit : m .transitions ≤ 4000
-  pub list-fits : m .transitions * 3 ≤ length list
-  pub marks-good : (q : ℕ) → q < 64 → goodMark m q ≡ true
-  pub from-below : (k : ℕ) → k < m .transitions → transitionAt list k .from < m .states
-  pub letter-below : (k : ℕ) → k < m .transitions → transitionAt list k .letter ≤ m .letters
-  pub to-below : (k : ℕ) → k < m .transitions → transitionAt list k .to < m .states
-  pub rises : (k : ℕ) → suc k < m .transitions → precedes (transitionAt list k) (transitionAt list (suc k)) ≡ true
-
-record Good (m : Machine) (list : List ℕ) (k : ℕ) : Type 0 where
-  from : transitionAt list k .from < m .states
-  letter : transitionAt list k .letter ≤ m .letters
-  to : transitionAt list k .to < m .states
-  after : (eqb k 0 || precedes (transitionAt list (k - 1)) (transitionAt list k)) ≡ true
-
-good-says : (m : Machine) (list : List ℕ) (k : ℕ) → goodTransition (m .states) (m .letters) list k ≡ true → Good m list k
-good-says m list k h =
-    let t = transitionAt list k in
-    let (n, after) = and-true (named (m .states) (m .letters) t) (eqb k 0 || precedes (transitionAt list (k - 1)) t) h in
-    let (from, rest) = and-true (ltb (t .from) (m .states)) (leb (t .letter) (m .letters) && ltb (t .to) (m .states)) n in
-    let (letter, to) = and-true (leb (t .letter) (m .letters)) (ltb (t .to) (m .states)) rest in
-    record {
-      from = ltb-true (t .from) (m .states) from;
-      letter = leb-true (t .letter) (m .letters) letter;
-      to = ltb-true (t .to) (m .states) to;
-      after = after;
-    }
-
-good-rises : (m : Machine) (list : List ℕ) (k : ℕ) → Good m list (suc k) → precedes (transitionAt list k) (transitionAt list (suc k)) ≡ true
-good-rises m list k g = at (or-true (eqb (suc k) 0) (precedes (transitionAt list (suc k - 1)) (transitionAt list (suc k))) (g .after))
-  where
-    at : (eqb (suc k) 0 ≡ true) ⊎ (precedes (transitionAt list (suc k - 1)) (transitionAt list (suc k)) ≡ true) → precedes (transitionAt list k) (transitionAt list (suc k)) ≡ true
-    at (inl z) = let e = eqb-true (suc k) 0 z in absurd (omega arith)
-    at (inr t) = let e : suc k - 1 ≡ k = omega arith in subst (λ (j : ℕ). precedes (transitionAt list j) (transitionAt list (suc k)) ≡ true) e t
-
-pub sorted : (m : Machine) (list : List ℕ) → wellFormed m list ≡ true → Sorted m list
-unfolding wellFormed
-sorted m list h =
-    let good = goodTransition (m .states) (m .letters) list in
-    let all = allBelow maxStates (goodMark m) && allBelow (m .transitions) good in
-    let enough = leb (m .transitions * 3) (length list) in
-    let few = leb (m .transitions) maxTransitions in
-    let letters = leb (m .letters) maxLetters in
-    let (a, r₁) = and-true (leb 1 (m .states)) (leb (m .states) maxStates && (letters && (few && (enough && all)))) h in
-    let (b, r₂) = and-true (leb (m .states) maxStates) (letters && (few && (enough && all))) r₁ in
-    let (c, r₃) = and-true letters (few && (enough && all)) r₂ in
-    let (d, r₄) = and-true few (enough && all) r₃ in
-    let (e, r₅) = and-true enough all r₄ in
-    let (marks, moves) = and-true (allBelow maxStates (goodMark m)) (allBelow (m .transitions) good) r₅ in
-    let each : (k : ℕ) → k < m .transitions → Good m list k = λ k lt. good-says m list k (allBelow-true good (m .transitions) .0 moves k lt) in
-    record {
-      some-state = leb-true 1 (m .states) a;
-      states-fit = leb-true (m .states) maxStates b;
-      letters-fit = leb-true (m .letters) maxLetters c;
-      transitions-fit = leb-true (m .transitions) maxTransitions d;
-      list-fits = leb-true (m .transitions * 3) (length list) e;
-      marks-good = allBelow-true (goodMark m) maxStates .0 marks;
-      from-below = λ k lt. each k lt .from;
-      letter-below = λ k lt. each k lt .letter;
-      to-below = λ k lt. each k lt .to;
-      rises = λ k lt. good-rises m list k (each (suc k) lt);
-    }
 
 -- The rise
 
@@ -126,7 +58,7 @@ zeros-at zero p = refl
 zeros-at (suc n) zero = refl
 zeros-at (suc n) (suc p) = zeros-at n p
 
-module _ (m : Machine) (list : List ℕ) (s : Sorted m list) where
+module _ (m : Machine) (list : List ℕ) (s : Rules m list) where
   rises-by : (i d : ℕ) → i + d < m .transitions
       → (transitionAt list i .from ≤ transitionAt list (i + d) .from) × (transitionAt list i .from ≡ transitionAt list (i + d) .from → transitionAt list i .letter ≤ transitionAt list (i + d) .letter)
   rises-by i zero h =

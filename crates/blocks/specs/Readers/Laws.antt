@@ -19,7 +19,7 @@ use Rattle.stateset.specs.Set.Laws.{has-in, empty-in}
 use Rattle.fsbm.specs.Machine.{wellFormed, transitionAt, matching}
 use Rattle.fsbm.specs.Rules.{rules, matching-below}
 use Rattle.fsbm.specs.declared.machine.Machine.{Machine}
-use Rattle.adjacency.specs.Index.Laws.{sorted, zeros-at}
+use Rattle.adjacency.specs.Index.Laws.{zeros-at}
 use Rattle.blocks.specs.Stretches.Laws.{stretch}
 use Rattle.blocks.specs.Works.{Kind, Ready}
 use Rattle.blocks.specs.Gathered.{Adding, From}
@@ -99,7 +99,7 @@ readers-cover {m} {list} {index} {h} r {sets} f x le =
     all t k held lo hi enters =
         let from = r .matches t .0 held in
         let below = matching-below m list (rules m list (r .good)) t from in
-        let s = stretch m list (sorted m list (r .good)) index (r .starts) t x k below (omega arith) .0 (lo, hi) in
+        let s = stretch m list (rules m list (r .good)) index (r .starts) t x k below (omega arith) .0 (lo, hi) in
         let i = f .all k (s .0) (subst (λ (z : ℕ). matching (m .marks) z ≡ true) (sym (s .1)) from) (r .matches (getD list (k * 3 + 2) 0) .0 enters) in
         subst (λ (z : ℕ). In (getD sets z 0) t) (s .2) (subst (λ (z : ℕ). In (getD sets (transitionAt list k .letter) 0) z) (s .1) i)
 

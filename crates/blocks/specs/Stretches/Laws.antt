@@ -18,8 +18,9 @@ use native.Mathlib.Nat.{mul-le-mul, mul-le-mul-right, suc-mul}
 use lib.ListN.{length, getD, set, length-set}
 use lib.Seq.{getD-set-same, getD-set-other}
 use Rattle.fsbm.specs.Machine.{transitionAt}
+use Rattle.fsbm.specs.Rules.{Rules}
 use Rattle.fsbm.specs.declared.machine.Machine.{Machine}
-use Rattle.adjacency.specs.Index.Laws.{Sorted, from-rises, letter-rises}
+use Rattle.adjacency.specs.Index.Laws.{from-rises, letter-rises}
 use Rattle.blocks.specs.Stretches.{mostKeys, keyOf, Found, Stretches}
 
 pub key-fits : (t stride x : ℕ) → t < 64 → stride ≤ 251 → x < stride → (t * stride ≤ 15813) × (t * stride + x < 16064)
@@ -44,7 +45,7 @@ pub record Built (m : Machine) (list index : List ℕ) (k y : ℕ) : Type 0 wher
   pub within : (x : ℕ) → x < y → getD index x 0 ≤ m .transitions
   pub below : (x t : ℕ) → x < y → t < m .transitions → (t < getD index x 0) ↔ (keyOf list (m .letters + 1) t < x)
 
-module _ (m : Machine) (list : List ℕ) (s : Sorted m list) where
+module _ (m : Machine) (list : List ℕ) (s : Rules m list) where
   key-rises : (i j : ℕ) → i ≤ j → j < m .transitions → keyOf list (m .letters + 1) i ≤ keyOf list (m .letters + 1) j
   key-rises i j le lt = on (ℕ-discrete (transitionAt list i .from) (transitionAt list j .from))
     where

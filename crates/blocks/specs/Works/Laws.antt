@@ -26,10 +26,9 @@ use Rattle.graphs.specs.Working.Laws.{working-lowers, working-looked}
 use Rattle.stateset.specs.Set.{width, digit, In, has, SetIs}
 use Rattle.stateset.specs.Set.Laws.{in?, has-in, empty-in}
 use Rattle.fsbm.specs.Machine.{wellFormed, markOf, buffering, matching, transitionAt}
-use Rattle.fsbm.specs.Rules.{rules, buffering-below, matching-below}
+use Rattle.fsbm.specs.Rules.{Rules, rules, buffering-below, matching-below}
 use Rattle.fsbm.specs.Published.{Listed, fsbmOf}
 use Rattle.fsbm.specs.declared.machine.Machine.{Machine}
-use Rattle.adjacency.specs.Index.Laws.{Sorted, sorted}
 use Rattle.images.specs.Graph.{KindsOf}
 use Rattle.images.specs.declared.Kinds.{Kinds}
 use Rattle.pieces.specs.Pairs.{unit, halves, Pair, both, PairMove, stores-none, matches-none, letter}
@@ -109,8 +108,8 @@ pub pair-is : (u : Pair) (s : ℕ) → u .storing ≡ s → u ≡ both s (u .mat
 pair-is u s e = ap (λ (z : ℕ). both z (u .matching)) e
 
 module _ {m : Machine} {list index : List ℕ} {h : ℕ} (r : Ready m list index h) where
-  sorts : Sorted m list
-  sorts = sorted m list (r .good)
+  sorts : Rules m list
+  sorts = rules m list (r .good)
 
   below : (q : ℕ) → matching (m .marks) q ≡ true → q < m .states
   below q k = matching-below m list (rules m list (r .good)) q k

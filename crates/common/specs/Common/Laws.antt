@@ -1,7 +1,6 @@
 -- The laws of specs/Common.antt: leastCommon speaks of words of any length.
 --
 -- common-runs, common-published == a word is common exactly if each machine has an accepting run of it; if it is in both published languages
--- answer-values        == the number and values of the answer are those that the rules give
 -- answer-fault, answer-none, answer-word, answer-first, answer-second, answer-found == the answer in each case
 -- common-parts         == exactly if each accepts it
 -- common-joined        == exactly if the product accepts it, with anything behind its list
@@ -13,7 +12,7 @@
 use Prim.Native.Nat.{ℕ, zero, suc, _+_, _≤_, _<_}
 use mathlib.Core.Path.{_≡_, refl, sym, _∙_}
 use mathlib.Core.Logic.{_↔_, _⊎_, inl, inr}
-use mathlib.Core.Bool.{Bool, true, false, cond, _&&_}
+use mathlib.Core.Bool.{true, false, _&&_}
 use mathlib.Core.List.{List, [], _++_}
 use native.Mathlib.Omega.{arith}
 use native.Mathlib.Decide.{decLe}
@@ -29,31 +28,20 @@ use Rattle.fsbm.specs.Moves.{accepting}
 use Rattle.fsbm.specs.Accepted.{runBound, accepted}
 use Rattle.fsbm.specs.Answers.{refusal}
 use Rattle.fsbm.specs.Published.{FSBM, fsbmOf, symbol, InLanguage}
+use Rattle.fsbm.specs.Rules.{rules}
 use Rattle.fsbm.specs.declared.machine.Machine.{Machine}
 use Rattle.language.specs.Agreement.{run-path}
 use Rattle.language.specs.Bound.{accepted-iff-run, accepted-iff-published}
 use Rattle.product.specs.Product.{joinedTransitions, joinedMachine, joinFault}
-use Rattle.product.specs.Tables.{table, Joinable, joinable}
+use Rattle.product.specs.Tables.{Joinable, joinable}
 use Rattle.product.specs.WellFormed.{joined-well-formed}
 use Rattle.product.specs.Common.{joined-accepted}
 use Rattle.pieces.specs.Pieces.{Stores, stored, store, Leads, ended, read, copy}
 use Rattle.pieces.specs.Pieces.Laws.{path-leads}
 use Rattle.pieces.specs.Bound.{wordBound}
 use Rattle.pieces.specs.Bound.Laws.{short-word}
-use Rattle.common.specs.declared.Common.{Common}
 use Rattle.common.specs.declared.Common.the-variants.{Refused, NoCommonWord, Found}
-use Rattle.common.specs.Common.{isCommon, hasCommon, leastCommon, commonAnswer, commonValues, answerValues}
-
--- The values of the answer
-
-values-cond : (b : Bool) (x y : Common) → commonValues (cond b x y) ≡ cond b (commonValues x) (commonValues y)
-values-cond true x y = refl
-values-cond false x y = refl
-
-pub answer-values : (m₁ : Machine) (l₁ : List ℕ) (m₂ : Machine) (l₂ : List ℕ) (word first second entries : ℕ)
-    → commonValues (commonAnswer m₁ l₁ m₂ l₂ word first second entries) ≡ answerValues m₁ l₁ m₂ l₂ word first second entries
-unfolding commonAnswer answerValues
-answer-values m₁ l₁ m₂ l₂ word first second entries = simp values-cond
+use Rattle.common.specs.Common.{isCommon, hasCommon, leastCommon, commonAnswer}
 
 -- The answer in each case
 
@@ -121,7 +109,7 @@ module _ (M : FSBM) (n : ℕ) (letters : (p a q : ℕ) → M .δ p a q → a < n
 accepted-letters : (m : Machine) (list : List ℕ) → wellFormed m list ≡ true → (w : List ℕ) → accepted m list w ≡ true → AllBelow (suc (m .letters)) w
 accepted-letters m list good w t =
     let l = accepted-iff-published m list w good .0 t in
-    let tab = table m list good in
+    let tab = rules m list good in
     leads-below (fsbmOf m list) (suc (m .letters))
     (λ p a q d. omega (arith, tab .letter-below (d .number) (d .listed), d .letter))
     (path-leads (run-path m list (l .run)))

@@ -12,16 +12,15 @@ use native.Mathlib.Omega.{arith}
 use lib.ListN.{length, length-append}
 use lib.Dec.{ltb, eqb, eqb·suc-zero}
 use borrow.Author.Tests.{lt-ltb}
-use native.Mathlib.Nat.{mod-lt, div-lt-iff-lt-mul, div-add-mod'}
 use Rattle.graphs.specs.Search.Laws.{and-true, not-both}
-use Rattle.fsbm.specs.Machine.{transitionAt, initial, final, buffering, matching}
+use Rattle.fsbm.specs.Machine.{transitionAt, initial, final}
 use Rattle.fsbm.specs.Moves.{accepting, beginBuffering, beginEmptying, backToNormal}
 use Rattle.fsbm.specs.Published.{fsbmOf, symbol}
 use Rattle.fsbm.specs.Rules.{Rules, rules, buffering-below, matching-below}
 use Rattle.fsbm.specs.declared.machine.Machine.{Machine}
-use Rattle.product.specs.Product.{joinedTransitions, joinedMarks, joinedMachine, joinFault}
-use Rattle.product.specs.Tables.{Joinable, joinable}
-use Rattle.product.specs.WellFormed.{initial-joined, final-joined, buffering-joined, matching-joined, joined-well-formed}
+use Rattle.product.specs.Product.{joinedTransitions, joinedMachine, joinFault}
+use Rattle.product.specs.Tables.{Joinable, joinable, first-below, second-below}
+use Rattle.product.specs.WellFormed.{initial-at, final-at, buffering-at, matching-at, joined-well-formed}
 use Rattle.product.specs.Common.{Split, listed-split}
 use Rattle.pieces.specs.Written.{Takes, StoresBy, stored, store, MatchesBy, matched, match, LeadsBy, ended, read, copy}
 use Rattle.pieces.specs.Written.Laws.{takes-listed, written-accepts}
@@ -205,38 +204,14 @@ module _ (m₁ : Machine) (l₁ : List ℕ) (m₂ : Machine) (l₂ : List ℕ) (
   r : Rules J L
   r = rules J L (joined-well-formed m₁ l₁ m₂ l₂ fine rest)
 
-  some-second : 0 < m₂ .states
-  some-second = omega (arith, j .second .some-state)
-
-  -- The marks of a pair
-
-  module _ (q : ℕ) (lt : q < m₁ .states * m₂ .states) where
-    first-below : q / m₂ .states < m₁ .states
-    first-below = div-lt-iff-lt-mul some-second .1 lt
-
-    at-pair : (test : List ℕ → ℕ → Bool) → test (joinedMarks m₁ m₂) q ≡ test (joinedMarks m₁ m₂) (q / m₂ .states * m₂ .states + q % m₂ .states)
-    at-pair test = ap (test (joinedMarks m₁ m₂)) (sym (div-add-mod' q (m₂ .states)))
-
-    initial-at : initial (joinedMarks m₁ m₂) q ≡ (initial (m₁ .marks) (q / m₂ .states) && initial (m₂ .marks) (q % m₂ .states))
-    initial-at = at-pair initial ∙ initial-joined j (q / m₂ .states) (q % m₂ .states) first-below (mod-lt q some-second)
-
-    final-at : final (joinedMarks m₁ m₂) q ≡ (final (m₁ .marks) (q / m₂ .states) && final (m₂ .marks) (q % m₂ .states))
-    final-at = at-pair final ∙ final-joined j (q / m₂ .states) (q % m₂ .states) first-below (mod-lt q some-second)
-
-    buffering-at : buffering (joinedMarks m₁ m₂) q ≡ buffering (m₁ .marks) (q / m₂ .states)
-    buffering-at = at-pair buffering ∙ buffering-joined j (q / m₂ .states) (q % m₂ .states) first-below (mod-lt q some-second)
-
-    matching-at : matching (joinedMarks m₁ m₂) q ≡ matching (m₁ .marks) (q / m₂ .states)
-    matching-at = at-pair matching ∙ matching-joined j (q / m₂ .states) (q % m₂ .states) first-below (mod-lt q some-second)
-
   -- a buffering, a matching state of the product is one of the first
   buffers : (q : ℕ) → fsbmOf J L .G q → fsbmOf m₁ l₁ .G (q / m₂ .states)
   unfolding joinedMachine
-  buffers q h = sym (buffering-at q (buffering-below J L r q h)) ∙ h
+  buffers q h = sym (buffering-at j q (buffering-below J L r q h)) ∙ h
 
   matches : (q : ℕ) → fsbmOf J L .H q → fsbmOf m₁ l₁ .H (q / m₂ .states)
   unfolding joinedMachine
-  matches q h = sym (matching-at q (matching-below J L r q h)) ∙ h
+  matches q h = sym (matching-at j q (matching-below J L r q h)) ∙ h
 
   crossing : {e p x q : ℕ} → Takes J L e p x q → Split m₁ l₁ m₂ l₂ fine rest p x q
   unfolding joinedMachine
@@ -247,11 +222,11 @@ module _ (m₁ : Machine) (l₁ : List ℕ) (m₂ : Machine) (l₂ : List ℕ) (
 
   not-matching : {p x q : ℕ} → Split m₁ l₁ m₂ l₂ fine rest p x q → (fsbmOf J L .H p × fsbmOf J L .H q → ⊥) → fsbmOf m₁ l₁ .H (p / m₂ .states) × fsbmOf m₁ l₁ .H (q / m₂ .states) → ⊥
   unfolding joinedMachine
-  not-matching {p} {x} {q} c none (a, b) = none (matching-at p (c .from-below) ∙ a, matching-at q (c .to-below) ∙ b)
+  not-matching {p} {x} {q} c none (a, b) = none (matching-at j p (c .from-below) ∙ a, matching-at j q (c .to-below) ∙ b)
 
   not-buffering : (q : ℕ) → q < m₁ .states * m₂ .states → (fsbmOf J L .G q → ⊥) → fsbmOf m₁ l₁ .G (q / m₂ .states) → ⊥
   unfolding joinedMachine
-  not-buffering q lt n g = n (buffering-at q lt ∙ g)
+  not-buffering q lt n g = n (buffering-at j q lt ∙ g)
 
   -- the second machine reads what a transition of the product reads
   second-reads : {p q : ℕ} (x : ℕ) {b b′ w : List ℕ} {f : ℕ} → Split m₁ l₁ m₂ l₂ fine rest p x q → Second m₂ l₂ p x q b b′ → LeadsBy m₂ l₂ (q % m₂ .states) w b′ f
@@ -265,7 +240,7 @@ module _ (m₁ : Machine) (l₁ : List ℕ) (m₂ : Machine) (l₂ : List ℕ) (
   second-reads zero c (inr (d, e, some, t)) l = absurd (some refl)
   second-reads (suc x) c (inl (z, e)) l = absurd (omega arith)
   second-reads {p} {q} (suc x) {w = w} {f = f} c (inr (d, e, some, t)) l =
-      let below = mod-lt p some-second in
+      let below = second-below j p in
       subst (λ (k : List ℕ). LeadsBy m₂ l₂ (p % m₂ .states) (suc x ∷ w) k f) (sym e)
       (read {a = suc x} t (λ h. not-both (h .0) (j .not-matching (p % m₂ .states) below)) (λ g. not-both g (j .not-buffering (p % m₂ .states) below)) l)
 
@@ -336,6 +311,6 @@ module _ (m₁ : Machine) (l₁ : List ℕ) (m₂ : Machine) (l₂ : List ℕ) (
       let n = m₂ .states in
       let (first, second) = leads-split l u in
       let end = last-below l lt in
-      let (i₁, i₂) = and-true (initial (m₁ .marks) (q / n)) (initial (m₂ .marks) (q % n)) (sym (initial-at q lt) ∙ i) in
-      let (f₁, f₂) = and-true (final (m₁ .marks) (f / n)) (final (m₂ .marks) (f % n)) (sym (final-at f end) ∙ last) in
-      (written-accepts m₁ l₁ (j .good₁) (first-below q lt) i₁ f₁ first, written-accepts m₂ l₂ (j .good₂) (mod-lt q some-second) i₂ f₂ second)
+      let (i₁, i₂) = and-true (initial (m₁ .marks) (q / n)) (initial (m₂ .marks) (q % n)) (sym (initial-at j q lt) ∙ i) in
+      let (f₁, f₂) = and-true (final (m₁ .marks) (f / n)) (final (m₂ .marks) (f % n)) (sym (final-at j f end) ∙ last) in
+      (written-accepts m₁ l₁ (j .good₁) (first-below j q lt) i₁ f₁ first, written-accepts m₂ l₂ (j .good₂) (second-below j q) i₂ f₂ second)

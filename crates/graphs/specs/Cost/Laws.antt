@@ -8,6 +8,7 @@
 -- none, no-route         == D u of top or above: no route below top; no route at all, where a route means one below top
 -- short-route            == with keys below a bound and weights of at most b, a route means one of fewer edges than the bound, so no dearer than that times b
 -- descend                == from a node with D u neither 0 nor none some edge has D u = w + D v: the first edge of a least route
+-- settled-under          == numbers that are settled are settled below a smaller top
 -- zero-goal              == with positive weights D u = 0 says that u is a goal
 use mathlib.Core.Path.{_≡_, refl}
 use mathlib.Core.Logic.{_⊎_, inl, inr}
@@ -122,3 +123,8 @@ module _ {Node : Type 0} (Edge : Node → Node → ℕ → Type 0) where
         let (m, l, q) = short-path key same bound all (p .1) in
         let (k, d, r) = path-route b small q in
         (m, k, l, d, record { goal = t .goal; isGoal = t .isGoal; route = r })
+
+-- Below a smaller top
+
+pub settled-under : {Node : Type 0} {Edge : Node → Node → ℕ → Type 0} {Goal : Node → Type 0} {limit top : ℕ} {D : Node → ℕ} → limit ≤ top → Settled Edge Goal top D → Settled Edge Goal limit D
+settled-under le s = record { atGoal = s .atGoal; onEdge = λ u v w e l. s .onEdge u v w e (omega arith); realised = λ u l. s .realised u (omega arith) }

@@ -2,7 +2,7 @@
 --
 -- next-here, next-back    == the list of what has P, one number longer
 -- pushed-size, pushed-head, pushed-link, pushed-other == what stands where after a number is put in front of a list
--- list-rules, key-below, key-in-below == the letters and keys of a well-formed list
+-- key-below, key-in-below == the keys of letters below 256 are below 512
 -- chain-kept, chain-back, chain-aside, chain-push == the lists of states
 -- ways-start              == a cleared slice indexes no transition and no state
 -- transition-step, state-step == one transition more, one state more
@@ -11,23 +11,21 @@
 -- kind-ways               == the list of the states of a kind
 use Prim.Native.Nat.{ℕ, _+_, _*_, _-_, _≤_, _<_}
 use mathlib.Core.Path.{_≡_, refl, sym, ap, _∙_, subst}
-use mathlib.Core.Bool.{Bool, true, false, cond, not, _&&_, _||_, false≢true}
+use mathlib.Core.Bool.{Bool, true, false, cond, not, _&&_, false≢true}
 use mathlib.Core.List.{List}
 use native.Mathlib.Omega.{arith}
 use native.Mathlib.Decide.{ℕ-discrete}
 use lib.ListN.{length, set, length-set}
 use lib.Seq.{getD-set-same, getD-set-other}
-use lib.Dec.{leb, ltb, eqb}
-use borrow.Author.Tests.{leb-true, lt-ltb}
-use Rattle.graphs.specs.Search.{allBelow}
-use Rattle.graphs.specs.Search.Laws.{and-true, not-both, allBelow-true}
-use Rattle.fsbm.specs.Machine.{wellFormed, goodMark, markOf, named, precedes, goodTransition, transitionAt, buffering, matching, bothMatching, maxStates, maxLetters, maxTransitions}
+use lib.Dec.{eqb}
+use Rattle.graphs.specs.Search.Laws.{not-both}
+use Rattle.fsbm.specs.Machine.{transitionAt, buffering, matching, bothMatching}
 use Rattle.fsbm.specs.declared.machine.Machine.{Machine}
 use Rattle.fsbm.specs.declared.machine.Transition.{Transition}
 use Rattle.fsbm.specs.declared.config.Mode.{Mode}
 use Rattle.fsbm.specs.declared.config.Mode.the-variants.{Normal, Buffering, Emptying}
 use Rattle.language.specs.NoWord.{passable}
-use Rattle.fsbm.specs.Rules.{Rules}
+use Rattle.fsbm.specs.Rules.{Rules, one-kind}
 use Rattle.layers.specs.Costs.{at, Leads}
 use Rattle.layers.specs.Rows.{ofKind}
 use Rattle.layers.specs.Ways.{keyOf, keyIn, empties, opens, Next, HasKey, StateWays, WaysFrom, Ways, pushed, Cleared, stateLinked, kindHead}
@@ -64,57 +62,6 @@ module _ (ways : List ℕ) (head link v : ℕ) where
   pub pushed-other : (i : ℕ) → (i ≡ head → ⊥) → (i ≡ link → ⊥) → at (pushed ways head link v) i ≡ at ways i
   unfolding pushed
   pushed-other i a b = getD-set-other (set ways link (at ways head)) head i v 0 a ∙ getD-set-other ways link i (at ways head) 0 b
-
--- The rules of a table, as far as the list of transitions is concerned
-
-pub record ListRules (m : Machine) (list : List ℕ) : Type 0 where
-  pub list-fits : m .transitions * 3 ≤ length list
-  pub letter-fits : (k : ℕ) → k < m .transitions → transitionAt list k .letter < 256
-
-letter-says : (m : Machine) (t : Transition) (b : Bool) → m .letters ≤ 250 → (named (m .states) (m .letters) t && b) ≡ true → t .letter < 256
-letter-says m t b fit h =
-    let n = and-true (named (m .states) (m .letters) t) b h .0 in
-    let (from, rest) = and-true (ltb (t .from) (m .states)) (leb (t .letter) (m .letters) && ltb (t .to) (m .states)) n in
-    let (letter, to) = and-true (leb (t .letter) (m .letters)) (ltb (t .to) (m .states)) rest in
-    let l = leb-true (t .letter) (m .letters) letter in
-    omega arith
-
-pub list-rules : (m : Machine) (list : List ℕ) → wellFormed m list ≡ true → ListRules m list
-unfolding wellFormed
-list-rules m list h =
-    let good = goodTransition (m .states) (m .letters) list in
-    let all = allBelow maxStates (goodMark m) && allBelow (m .transitions) good in
-    let enough = leb (m .transitions * 3) (length list) in
-    let few = leb (m .transitions) maxTransitions in
-    let letters = leb (m .letters) maxLetters in
-    let (a, r₁) = and-true (leb 1 (m .states)) (leb (m .states) maxStates && (letters && (few && (enough && all)))) h in
-    let (b, r₂) = and-true (leb (m .states) maxStates) (letters && (few && (enough && all))) r₁ in
-    let (c, r₃) = and-true letters (few && (enough && all)) r₂ in
-    let (d, r₄) = and-true few (enough && all) r₃ in
-    let (e, r₅) = and-true enough all r₄ in
-    let (marks, moves) = and-true (allBelow maxStates (goodMark m)) (allBelow (m .transitions) good) r₅ in
-    record {
-      list-fits = leb-true (m .transitions * 3) (length list) e;
-      letter-fits = λ k lt. letter-says m (transitionAt list k) (eqb k 0 || precedes (transitionAt list (k - 1)) (transitionAt list k)) (leb-true (m .letters) maxLetters c)
-          (allBelow-true good (m .transitions) .0 moves k lt);
-    }
-
-no-both : (a b c : Bool) → (c && not (a && b)) ≡ true → a ≡ true → b ≡ true → ⊥
-no-both true true true h e f = false≢true h
-no-both true true false h e f = false≢true h
-no-both true false c h e f = false≢true f
-no-both false b c h e f = false≢true e
-
-cond-first : (b x y : Bool) → b ≡ true → cond b x y ≡ true → x ≡ true
-cond-first true x y e h = h
-cond-first false x y e h = absurd (false≢true e)
-
--- no state is both buffering and matching
-pub one-kind : (m : Machine) (list : List ℕ) → Rules m list → (q : ℕ) → q < m .states → buffering (m .marks) q ≡ true → matching (m .marks) q ≡ true → ⊥
-one-kind m list r q lt b h =
-    no-both (buffering (m .marks) q) (matching (m .marks) q) (leb (markOf (m .marks) q) 15)
-    (cond-first (ltb q (m .states)) (leb (markOf (m .marks) q) 15 && not (buffering (m .marks) q && matching (m .marks) q)) (eqb (markOf (m .marks) q) 0)
-    (lt-ltb q (m .states) lt) (r .marks-good q (omega (arith, r .states-fit)))) b h
 
 -- Keys
 
@@ -301,12 +248,12 @@ module _ (m : Machine) (list : List ℕ) (r : Rules m list) where
     state-buffering : buffering (m .marks) q ≡ true → WaysFrom m list k q (pushed ways 512 (514 + q) q)
     state-buffering is =
         in-front 512 (omega arith) (omega arith) (chain-push 512 q ways (omega arith) (omega (arith, h .size, r .states-fit)) is (h .bufferings))
-        (chain-aside 513 q 512 ways (omega arith) (omega arith) (λ z. absurd (omega arith)) (λ z. one-kind m list r q lt is z) (h .matchings))
+        (chain-aside 513 q 512 ways (omega arith) (omega arith) (λ z. absurd (omega arith)) (λ z. one-kind m list r q is z) (h .matchings))
 
     state-matching : matching (m .marks) q ≡ true → WaysFrom m list k q (pushed ways 513 (514 + q) q)
     state-matching is =
         in-front 513 (omega arith) (omega arith)
-        (chain-aside 512 q 513 ways (omega arith) (omega arith) (λ z. absurd (omega arith)) (λ z. one-kind m list r q lt z is) (h .bufferings))
+        (chain-aside 512 q 513 ways (omega arith) (omega arith) (λ z. absurd (omega arith)) (λ z. one-kind m list r q z is) (h .bufferings))
         (chain-push 513 q ways (omega arith) (omega (arith, h .size, r .states-fit)) is (h .matchings))
 
     state-neither : (buffering (m .marks) q ≡ true → ⊥) → (matching (m .marks) q ≡ true → ⊥) → WaysFrom m list k q ways

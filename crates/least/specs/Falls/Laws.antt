@@ -25,8 +25,8 @@ use Rattle.stateset.specs.Set.{width, digit, In, has, added, SetIs}
 use Rattle.stateset.specs.Set.Laws.{has-in}
 use Rattle.fsbm.specs.Machine.{transitionAt, buffering, matching}
 use Rattle.fsbm.specs.Published.{Listed, fsbmOf}
+use Rattle.fsbm.specs.Rules.{rules}
 use Rattle.fsbm.specs.declared.machine.Machine.{Machine}
-use Rattle.adjacency.specs.Index.Laws.{sorted}
 use Rattle.pieces.specs.Pairs.{unit, weigh, NormalMove, moves}
 use Rattle.pieces.specs.Blocks.{nothing, cell, costOf}
 use Rattle.pieces.specs.Blocks.Laws.{cost-inside, cost-past}
@@ -237,7 +237,7 @@ module _ {m : Machine} {list index : List ℕ} {h : ℕ} (r : Ready m list index
   normal-past got k le = falls-none d got k (λ p v c. on (c .move))
     where
       on : {p w : ℕ} → NormalMove (fsbmOf m list) q p w → ⊥
-      on (moves i j l) = let z = sorted m list (r .good) .from-below (i .number) (i .listed) in omega (arith, i .from)
+      on (moves i j l) = let z = rules m list (r .good) .from-below (i .number) (i .listed) in omega (arith, i .from)
 
   pub normal-steps : {lo hi may n : ℕ} {d′ : List ℕ} {got got′ : ℕ} → q < m .states → has g q ≡ false → n ≡ costOf d q → n < nothing → Enterable h q may
       → lo ≡ getD index (q * (m .letters + 1)) 0 → hi ≡ getD index (q * (m .letters + 1) + (m .letters + 1)) 0
@@ -249,7 +249,7 @@ module _ {m : Machine} {list index : List ℕ} {h : ℕ} (r : Ready m list index
 
       there : (p v : ℕ) → Steps list lo hi may n p v → NormalFrom m list d q p v
       there p v c =
-          let k = row-stretch m list (sorted m list (r .good)) index (r .starts) q (c .number) here .0 (let z = same in omega (arith, c .from-on), omega (arith, c .below)) in
+          let k = row-stretch m list (rules m list (r .good)) index (r .starts) q (c .number) here .0 (let z = same in omega (arith, c .from-on), omega (arith, c .below)) in
           record {
             known = omega arith;
             weight = weigh (transitionAt list (c .number) .letter);
@@ -264,9 +264,9 @@ module _ {m : Machine} {list index : List ℕ} {h : ℕ} (r : Ready m list index
         where
           on : {w : ℕ} → NormalMove (fsbmOf m list) q p w → v ≡ w + costOf d q → Steps list lo hi may n p v
           on (moves {a = a} i j l) e =
-              let k = row-stretch m list (sorted m list (r .good)) index (r .starts) q (i .number) here .1 (i .listed, i .from) in
+              let k = row-stretch m list (rules m list (r .good)) index (r .starts) q (i .number) here .1 (i .listed, i .from) in
               let z = same in
-              let s = sorted m list (r .good) in
+              let s = rules m list (r .good) in
               let t = s .to-below (i .number) (i .listed) in
               let u = s .states-fit in
               let w : weigh (transitionAt list (i .number) .letter) ≡ weigh a = ap weigh (i .letter) in

@@ -30,7 +30,7 @@ use Rattle.stateset.specs.Set.{width, digit, In, has, added, SetIs}
 use Rattle.stateset.specs.Set.Laws.{in?, has-in, in-lt, empty-in, ones-mono, ones-zero, ones-of-zero}
 use Rattle.fsbm.specs.Machine.{wellFormed, transitionAt, markOf, final, buffering, matching}
 use Rattle.fsbm.specs.Published.{Listed, fsbmOf}
-use Rattle.fsbm.specs.Rules.{rules}
+use Rattle.fsbm.specs.Rules.{rules, one-kind}
 use Rattle.fsbm.specs.declared.machine.Machine.{Machine}
 use Rattle.images.specs.Graph.{KindsOf}
 use Rattle.images.specs.declared.Kinds.{Kinds}
@@ -39,7 +39,6 @@ use Rattle.pieces.specs.Blocks.{nothing, cell, costOf, Node, outside, inside, B
 use Rattle.pieces.specs.Blocks.Laws.{cost-inside, cost-past, block-copies}
 use Rattle.pieces.specs.Rounds.{Rounds}
 use Rattle.pieces.specs.Rounds.Laws.{NormalDone, CopiesDone, rounds-start, rounds-turn, rounds-looked, rounds-copied, rounds-end, stores-enters, copy-origin}
-use Rattle.pieces.specs.Tight.{kinds-apart}
 use Rattle.blocks.specs.Numbers.{total}
 use Rattle.blocks.specs.Numbers.Laws.{added-more, Left, Rest, Taken, left-start, left-more, left-end}
 use Rattle.blocks.specs.Works.{Kind}
@@ -138,7 +137,7 @@ module _ (m : Machine) (list : List ℕ) (good : wellFormed m list ≡ true) (h 
     where
       on : (costOf d g ≡ costOf d₀ g) ⊎ Made m list set d₀ g (costOf d g) → costOf d g ≡ costOf d₀ g
       on (inl e) = e
-      on (inr c) = absurd (kinds-apart m list (rules m list good) g buffers (c .ends))
+      on (inr c) = absurd (one-kind m list (rules m list good) g buffers (c .ends))
 
   pub copies-more : {ends rest rest′ guess : ℕ} {d d′ : List ℕ} {got got′ : ℕ} {b : List ℕ} → Entered m list ends → ((q : ℕ) → In set q → buffering (m .marks) q ≡ true) → Rest ends rest → Taken rest guess rest′
       → Falls (Made m list set d₀) (Bound m list limit set d₀ (Left ends rest)) d₀ 0 d got → Guessed m list limit h guess set d got d′ got′ b
@@ -251,7 +250,7 @@ module _ (m : Machine) (list : List ℕ) (good : wellFormed m list ≡ true) (h 
         where
           done : CopiesDone (fsbmOf m list) limit (costOf d) g
           done guess z n buffers turns ends route l =
-              let (p, a, δ, from) = stores-enters (kinds-apart m list (rules m list good)) buffers turns route in
+              let (p, a, δ, from) = stores-enters (one-kind m list (rules m list good)) buffers turns route in
               let j = same g quiet (f .changed g) in
               let i = f .settled z (3 + n + costOf d₀ g)
               (record {

@@ -1,4 +1,4 @@
-use Rattle.adjacency.specs.Index.Laws.{sorted}
+use Rattle.fsbm.specs.Rules.{rules}
 use Rattle.lines.proofs.LineCases.{short-line, line-lettered, answer-refused, answer-decided}
 use Prim.Native.Nat.{_/_}
 use mathlib.Core.Path.{sym, _∙_, ap}
@@ -21,7 +21,7 @@ slice-aggregate-read-word c = search needs
 
 -- src/lib.rt:101:9
 read-word-requires : tie.Need-read-word-requires
-read-word-requires c κs = (sorted ((c .before .before .before .before) .args .m) (((c .before .before .before .before) .args .list) .now) ((c .before .before .before .before) .pre .good) .letters-fit, omega arith)
+read-word-requires c κs = (rules ((c .before .before .before .before) .args .m) (((c .before .before .before .before) .args .list) .now) ((c .before .before .before .before) .pre .good) .letters-fit, omega arith)
 
 -- src/lib.rt:103:9
 returns : tie.Need-returns

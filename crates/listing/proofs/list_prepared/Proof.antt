@@ -1,4 +1,4 @@
-use Rattle.adjacency.specs.Index.Laws.{sorted}
+use Rattle.fsbm.specs.Rules.{rules}
 use native.Mathlib.Omega.{arith}
 use Rattle.targets.specs.Prepared.Laws.{product-small}
 use borrow.Author.Needs.{needs}
@@ -21,11 +21,11 @@ slice-aggregate-prepare c = search needs
 
 -- src/main.rt:207:5
 prepare-requires : tie.Need-prepare-requires
-prepare-requires c κs = (((c .before .before .before .before .before) .pre) .0, omega (arith, ((c .before) .target-buffer .ensures) .0, sorted ((c .before .before .before .before .before) .args .t2) (((c .before .before .before .before .before) .args .list) .now) (((c .before .before .before .before .before) .pre) .0) .states-fit, product-small ((c .before .before .before .before .before) .args .t2 .states) ((c .before .before .before .before .before) .args .t2 .letters) (sorted ((c .before .before .before .before .before) .args .t2) (((c .before .before .before .before .before) .args .list) .now) (((c .before .before .before .before .before) .pre) .0) .states-fit) (sorted ((c .before .before .before .before .before) .args .t2) (((c .before .before .before .before .before) .args .list) .now) (((c .before .before .before .before .before) .pre) .0) .letters-fit)), ((c .before) .target-buffer .ensures) .1)
+prepare-requires c κs = (((c .before .before .before .before .before) .pre) .0, omega (arith, ((c .before) .target-buffer .ensures) .0, rules ((c .before .before .before .before .before) .args .t2) (((c .before .before .before .before .before) .args .list) .now) (((c .before .before .before .before .before) .pre) .0) .states-fit, product-small ((c .before .before .before .before .before) .args .t2 .states) ((c .before .before .before .before .before) .args .t2 .letters) (rules ((c .before .before .before .before .before) .args .t2) (((c .before .before .before .before .before) .args .list) .now) (((c .before .before .before .before .before) .pre) .0) .states-fit) (rules ((c .before .before .before .before .before) .args .t2) (((c .before .before .before .before .before) .args .list) .now) (((c .before .before .before .before .before) .pre) .0) .letters-fit)), ((c .before) .target-buffer .ensures) .1)
 
 -- src/main.rt:208:9
 kinds-of-requires : tie.Need-kinds-of-requires
-kinds-of-requires c κs = sorted ((c .before .before .before .before .before .before .before .before .before) .args .t2) (((c .before .before .before .before .before .before .before .before .before) .args .list) .now) (((c .before .before .before .before .before .before .before .before .before) .pre) .0) .states-fit
+kinds-of-requires c κs = rules ((c .before .before .before .before .before .before .before .before .before) .args .t2) (((c .before .before .before .before .before .before .before .before .before) .args .list) .now) (((c .before .before .before .before .before .before .before .before .before) .pre) .0) .states-fit
 
 -- src/main.rt:209:32
 slice-aggregate-list-words : tie.Need-slice-aggregate-list-words

@@ -4,6 +4,7 @@
 -- leads-path           == pieces of k moves are a published path of k moves
 -- path-leads           == and a published path of k moves, in normal mode at both ends, is pieces of k moves
 -- leads-append         == pieces, then pieces
+-- stores-append, matches-append == a half of a copy, then more of it
 use Prim.Native.Nat.{ℕ, zero, suc, _+_}
 use mathlib.Core.Path.{_≡_, refl, sym, ap, _∙_, subst, subst₂}
 use mathlib.Core.List.{List, [], _++_, append-assoc, append-nil}
@@ -135,3 +136,15 @@ module _ {M : FSBM} where
       subst₂ (λ (y : List ℕ) (n : ℕ). Leads M p y f n) string
       (let e : suc (i + suc (j + suc (n + k))) ≡ suc (i + suc (j + suc n)) + k = omega arith in e)
       (copy g s h m z (leads-append r l))
+
+  pub stores-append : {s t h i k : ℕ} {x y : List ℕ} → Stores M s x t i → Stores M t y h k → Stores M s (x ++ y) h (i + k)
+  stores-append {h = h} {k = k} {y = y} (stored {s = s}) r = subst (λ (n : ℕ). Stores M s y h n) (let e : k ≡ 0 + k = omega arith in e) r
+  stores-append {h = h} {k = k} {y = y} (store {s = s} {a = a} {k = i} {x = x} δ none n q) r =
+      let e : suc (i + k) ≡ suc i + k = omega arith in
+      subst (λ (n : ℕ). Stores M s ((symbol a ++ x) ++ y) h n) e (subst (λ (z : List ℕ). Stores M s z h (suc (i + k))) (sym (append-assoc (symbol a) x y)) (store δ none n (stores-append q r)))
+
+  pub matches-append : {s t z i k : ℕ} {x y : List ℕ} → Matches M s x t i → Matches M t y z k → Matches M s (x ++ y) z (i + k)
+  matches-append {z = z} {k = k} {y = y} (matched {t = t}) r = subst (λ (n : ℕ). Matches M t y z n) (let e : k ≡ 0 + k = omega arith in e) r
+  matches-append {z = z} {k = k} {y = y} (match {s = s} {a = a} {k = i} {x = x} δ p q o) r =
+      let e : suc (i + k) ≡ suc i + k = omega arith in
+      subst (λ (n : ℕ). Matches M s ((symbol a ++ x) ++ y) z n) e (subst (λ (u : List ℕ). Matches M s u z (suc (i + k))) (sym (append-assoc (symbol a) x y)) (match δ p q (matches-append o r)))

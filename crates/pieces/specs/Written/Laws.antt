@@ -3,11 +3,12 @@
 -- takes-listed, listed-takes == a transition that an entry names is listed, and a listed one is named by an entry
 -- stores-counted, matches-counted, leads-counted == entries are moves: as many as there are entries
 -- counted-stores, counted-matches, counted-leads == and moves have entries
+-- by-append            == written pieces, then written pieces
 -- leads-run            == written pieces are a published run with these entries
 -- written-run          == from an initial to a final state they are a written run of what they read
 -- written-accepts      == and so, behind their start state, an accepting run of it
 use Prim.Native.Nat.{ℕ, suc, _+_, _<_}
-use mathlib.Core.Path.{_≡_, refl, sym, ap, subst}
+use mathlib.Core.Path.{_≡_, refl, sym, ap, subst, subst₂}
 use mathlib.Core.Bool.{true}
 use mathlib.Core.List.{List, [], _∷_, _++_, append-assoc, append-nil}
 use native.Mathlib.Omega.{arith}
@@ -71,6 +72,18 @@ module _ {m : Machine} {list : List ℕ} where
       let outer = length-append es (beginEmptying ∷ (ds ++ (backToNormal ∷ rest))) in
       let inner = length-append ds (backToNormal ∷ rest) in
       (beginBuffering ∷ (es ++ (beginEmptying ∷ (ds ++ (backToNormal ∷ rest)))), omega arith, copy g b h b′ z b″)
+
+  -- Entries put behind one another
+
+  pub by-append : {p q f : ℕ} {u es w ds : List ℕ} → LeadsBy m list p u es q → LeadsBy m list q w ds f → LeadsBy m list p (u ++ w) (es ++ ds) f
+  by-append ended r = r
+  by-append {f = f} {w = w} {ds = ds} (read {e = e} {p = p} {a = a} {w = u} {es = es} t none n l) r =
+      subst (λ (x : List ℕ). LeadsBy m list p x (e ∷ (es ++ ds)) f) (sym (append-assoc (symbol a) u w)) (read t none n (by-append l r))
+  by-append {f = f} {w = w} {ds = ds} (copy {g = g} {x = x} {w = u} {es = es} {ds = fs} {rest = rest} b s h d z l) r =
+      subst₂ (λ (y : List ℕ) (o : List ℕ). LeadsBy m list g y o f)
+      (let e : x ++ (x ++ (u ++ w)) ≡ (x ++ (x ++ u)) ++ w = simp append-assoc in e)
+      (let e : beginBuffering ∷ (es ++ (beginEmptying ∷ (fs ++ (backToNormal ∷ (rest ++ ds))))) ≡ (beginBuffering ∷ (es ++ (beginEmptying ∷ (fs ++ (backToNormal ∷ rest))))) ++ ds = simp append-assoc in e)
+      (copy b s h d z (by-append l r))
 
 -- Written pieces as a run
 

@@ -17,9 +17,9 @@ use Rattle.graphs.specs.Search.Laws.{and-true, and-both-true, not-both}
 use Rattle.graphs.specs.Counting.{Distinct, empty, new, counting}
 use Rattle.fsbm.specs.Machine.{transitionAt, buffering, matching}
 use Rattle.fsbm.specs.Published.{fsbmOf, symbol}
+use Rattle.fsbm.specs.Rules.{Rules, rules}
 use Rattle.fsbm.specs.declared.machine.Machine.{Machine}
 use Rattle.stateset.specs.Set.{In}
-use Rattle.product.specs.Tables.{TableRules, table}
 use Rattle.pieces.specs.Pairs.{Pair, both, PairMove}
 use Rattle.pieces.specs.Pairs.Laws.{pairWeight}
 use Rattle.pieces.specs.Blocks.{nothing, costOf, cell, blockOf}
@@ -34,8 +34,8 @@ use Rattle.shortest.specs.Copy.{begunTest, place, MatchedReady, Same, Wr
 use Rattle.shortest.specs.declared.copy.Walk.{Walk}
 
 module _ (m : Machine) (list links d b : List ℕ) (h z : ℕ) (word₀ : List ℕ) (i₀ : ℕ) (run₀ : List ℕ) (r₀ : ℕ) (later₀ : List ℕ) (g : Going m list links d b h z word₀ i₀ run₀ r₀ later₀) where
-  rules : TableRules m list
-  rules = table m list (g .good)
+  obeys : Rules m list
+  obeys = rules m list (g .good)
 
   abbrev from : ℕ → ℕ
   from k = transitionAt list k .from
@@ -221,7 +221,7 @@ module _ (m : Machine) (list links d b : List ℕ) (h z : ℕ) (word₀ : List �
 
       module _ (k j : ℕ) (back : Backs m list b s t k j) where
         few : (q : ℕ) → q < m .transitions → q < 65536
-        few q l = let e = rules .transitions-fit in omega arith
+        few q l = let e = obeys .transitions-fit in omega arith
 
         -- what the matching half writes has room
         put-ready : (s′ : ℕ) (storing′ : List ℕ) → j < m .transitions → After s′ (from j) (symbol (by j) ++ W .read) storing′ (j ∷ W .matching) → PutReady list j word (w .letter) run (w .entry)
@@ -232,7 +232,7 @@ module _ (m : Machine) (list links d b : List ℕ) (h z : ℕ) (word₀ : List �
             let rp = W .run-place in
             record {
               small = few j below;
-              letter-small = let l = rules .letter-below j below in let f = rules .letters-fit in omega arith;
+              letter-small = let l = obeys .letter-below j below in let f = obeys .letters-fit in omega arith;
               run-room = omega arith;
               run-fits = let f = g .run-fits in let e = W .run-size in omega arith;
               word-room = λ some. let o = ap length (some-symbol (by j) some) in omega arith;

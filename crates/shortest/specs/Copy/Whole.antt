@@ -1,6 +1,5 @@
 -- The laws of a whole copy: what walk_back leaves, with the changes of mode, the letters once more and the entries that were kept.
 --
--- stores-append, matches-append == two halves put together
 -- copy-room, copy-going     == a copy fits; walk_back may begin
 -- Finished, copy-finished   == where everything goes after walk_back
 -- copy-done                 == what copy ensures
@@ -10,11 +9,12 @@ use mathlib.Core.List.{List, [], _∷_, _++_, append-assoc, append-nil}
 use native.Mathlib.Omega.{arith}
 use lib.ListN.{length, set, take, drop, length-set, length-append}
 use lib.Seq.{take-at}
+use Rattle.graphs.specs.Lists.{drop-set}
 use Rattle.fsbm.specs.Machine.{matching}
 use Rattle.fsbm.specs.Moves.{beginBuffering, beginEmptying, backToNormal}
-use Rattle.fsbm.specs.Published.{FSBM, symbol}
 use Rattle.fsbm.specs.declared.machine.Machine.{Machine}
-use Rattle.pieces.specs.Pieces.{Stores, stored, store, Matches, matched, match, ended, copy}
+use Rattle.pieces.specs.Pieces.{stored, matched, ended, copy}
+use Rattle.pieces.specs.Pieces.Laws.{stores-append, matches-append}
 use Rattle.pieces.specs.Pairs.{both}
 use Rattle.pieces.specs.Pairs.Laws.{apart}
 use Rattle.pieces.specs.Blocks.{cell, blockOf}
@@ -23,24 +23,11 @@ use Rattle.pieces.specs.Written.{MatchesBy}
 use Rattle.pieces.specs.Written as by
 use Rattle.pieces.specs.Written.Laws.{stores-counted, matches-counted}
 use Rattle.shortest.specs.Put.{Again, Unloaded}
-use Rattle.shortest.specs.Put.Laws.{drop-set, later-size}
+use Rattle.shortest.specs.Put.Laws.{later-size}
 use Rattle.shortest.specs.Copy.{Room, Walking, Going, Gone, CopyReady, Stepped}
 use Rattle.shortest.specs.Copy.Laws.{kept-below}
 use Rattle.shortest.specs.declared.copy.Place.{Place}
 use Rattle.shortest.specs.declared.copy.Walk.{Walk}
-
-module _ {M : FSBM} where
-  stores-append : {s t h i k : ℕ} {x y : List ℕ} → Stores M s x t i → Stores M t y h k → Stores M s (x ++ y) h (i + k)
-  stores-append {h = h} {k = k} {y = y} (stored {s = s}) r = subst (λ (n : ℕ). Stores M s y h n) (let e : k ≡ 0 + k = omega arith in e) r
-  stores-append {h = h} {k = k} {y = y} (store {s = s} {a = a} {k = i} {x = x} δ none n q) r =
-      let e : suc (i + k) ≡ suc i + k = omega arith in
-      subst (λ (n : ℕ). Stores M s ((symbol a ++ x) ++ y) h n) e (subst (λ (z : List ℕ). Stores M s z h (suc (i + k))) (sym (append-assoc (symbol a) x y)) (store δ none n (stores-append q r)))
-
-  matches-append : {s t z i k : ℕ} {x y : List ℕ} → Matches M s x t i → Matches M t y z k → Matches M s (x ++ y) z (i + k)
-  matches-append {z = z} {k = k} {y = y} (matched {t = t}) r = subst (λ (n : ℕ). Matches M t y z n) (let e : k ≡ 0 + k = omega arith in e) r
-  matches-append {z = z} {k = k} {y = y} (match {s = s} {a = a} {k = i} {x = x} δ p q o) r =
-      let e : suc (i + k) ≡ suc i + k = omega arith in
-      subst (λ (n : ℕ). Matches M s ((symbol a ++ x) ++ y) z n) e (subst (λ (u : List ℕ). Matches M s u z (suc (i + k))) (sym (append-assoc (symbol a) x y)) (match δ p q (matches-append o r)))
 
 module _ (m : Machine) (list links d b : List ℕ) (h z : ℕ) (word : List ℕ) (i : ℕ) (run : List ℕ) (r : ℕ) (later : List ℕ) (c : CopyReady m list links d b h z word i run r later) where
   copy-room : Room m list b h z i (r - 1)

@@ -10,13 +10,13 @@ use native.Mathlib.Decide.{ℕ-discrete}
 use lib.ListN.{length, getD, set, length-set, replicate, length-replicate, getD-replicate}
 use lib.Seq.{getD-set-same, getD-set-other}
 use Rattle.fsbm.specs.Machine.{transitionAt}
+use Rattle.fsbm.specs.Rules.{Rules}
 use Rattle.fsbm.specs.declared.machine.Machine.{Machine}
 use Rattle.layers.specs.Ways.{Next}
 use Rattle.layers.specs.Ways.Laws.{next-here, next-back, next-none}
-use Rattle.product.specs.Tables.{TableRules}
 use Rattle.shortest.specs.Into.{Enters, IntoFrom}
 
-module _ (m : Machine) (list : List ℕ) (t : TableRules m list) where
+module _ (m : Machine) (list : List ℕ) (t : Rules m list) where
   pub into-start : IntoFrom (m .transitions) list (m .transitions) (replicate {A = ℕ} 4064 65535)
   into-start =
       record {

@@ -1,6 +1,5 @@
 -- The laws of specs/Put.antt.
 --
--- drop-set               == the list from a place on, once something is stored at it
 -- some-symbol            == a letter, as a string
 -- put-epsilon, put-letter == the two ways through put
 -- later-set, later-more, later-size == the numbers of later, with one more stored behind them; how many they are
@@ -13,17 +12,11 @@ use native.Mathlib.Omega.{arith}
 use native.Mathlib.Numerals.{add-one}
 use lib.ListN.{length, getD, set, take, drop, length-set, length-drop, drop-of-length-le}
 use lib.Seq.{drop-cons, drop-set-lt, getD-set-same, getD-set-other, getD-drop, getD-take, length-take-le}
+use Rattle.graphs.specs.Lists.{drop-set}
 use Rattle.fsbm.specs.Machine.{transitionAt}
 use Rattle.fsbm.specs.Published.{symbol}
 use Rattle.fsbm.specs.declared.machine.Transition.{Transition}
 use Rattle.shortest.specs.Put.{PutReady, Put, Again, laterList, Unloaded}
-
--- a store in front of what is known
-pub drop-set : (l : List ℕ) (i i′ a : ℕ) → suc i′ ≡ i → i ≤ length l → drop i′ (set l i′ a) ≡ a ∷ drop i l
-drop-set l i i′ a is h =
-    drop-cons (set l i′ a) i′ 0 (let s = length-set l i′ a in omega arith)
-    ∙ (ap (λ (z : ℕ). z ∷ drop (suc i′) (set l i′ a)) (getD-set-same l i′ a 0 (omega arith))
-    ∙ (ap (λ (z : List ℕ). a ∷ z) (drop-set-lt (suc i′) l i′ a (omega arith)) ∙ ap (λ (z : ℕ). a ∷ drop z l) is))
 
 pub some-symbol : (a : ℕ) → (a ≡ 0 → ⊥) → symbol a ≡ a ∷ []
 some-symbol zero some = absurd (some refl)

@@ -1,44 +1,40 @@
 -- The laws of specs/Write.antt.
 --
 -- number-below            == a state with a number is one of those that can have one
--- by-append               == entries put behind one another
 -- read-ready, read-steps  == a normal move along which the number of q is reached
 -- copy-there              == where no normal move is one, a copy is
 -- tried-not, tried-block  == the ways through try_guess
 -- guess-start, guess-next, guess-found, guess-end == the loop of guess
--- settled-under           == numbers that are settled are settled below a smaller top
 -- copy-ready, step-ready  == copy may begin, step may
 -- write-start, write-fits, write-turn, write-end == the loop of write
 use Prim.Native.Nat.{ℕ, suc, _+_, _*_, _-_, _≤_, _<_, _/_, _%_}
 use mathlib.Core.Path.{_≡_, refl, sym, ap, _∙_, subst, subst₂}
 use mathlib.Core.Logic.{_⊎_, inl, inr}
 use mathlib.Core.Bool.{Bool, true, false, false≢true}
-use mathlib.Core.List.{List, [], _∷_, _++_, append-assoc, append-nil}
+use mathlib.Core.List.{List, [], _∷_, _++_, append-nil}
 use native.Mathlib.Omega.{arith}
 use native.Mathlib.Decide.{decLt, ℕ-discrete}
 use lib.ListN.{length, set, drop, length-append, length-drop}
 use lib.Seq.{drop-length, drop-set-lt, getD-set-same}
 use lib.Dec.{eqb}
 use borrow.Author.Tests.{eqb-true, eq-eqb}
-use Rattle.graphs.specs.Cost.{Settled}
+use Rattle.graphs.specs.Cost.Laws.{settled-under}
 use Rattle.graphs.specs.Search.Laws.{not-both}
 use Rattle.stateset.specs.Set.{In}
 use Rattle.fsbm.specs.Machine.{transitionAt, matching}
-use Rattle.fsbm.specs.Moves.{beginBuffering, beginEmptying, backToNormal}
 use Rattle.fsbm.specs.Published.{fsbmOf, symbol}
-use Rattle.fsbm.specs.Rules.{rules, matching-below}
+use Rattle.fsbm.specs.Rules.{Rules, rules, matching-below, one-kind}
 use Rattle.fsbm.specs.declared.machine.Machine.{Machine}
-use Rattle.product.specs.Tables.{TableRules}
 use Rattle.pieces.specs.Pieces.{Leads}
 use Rattle.pieces.specs.Pieces.Laws.{leads-append}
 use Rattle.pieces.specs.Pairs.{unit}
 use Rattle.pieces.specs.Pairs.Laws.{weigh-symbol}
 use Rattle.pieces.specs.Blocks.{nothing, costOf, cell, blockOf}
 use Rattle.pieces.specs.Blocks.Laws.{cost-past}
-use Rattle.pieces.specs.Tight.{TightMove, TightCopy, settled-back, settled-start, settled-leads, block-tight, kinds-apart}
+use Rattle.pieces.specs.Tight.{TightMove, TightCopy, settled-back, settled-start, settled-leads, block-tight}
 use Rattle.pieces.specs.Rounds.Laws.{stores-enters}
-use Rattle.pieces.specs.Written.{Takes, LeadsBy, ended, read, copy}
-use Rattle.pieces.specs.Written.Laws.{leads-counted}
+use Rattle.pieces.specs.Written.{Takes, LeadsBy, ended, read}
+use Rattle.pieces.specs.Written.Laws.{leads-counted, by-append}
 use Rattle.blocks.specs.Settling.{Past, Block}
 use Rattle.shortest.specs.Find.{Finds, NormalFits}
 use Rattle.shortest.specs.Find.Tests.{normal-says, normal-true}
@@ -55,21 +51,9 @@ number-below d q small l = at (decLt q 64)
     at (yes k) = k
     at (no k) = let e = cost-past d q (omega arith) in absurd (omega arith)
 
--- entries put behind one another
-module _ {m : Machine} {list : List ℕ} where
-  pub by-append : {p q f : ℕ} {u es w ds : List ℕ} → LeadsBy m list p u es q → LeadsBy m list q w ds f → LeadsBy m list p (u ++ w) (es ++ ds) f
-  by-append ended r = r
-  by-append {f = f} {w = w} {ds = ds} (read {e = e} {p = p} {a = a} {w = u} {es = es} t none n l) r =
-      subst (λ (x : List ℕ). LeadsBy m list p x (e ∷ (es ++ ds)) f) (sym (append-assoc (symbol a) u w)) (read t none n (by-append l r))
-  by-append {f = f} {w = w} {ds = ds} (copy {g = g} {x = x} {w = u} {es = es} {ds = fs} {rest = rest} b s h d z l) r =
-      subst₂ (λ (y : List ℕ) (o : List ℕ). LeadsBy m list g y o f)
-      (let e : x ++ (x ++ (u ++ w)) ≡ (x ++ (x ++ u)) ++ w = simp append-assoc in e)
-      (let e : beginBuffering ∷ (es ++ (beginEmptying ∷ (fs ++ (backToNormal ∷ (rest ++ ds))))) ≡ (beginBuffering ∷ (es ++ (beginEmptying ∷ (fs ++ (backToNormal ∷ rest))))) ++ ds = simp append-assoc in e)
-      (copy b s h d z (by-append l r))
-
 -- A normal move
 
-module _ (m : Machine) (list d : List ℕ) (q : ℕ) (word : List ℕ) (i : ℕ) (run : List ℕ) (r : ℕ) (t : TableRules m list) (fits : Fits m list d q i r) (word-fits : i ≤ length word) (run-fits : r ≤ length run)
+module _ (m : Machine) (list d : List ℕ) (q : ℕ) (word : List ℕ) (i : ℕ) (run : List ℕ) (r : ℕ) (t : Rules m list) (fits : Fits m list d q i r) (word-fits : i ≤ length word) (run-fits : r ≤ length run)
     (k : ℕ) (below : k < m .transitions) (f : NormalFits m list d q k) where
   abbrev from : ℕ
   from = transitionAt list k .from
@@ -123,10 +107,6 @@ module _ (m : Machine) (list d : List ℕ) (q : ℕ) (word : List ℕ) (i : ℕ)
         run-place = let e = x .entry in let h = read-ready .run-room in omega arith;
       }
 
--- numbers that are settled are settled below a smaller top
-pub settled-under : {Node : Type 0} {Edge : Node → Node → ℕ → Type 0} {Goal : Node → Type 0} {limit top : ℕ} {D : Node → ℕ} → limit ≤ top → Settled Edge Goal top D → Settled Edge Goal limit D
-settled-under le s = record { atGoal = s .atGoal; onEdge = λ u v w e l. s .onEdge u v w e (omega arith); realised = λ u l. s .realised u (omega arith) }
-
 -- A copy, where no normal move is found
 
 pub copy-there : {top : ℕ} (m : Machine) (list d : List ℕ) (q k : ℕ) → Least top m list d → 0 < costOf d q → costOf d q < top → Finds (m .transitions) (NormalFits m list d q) k → m .transitions ≤ k
@@ -155,7 +135,7 @@ module _ (m : Machine) (list index : List ℕ) (starts ends middles : ℕ) (d : 
         block = λ e. absurd (false≢true e);
         tight = λ e. absurd (false≢true e);
         bad = λ e t is.
-            let (p, a, δ, other) = stores-enters (kinds-apart m list (rules m list (s .ready .good))) (t .buffers) (t .turns) (t .route) in
+            let (p, a, δ, other) = stores-enters (one-kind m list (rules m list (s .ready .good))) (t .buffers) (t .turns) (t .route) in
             out (subst (λ (o : ℕ). In middles o) is (s .turnings .all p a (t .middle) δ (t .turns) other));
       }
 

@@ -1,6 +1,5 @@
 -- The laws of specs/Split.antt: the loop that takes a run apart begins, goes on and ends. Assumes nothing.
 --
--- drop-set            == the list from a place on, once something is stored at it
 -- letters-cons, letters-drop == the letters of a run from a place on
 -- counts, counts-not  == an entry counts if it moves by a letter
 -- still-change, still-epsilon, is-letter == which entries move by a letter
@@ -19,6 +18,7 @@ use lib.Dec.{ltb, eqb}
 use borrow.Author.Tests.{lt-ltb, le-ltb, eq-eqb, ne-eqb, ltb-true}
 use Rattle.graphs.specs.Search.Laws.{and-true, and-both-true, not-both}
 use Rattle.graphs.specs.Bools.{not-says}
+use Rattle.graphs.specs.Lists.{drop-set}
 use Rattle.fsbm.specs.Machine.{transitionAt}
 use Rattle.fsbm.specs.Moves.{beginBuffering}
 use Rattle.fsbm.specs.Published.{Listed}
@@ -29,11 +29,6 @@ use Rattle.product.specs.Common.{listed-split}
 use Rattle.product.specs.Product.{joinedTransitions, joinedCount, joinFault}
 use Rattle.product.specs.Tables.{Joinable, joinable}
 use Rattle.split.specs.Split.{FirstReady, FirstPart, SecondReady, SecondPart, Joined, Split, Splitting}
-
-pub drop-set : (l : List ℕ) (i a : ℕ) → i < length l → drop i (set l i a) ≡ a ∷ drop (suc i) l
-drop-set l i a h =
-    drop-cons (set l i a) i 0 (let s = length-set l i a in omega arith)
-    ∙ (ap (λ (z : ℕ). z ∷ drop (suc i) (set l i a)) (getD-set-same l i a 0 h) ∙ ap (λ (z : List ℕ). a ∷ z) (drop-set-lt (suc i) l i a (omega arith)))
 
 pub counts : {b : Bool} → b ≡ true → _≡_ {A = ℕ} (cond b 1 0) 1
 counts {b} h = rw h
@@ -187,7 +182,7 @@ module _ (m₁ : Machine) (l₁ : List ℕ) (m₂ : Machine) (l₂ : List ℕ) w
             subst (λ (u : List ℕ). Splits m₁ l₁ m₂ l₂ list u (drop k′ (set run k′ d)) b)
             (ap (λ (e : ℕ). e ∷ drop k run₀) same ∙ (ap (λ (i : ℕ). getD run₀ k′ 0 ∷ drop i run₀) (sym is) ∙ sym (drop-cons run₀ k′ 0 inside)))
             (subst (λ (u : List ℕ). Splits m₁ l₁ m₂ l₂ list (getD run k′ 0 ∷ drop k run₀) u b)
-            (ap (λ (i : ℕ). d ∷ drop i run) (sym is) ∙ sym (drop-set run k′ d (let z = s .run-size in let i = inside in omega arith)))
+            (sym (drop-set run k k′ d is (let z = s .run-size in let i = inside in omega arith)))
             x)
 
         turned : (length other′ ≡ length other₀) → p′ + lettersIn list (drop k′ run₀) ≡ length other₀ → Front (drop p′ other′) → Splitting m₁ l₁ m₂ l₂ list run₀ other₀ (set run k′ d) other′ k′ p′
@@ -230,8 +225,7 @@ module _ (m₁ : Machine) (l₁ : List ℕ) (m₂ : Machine) (l₂ : List ℕ) w
 
             back : put .entry ∷ drop p other ≡ drop p′ other′
             back =
-                ap (λ (i : ℕ). put .entry ∷ drop i other) (sym (put .place))
-                ∙ (sym (drop-set other p′ (put .entry) (let q = put .place in let r = second-ready .room in omega arith)) ∙ ap (drop p′) (sym (put .after)))
+                sym (drop-set other p p′ (put .entry) (put .place) (let q = put .place in let r = second-ready .room in omega arith)) ∙ ap (drop p′) (sym (put .after))
 
     pub split-done : (run other : List ℕ) (k p : ℕ) → k ≤ 1 → Splitting m₁ l₁ m₂ l₂ list run₀ other₀ run other k p
         → Split m₁ l₁ m₂ l₂ list run₀ (set run 0 (getD run 0 0 / m₂ .states)) (set other 0 (getD run 0 0 % m₂ .states))

@@ -1,4 +1,4 @@
-use Rattle.adjacency.specs.Index.Laws.{sorted}
+use Rattle.fsbm.specs.Rules.{rules}
 use Rattle.targets.specs.Prepared.Laws.{in-room, made}
 use native.Mathlib.Omega.{arith}
 use borrow.Author.Needs.{needs}
@@ -15,7 +15,7 @@ fill-rows-requires c κs = search needs
 
 -- src/lib.rt:115:18
 sources-requires : tie.Need-sources-requires
-sources-requires c κs = (sorted ((c .before .before .before .before .before .before .before) .args .m) (((c .before .before .before .before .before .before .before) .args .list) .now) (((c .before .before .before .before .before .before .before) .pre) .0) .states-fit, omega (arith, ((c .before .before .before) .fill-rows .ensures) .room))
+sources-requires c κs = (rules ((c .before .before .before .before .before .before .before) .args .m) (((c .before .before .before .before .before .before .before) .args .list) .now) (((c .before .before .before .before .before .before .before) .pre) .0) .states-fit, omega (arith, ((c .before .before .before) .fill-rows .ensures) .room))
 
 -- src/lib.rt:115:5
 slice-write-targets : tie.Need-slice-write-targets

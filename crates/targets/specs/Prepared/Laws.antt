@@ -25,7 +25,7 @@ use Rattle.stateset.specs.Set.Laws.{empty-in}
 use Rattle.fsbm.specs.Machine.{transitionAt, wellFormed}
 use Rattle.fsbm.specs.Published.{Listed}
 use Rattle.fsbm.specs.declared.machine.Machine.{Machine}
-use Rattle.adjacency.specs.Index.Laws.{sorted}
+use Rattle.fsbm.specs.Rules.{rules}
 use Rattle.images.specs.Graph.{setOf}
 use Rattle.images.proofs.SetCases.{row-cases}
 use Rattle.targets.specs.Prepared.{Row, Prepared, Lettered, Whole, Wanted, Inside, Filled, Made, Sources}
@@ -87,7 +87,7 @@ marked-turn w wanted i inside so-far j lt = at (ℕ-discrete j i)
 
 pub inside-at : (m : Machine) (list : List ℕ) → wellFormed m list ≡ true → (k : ℕ) → k < m .transitions → Inside m list k
 inside-at m list good k lt =
-    let s = sorted m list good in
+    let s = rules m list good in
     record {
       fits = let a = s .list-fits in omega arith;
       few = s .states-fit;
@@ -218,7 +218,7 @@ made m list wanted targets v good f from = record { rows = row; sources = λ p q
 
     source : (p q : ℕ) → Listed list (m .transitions) p 0 q → In v p
     source p q d =
-        let lt : p < m .states = subst (λ (n : ℕ). n < m .states) (d .from) (sorted m list good .from-below (d .number) (d .listed)) in
+        let lt : p < m .states = subst (λ (n : ℕ). n < m .states) (d .from) (rules m list good .from-below (d .number) (d .listed)) in
         let h = f .members 0 p q (omega arith) lt .1 (inl refl, d) in
         let z : setOf (m .states) 0 p ≡ 1 + p = omega arith in
         from p q lt (subst (λ (n : ℕ). In (getD targets n 0) q) z h)

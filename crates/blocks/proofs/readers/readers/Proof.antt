@@ -2,7 +2,8 @@ use native.Mathlib.Omega.{arith}
 use Prim.Native.Nat.{ℕ, _-_}
 use mathlib.Core.Path.{_≡_, refl}
 use lib.ListN.{length-replicate}
-use Rattle.adjacency.specs.Index.Laws.{sorted, zeros-at}
+use Rattle.fsbm.specs.Rules.{rules}
+use Rattle.adjacency.specs.Index.Laws.{zeros-at}
 use Rattle.blocks.specs.Readers.{ReadersBelow}
 use Rattle.blocks.specs.Readers.Laws.{readers-start, readers-more, readers-end}
 use Rattle.blocks.proofs.readers.readers.Statement.{statement}
@@ -23,11 +24,11 @@ loop-holds c = readers-start _ _ _ (length-replicate {A = ℕ} 251 0) (zeros-at 
 
 -- src/readers.rt:36:9
 note-requires : tie.Need-note-requires Inv-loop μ-loop
-note-requires c κs = (omega (arith, sorted _ _ ((c .before .before .before .before .before) .pre .0) .list-fits, (c .before) .if1 .taken), omega (arith, sorted _ _ ((c .before .before .before .before .before) .pre .0) .letters-fit, sorted _ _ ((c .before .before .before .before .before) .pre .0) .letter-below _ ((c .before) .if1 .taken)), (c .before .before .before) .loop .inv .size)
+note-requires c κs = (omega (arith, rules _ _ ((c .before .before .before .before .before) .pre .0) .list-fits, (c .before) .if1 .taken), omega (arith, rules _ _ ((c .before .before .before .before .before) .pre .0) .letters-fit, rules _ _ ((c .before .before .before .before .before) .pre .0) .letter-below _ ((c .before) .if1 .taken)), (c .before .before .before) .loop .inv .size)
 
 -- src/readers.rt:37:9
 add-k : tie.Need-add-k Inv-loop μ-loop
-add-k c = omega (arith, sorted _ _ ((c .before .before .before .before .before .before) .pre .0) .transitions-fit, (c .before .before) .if1 .taken)
+add-k c = omega (arith, rules _ _ ((c .before .before .before .before .before .before) .pre .0) .transitions-fit, (c .before .before) .if1 .taken)
 
 -- src/readers.rt:35:5
 loop-less : tie.Need-loop-less Inv-loop μ-loop

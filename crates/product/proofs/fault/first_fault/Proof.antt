@@ -4,9 +4,9 @@ use mathlib.Core.Path.{_≡_, refl, sym, ap, _∙_}
 use native.Mathlib.Omega.{arith}
 use native.Mathlib.Nat.{mul-le-mul}
 use borrow.Author.Tests.{not-true, not-false, eq-eqb, ne-eqb, le-leb, lt-leb}
+use Rattle.fsbm.specs.Rules.{rules}
 use Rattle.graphs.specs.Search.Loops.{first, second}
 use Rattle.product.specs.Product.{joinedCount, joinFault}
-use Rattle.product.specs.Tables.{table}
 use borrow.Author.Needs.{needs}
 use Rattle.product.proofs.fault.first_fault.Statement.{statement}
 use Rattle.product.proofs.fault.first_fault.Tie as tie
@@ -50,7 +50,7 @@ returns-4 c = (first _ (sym (c .before .before .before .before .before .before .
 
 -- src/fault.rt:148:13
 mul-if5 : tie.Need-mul-if5
-mul-if5 c = let t = table (c .before .before .before .before .before .before .before .before .before .before .before .before .before .args .first) ((c .before .before .before .before .before .before .before .before .before .before .before .before .before .args .first-list) .now) (sym (c .before .before .before .before .before .before .before .before .before .before .is-well-formed .ensures) ∙ not-false _ (c .before .before .before .before .before .before .before .before .before .if1 .left)) in let s = table (c .before .before .before .before .before .before .before .before .before .before .before .before .before .args .second) ((c .before .before .before .before .before .before .before .before .before .before .before .before .before .args .second-list) .now) (sym (c .before .before .before .before .before .before .before .before .is-well-formed2 .ensures) ∙ not-false _ (c .before .before .before .before .before .before .before .if2 .left)) in omega (arith, mul-le-mul (t .states-fit) (s .states-fit))
+mul-if5 c = let t = rules (c .before .before .before .before .before .before .before .before .before .before .before .before .before .args .first) ((c .before .before .before .before .before .before .before .before .before .before .before .before .before .args .first-list) .now) (sym (c .before .before .before .before .before .before .before .before .before .before .is-well-formed .ensures) ∙ not-false _ (c .before .before .before .before .before .before .before .before .before .if1 .left)) in let s = rules (c .before .before .before .before .before .before .before .before .before .before .before .before .before .args .second) ((c .before .before .before .before .before .before .before .before .before .before .before .before .before .args .second-list) .now) (sym (c .before .before .before .before .before .before .before .before .is-well-formed2 .ensures) ∙ not-false _ (c .before .before .before .before .before .before .before .if2 .left)) in omega (arith, mul-le-mul (t .states-fit) (s .states-fit))
 
 -- src/fault.rt:149:9
 returns-5 : tie.Need-returns-5

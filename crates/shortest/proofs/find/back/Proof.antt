@@ -1,7 +1,7 @@
 use mathlib.Core.Path.{ap}
 use native.Mathlib.Omega.{arith}
+use Rattle.fsbm.specs.Rules.{rules}
 use Rattle.fsbm.specs.declared.machine.Transition.{Transition}
-use Rattle.product.specs.Tables.{table}
 use Rattle.shortest.proofs.FindCases.{back-storing, back-matching, back-none, back-both}
 use borrow.Author.Needs.{needs}
 use Rattle.shortest.proofs.find.back.Statement.{statement}
@@ -52,7 +52,7 @@ cast-find-match c = search needs
 
 -- src/find.rt:220:9
 find-match-requires-2 : tie.Need-find-match-requires-2
-find-match-requires-2 c κs = let T = table _ _ ((c .before .before .before .before .before .before .before .before .before .before) .pre .0) in ((c .before .before .before .before .before .before .before .before .before .before) .pre .0, (c .before .before .before .before .before .before .before .before .before .before) .pre .1, omega (arith, ap (λ (t : Transition). t .from) ((c .before) .transition-at .ensures), T .from-below ((c .before .before .before) .find-letter .result) ((c .before .before) .if3 .left), T .states-fit), (c .before .before .before .before .before .before .before .before .before .before) .pre .3)
+find-match-requires-2 c κs = let T = rules _ _ ((c .before .before .before .before .before .before .before .before .before .before) .pre .0) in ((c .before .before .before .before .before .before .before .before .before .before) .pre .0, (c .before .before .before .before .before .before .before .before .before .before) .pre .1, omega (arith, ap (λ (t : Transition). t .from) ((c .before) .transition-at .ensures), T .from-below ((c .before .before .before) .find-letter .result) ((c .before .before) .if3 .left), T .states-fit), (c .before .before .before .before .before .before .before .before .before .before) .pre .3)
 
 -- src/find.rt:201:1
 returns-4 : tie.Need-returns-4

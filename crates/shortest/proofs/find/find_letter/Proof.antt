@@ -2,7 +2,7 @@ use Prim.Native.Nat.{ℕ, _-_}
 use mathlib.Core.Path.{sym, subst}
 use native.Mathlib.Omega.{arith}
 use borrow.Author.Needs.{needs}
-use Rattle.product.specs.Tables.{table}
+use Rattle.fsbm.specs.Rules.{rules}
 use Rattle.shortest.specs.Find.{LetterStep}
 use Rattle.shortest.specs.Find.Laws.{Finding, finding-start, finding-next, finding-found, finding-none}
 use Rattle.shortest.proofs.find.find_letter.Statement.{statement}
@@ -44,15 +44,15 @@ returns c = finding-found _ _ _ _ _ ((c .before .before .before .before) .loop .
 
 -- src/find.rt:195:24
 add-wide : tie.Need-add-wide Inv-loop μ-loop
-add-wide c = omega (arith, (c .before .before) .if1 .taken, table _ _ ((c .before .before .before .before .before .before .before .before) .pre .0) .transitions-fit)
+add-wide c = omega (arith, (c .before .before) .if1 .taken, rules _ _ ((c .before .before .before .before .before .before .before .before) .pre .0) .transitions-fit)
 
 -- src/find.rt:195:18
 mul-wide-2 : tie.Need-mul-wide-2 Inv-loop μ-loop
-mul-wide-2 c = omega (arith, (c .before .before) .if1 .taken, table _ _ ((c .before .before .before .before .before .before .before .before) .pre .0) .transitions-fit)
+mul-wide-2 c = omega (arith, (c .before .before) .if1 .taken, rules _ _ ((c .before .before .before .before .before .before .before .before) .pre .0) .transitions-fit)
 
 -- src/find.rt:195:18
 element-copy-out-wide-2 : tie.Need-element-copy-out-wide-2 Inv-loop μ-loop
-element-copy-out-wide-2 c = omega (arith, (c .before .before) .if1 .taken, table _ _ ((c .before .before .before .before .before .before .before .before) .pre .0) .transitions-fit)
+element-copy-out-wide-2 c = omega (arith, (c .before .before) .if1 .taken, rules _ _ ((c .before .before .before .before .before .before .before .before) .pre .0) .transitions-fit)
 
 -- src/find.rt:195:9
 wide-requires-2 : tie.Need-wide-requires-2 Inv-loop μ-loop

@@ -3,8 +3,8 @@ use mathlib.Core.Path.{_≡_, sym, _∙_, subst}
 use mathlib.Core.Bool.{true}
 use native.Mathlib.Omega.{arith}
 use borrow.Author.Needs.{needs}
+use Rattle.fsbm.specs.Rules.{rules}
 use Rattle.graphs.specs.Search.Laws.{not-both}
-use Rattle.product.specs.Tables.{table}
 use Rattle.shortest.specs.Find.{matchTest}
 use Rattle.shortest.specs.Find.Laws.{Finding, finding-start, finding-next, finding-found, finding-none}
 use Rattle.shortest.proofs.find.find_match.Statement.{statement}
@@ -38,7 +38,7 @@ loop-holds c = subst (λ (k : ℕ). Finding ((c .before .before .before) .args .
 
 -- src/find.rt:154:12
 match-fits-requires : tie.Need-match-fits-requires Inv-loop μ-loop
-match-fits-requires c κs = let T = table _ _ ((c .before .before .before .before .before .before .before) .pre .0) in (omega (arith, T .from-below ((c .before .before .before) .loop .k) ((c .before .before) .loop-test .taken), T .states-fit), (c .before .before .before .before .before .before .before) .pre .2)
+match-fits-requires c κs = let T = rules _ _ ((c .before .before .before .before .before .before .before) .pre .0) in (omega (arith, T .from-below ((c .before .before .before) .loop .k) ((c .before .before) .loop-test .taken), T .states-fit), (c .before .before .before .before .before .before .before) .pre .2)
 
 -- src/find.rt:155:13
 returns : tie.Need-returns Inv-loop μ-loop
@@ -46,15 +46,15 @@ returns c = finding-found _ _ _ _ _ ((c .before .before .before .before .before)
 
 -- src/find.rt:157:24
 add-wide : tie.Need-add-wide Inv-loop μ-loop
-add-wide c = omega (arith, (c .before .before .before .before) .loop-test .taken, table _ _ ((c .before .before .before .before .before .before .before .before .before) .pre .0) .transitions-fit)
+add-wide c = omega (arith, (c .before .before .before .before) .loop-test .taken, rules _ _ ((c .before .before .before .before .before .before .before .before .before) .pre .0) .transitions-fit)
 
 -- src/find.rt:157:18
 mul-wide-2 : tie.Need-mul-wide-2 Inv-loop μ-loop
-mul-wide-2 c = omega (arith, (c .before .before .before .before) .loop-test .taken, table _ _ ((c .before .before .before .before .before .before .before .before .before) .pre .0) .transitions-fit)
+mul-wide-2 c = omega (arith, (c .before .before .before .before) .loop-test .taken, rules _ _ ((c .before .before .before .before .before .before .before .before .before) .pre .0) .transitions-fit)
 
 -- src/find.rt:157:18
 element-copy-out-wide-2 : tie.Need-element-copy-out-wide-2 Inv-loop μ-loop
-element-copy-out-wide-2 c = omega (arith, (c .before .before .before .before) .loop-test .taken, table _ _ ((c .before .before .before .before .before .before .before .before .before) .pre .0) .transitions-fit)
+element-copy-out-wide-2 c = omega (arith, (c .before .before .before .before) .loop-test .taken, rules _ _ ((c .before .before .before .before .before .before .before .before .before) .pre .0) .transitions-fit)
 
 -- src/find.rt:157:9
 wide-requires-2 : tie.Need-wide-requires-2 Inv-loop μ-loop

@@ -3,8 +3,8 @@ use mathlib.Core.Path.{_≡_, sym, ap, _∙_, subst}
 use mathlib.Core.Bool.{true}
 use native.Mathlib.Omega.{arith}
 use borrow.Author.Needs.{needs}
+use Rattle.fsbm.specs.Rules.{rules}
 use Rattle.graphs.specs.Search.Laws.{not-both}
-use Rattle.product.specs.Tables.{table}
 use Rattle.pieces.specs.Blocks.{costOf}
 use Rattle.shortest.specs.Find.{normalTest}
 use Rattle.shortest.specs.Find.Laws.{Finding, finding-start, finding-next, finding-found, finding-none}
@@ -44,7 +44,7 @@ loop-holds c = (subst (λ (k : ℕ). Finding ((c .before .before .before .before
 
 -- src/find.rt:124:12
 normal-fits-requires : tie.Need-normal-fits-requires Inv-loop μ-loop
-normal-fits-requires c κs = let T = table _ _ ((c .before .before .before .before .before .before .before .before) .pre .0) in omega (arith, T .from-below ((c .before .before .before) .loop .k) ((c .before .before) .loop-test .taken), T .states-fit)
+normal-fits-requires c κs = let T = rules _ _ ((c .before .before .before .before .before .before .before .before) .pre .0) in omega (arith, T .from-below ((c .before .before .before) .loop .k) ((c .before .before) .loop-test .taken), T .states-fit)
 
 -- src/find.rt:125:13
 returns : tie.Need-returns Inv-loop μ-loop
@@ -52,15 +52,15 @@ returns c = finding-found _ _ _ _ _ ((c .before .before .before .before .before)
 
 -- src/find.rt:127:24
 add-wide : tie.Need-add-wide Inv-loop μ-loop
-add-wide c = omega (arith, (c .before .before .before .before) .loop-test .taken, table _ _ ((c .before .before .before .before .before .before .before .before .before .before) .pre .0) .transitions-fit)
+add-wide c = omega (arith, (c .before .before .before .before) .loop-test .taken, rules _ _ ((c .before .before .before .before .before .before .before .before .before .before) .pre .0) .transitions-fit)
 
 -- src/find.rt:127:18
 mul-wide-2 : tie.Need-mul-wide-2 Inv-loop μ-loop
-mul-wide-2 c = omega (arith, (c .before .before .before .before) .loop-test .taken, table _ _ ((c .before .before .before .before .before .before .before .before .before .before) .pre .0) .transitions-fit)
+mul-wide-2 c = omega (arith, (c .before .before .before .before) .loop-test .taken, rules _ _ ((c .before .before .before .before .before .before .before .before .before .before) .pre .0) .transitions-fit)
 
 -- src/find.rt:127:18
 element-copy-out-wide-2 : tie.Need-element-copy-out-wide-2 Inv-loop μ-loop
-element-copy-out-wide-2 c = omega (arith, (c .before .before .before .before) .loop-test .taken, table _ _ ((c .before .before .before .before .before .before .before .before .before .before) .pre .0) .transitions-fit)
+element-copy-out-wide-2 c = omega (arith, (c .before .before .before .before) .loop-test .taken, rules _ _ ((c .before .before .before .before .before .before .before .before .before .before) .pre .0) .transitions-fit)
 
 -- src/find.rt:127:9
 wide-requires-2 : tie.Need-wide-requires-2 Inv-loop μ-loop

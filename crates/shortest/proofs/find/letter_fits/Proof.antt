@@ -1,7 +1,7 @@
 use mathlib.Core.Path.{sym, ap, _∙_}
 use native.Mathlib.Omega.{arith}
+use Rattle.fsbm.specs.Rules.{rules}
 use Rattle.fsbm.specs.declared.machine.Transition.{Transition}
-use Rattle.product.specs.Tables.{table}
 use Rattle.shortest.proofs.FindCases.{letter-none, letter-matching, letter-buffering, letter-alone, letter-both}
 use borrow.Author.Needs.{needs}
 use Rattle.shortest.proofs.find.letter_fits.Statement.{statement}
@@ -47,7 +47,7 @@ cast-find-match c = search needs
 
 -- src/find.rt:178:9
 find-match-requires : tie.Need-find-match-requires
-find-match-requires c κs = let T = table _ _ ((c .before .before .before .before .before .before .before .before .before .before .before .before .before .before) .pre .0) in ((c .before .before .before .before .before .before .before .before .before .before .before .before .before .before) .pre .0, (c .before .before .before .before .before .before .before .before .before .before .before .before .before .before) .pre .1, omega (arith, ap (λ (t : Transition). t .from) ((c .before .before .before .before .before .before .before .before .before .before .before .before) .transition-at .ensures), T .from-below ((c .before .before .before .before .before .before .before .before .before .before .before .before .before .before) .args .k) ((c .before .before .before .before .before .before .before .before .before .before .before .before .before .before) .pre .3), T .states-fit), (c .before .before .before .before .before .before .before .before .before .before .before .before .before .before) .pre .2)
+find-match-requires c κs = let T = rules _ _ ((c .before .before .before .before .before .before .before .before .before .before .before .before .before .before) .pre .0) in ((c .before .before .before .before .before .before .before .before .before .before .before .before .before .before) .pre .0, (c .before .before .before .before .before .before .before .before .before .before .before .before .before .before) .pre .1, omega (arith, ap (λ (t : Transition). t .from) ((c .before .before .before .before .before .before .before .before .before .before .before .before) .transition-at .ensures), T .from-below ((c .before .before .before .before .before .before .before .before .before .before .before .before .before .before) .args .k) ((c .before .before .before .before .before .before .before .before .before .before .before .before .before .before) .pre .3), T .states-fit), (c .before .before .before .before .before .before .before .before .before .before .before .before .before .before) .pre .2)
 
 -- src/find.rt:180:9
 returns-4 : tie.Need-returns-4

@@ -17,7 +17,7 @@ use Rattle.fsbm.proofs.machine.is_buffering.Reads as is-buffering-reads
 use Rattle.fsbm.proofs.machine.transition_at.Reads as transition-at-reads
 use Rattle.shortest.proofs.find.cost.Reads as cost-reads
 use Rattle.shortest.proofs.find.makes.Reads as makes-reads
-use Rattle.shortest.proofs.find.weight.Reads as weight-reads
+use Rattle.least.proofs.fall.weight.Reads as weight-reads
 
 -- src/find.rt:71:9
 transition-at-requires : tie.Need-transition-at-requires
@@ -57,7 +57,7 @@ makes-requires c κs = search needs
 
 -- src/find.rt:67:1
 returns-3 : tie.Need-returns-3
-returns-3 c = pass (ap not (sym ((c .before .before .before .before .before .before .before) .both-matching .ensures) ∙ (c .before .before .before .before .before .before) .if1 .left)) (pass (ap not (sym ((c .before .before .before .before) .is-buffering .ensures) ∙ (c .before .before .before) .if2 .left)) ((c) .makes .ensures ∙ (ap (λ (v : ℕ). eqb (v + (c .before) .weight .result) ((c .before .before .before .before .before .before .before .before .before .before) .args .want)) ((c .before .before) .cost .ensures) ∙ ap (λ (v : ℕ). eqb (costOf ((c .before .before .before .before .before .before .before .before .before .before) .args .d .now) ((c .before .before .before .before .before .before .before .before) .transition-at .result .from) + v) ((c .before .before .before .before .before .before .before .before .before .before) .args .want)) ((c .before) .weight .ensures)))) ∙ normal-is _ _ _ _ ((c .before .before .before .before .before .before .before .before) .transition-at .ensures) _ _
+returns-3 c = pass (ap not (sym ((c .before .before .before .before .before .before .before) .both-matching .ensures) ∙ (c .before .before .before .before .before .before) .if1 .left)) (pass (ap not (sym ((c .before .before .before .before) .is-buffering .ensures) ∙ (c .before .before .before) .if2 .left)) ((c) .makes .ensures ∙ (ap (λ (v : ℕ). eqb (v + (c .before) .weight .result) ((c .before .before .before .before .before .before .before .before .before .before) .args .want)) ((c .before .before) .cost .ensures) ∙ ap (λ (v : ℕ). eqb (costOf ((c .before .before .before .before .before .before .before .before .before .before) .args .d .now) ((c .before .before .before .before .before .before .before .before) .transition-at .result .from) + v) ((c .before .before .before .before .before .before .before .before .before .before) .args .want)) ((c .before) .weight .ensures .0)))) ∙ normal-is _ _ _ _ ((c .before .before .before .before .before .before .before .before) .transition-at .ensures) _ _
 
 pub normal-fits-spec : {M : Type 1} → statement M
 normal-fits-spec =

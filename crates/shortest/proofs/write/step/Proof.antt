@@ -1,5 +1,5 @@
 use native.Mathlib.Omega.{arith}
-use Rattle.product.specs.Tables.{table}
+use Rattle.fsbm.specs.Rules.{rules}
 use Rattle.shortest.specs.Write.Laws.{number-below, read-ready, read-steps, copy-there, copy-ready}
 use borrow.Author.Needs.{needs}
 use Rattle.shortest.proofs.write.step.Statement.{statement}
@@ -18,7 +18,7 @@ find-normal-requires c κs = ((c .before .before .before) .pre .searching .ready
 
 -- src/write.rt:111:9
 read-requires : tie.Need-read-requires
-read-requires c κs = read-ready _ _ _ _ _ _ _ _ (table _ _ ((c .before .before .before .before .before .before .before .before) .pre .searching .ready .good)) ((c .before .before .before .before .before .before .before .before) .pre .fits) ((c .before .before .before .before .before .before .before .before) .pre .word-fits) ((c .before .before .before .before .before .before .before .before) .pre .run-fits) _ ((c .before .before) .if1 .taken) ((c .before .before .before .before) .find-normal .ensures .found ((c .before .before) .if1 .taken))
+read-requires c κs = read-ready _ _ _ _ _ _ _ _ (rules _ _ ((c .before .before .before .before .before .before .before .before) .pre .searching .ready .good)) ((c .before .before .before .before .before .before .before .before) .pre .fits) ((c .before .before .before .before .before .before .before .before) .pre .word-fits) ((c .before .before .before .before .before .before .before .before) .pre .run-fits) _ ((c .before .before) .if1 .taken) ((c .before .before .before .before) .find-normal .ensures .found ((c .before .before) .if1 .taken))
 
 -- src/write.rt:111:9
 same-length : tie.Need-same-length
@@ -30,7 +30,7 @@ same-length-2 c = search needs
 
 -- src/write.rt:111:9
 returns : tie.Need-returns
-returns c = record { stepped = read-steps _ _ _ _ _ _ _ _ (table _ _ ((c .before .before .before .before .before .before .before .before .before .before .before .before .before) .pre .searching .ready .good)) ((c .before .before .before .before .before .before .before .before .before .before .before .before .before) .pre .fits) ((c .before .before .before .before .before .before .before .before .before .before .before .before .before) .pre .word-fits) ((c .before .before .before .before .before .before .before .before .before .before .before .before .before) .pre .run-fits) _ ((c .before .before .before .before .before .before .before) .if1 .taken) ((c .before .before .before .before .before .before .before .before .before) .find-normal .ensures .found ((c .before .before .before .before .before .before .before) .if1 .taken)) _ _ _ ((c .before .before .before .before) .read .ensures); size = (c .before .before .before .before .before .before .before .before .before .before .before .before .before) .pre .searching .size; past = (c .before .before .before .before .before .before .before .before .before .before .before .before .before) .pre .searching .past; later-size = (c .before .before .before .before .before .before .before .before .before .before .before .before .before) .pre .later-size }
+returns c = record { stepped = read-steps _ _ _ _ _ _ _ _ (rules _ _ ((c .before .before .before .before .before .before .before .before .before .before .before .before .before) .pre .searching .ready .good)) ((c .before .before .before .before .before .before .before .before .before .before .before .before .before) .pre .fits) ((c .before .before .before .before .before .before .before .before .before .before .before .before .before) .pre .word-fits) ((c .before .before .before .before .before .before .before .before .before .before .before .before .before) .pre .run-fits) _ ((c .before .before .before .before .before .before .before) .if1 .taken) ((c .before .before .before .before .before .before .before .before .before) .find-normal .ensures .found ((c .before .before .before .before .before .before .before) .if1 .taken)) _ _ _ ((c .before .before .before .before) .read .ensures); size = (c .before .before .before .before .before .before .before .before .before .before .before .before .before) .pre .searching .size; past = (c .before .before .before .before .before .before .before .before .before .before .before .before .before) .pre .searching .past; later-size = (c .before .before .before .before .before .before .before .before .before .before .before .before .before) .pre .later-size }
 
 -- src/write.rt:113:63
 element-copy-out-wide : tie.Need-element-copy-out-wide

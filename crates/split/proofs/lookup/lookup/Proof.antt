@@ -1,8 +1,8 @@
-use Rattle.product.specs.Tables.{table}
 use Prim.Native.Nat.{_-_}
 use mathlib.Core.Path.{_≡_}
 use native.Mathlib.Omega.{arith}
 use borrow.Author.Needs.{needs}
+use Rattle.fsbm.specs.Rules.{rules}
 use Rattle.split.specs.Lookup.{keyOf, Between}
 use Rattle.split.specs.Lookup.Laws.{between-start, between-below, between-above, between-end}
 use Rattle.split.proofs.lookup.lookup.Statement.{statement}
@@ -36,7 +36,7 @@ sub-mid c = let b = (c .before) .loop .inv .0 in omega (arith, b .low, b .high)
 
 -- src/lookup.rt:35:19
 add-mid : tie.Need-add-mid Inv-loop μ-loop
-add-mid c = let b = (c .before) .loop .inv .0 in omega (arith, b .low, b .high, b .within, table _ _ ((c .before .before .before .before) .pre .0) .transitions-fit)
+add-mid c = let b = (c .before) .loop .inv .0 in omega (arith, b .low, b .high, b .within, rules _ _ ((c .before .before .before .before) .pre .0) .transitions-fit)
 
 -- src/lookup.rt:36:21
 key-at-requires : tie.Need-key-at-requires Inv-loop μ-loop
@@ -48,7 +48,7 @@ loop-less c = let b = (c .before .before .before) .loop .inv .0 in omega (arith,
 
 -- src/lookup.rt:34:5
 loop-again : tie.Need-loop-again Inv-loop μ-loop
-loop-again c = (between-below ((c .before .before .before .before .before .before) .args .m) _ _ _ _ (table _ _ ((c .before .before .before .before .before .before) .pre .0)) _ _ ((c .before .before .before) .loop .inv .0) _ (omega (arith, (c .before .before) .loop-test .taken)) (omega (arith, (c) .if1 .taken, (c .before) .key-at .ensures, (c .before .before .before) .loop .inv .1)), (c .before .before .before) .loop .inv .1)
+loop-again c = (between-below ((c .before .before .before .before .before .before) .args .m) _ _ _ _ (rules _ _ ((c .before .before .before .before .before .before) .pre .0)) _ _ ((c .before .before .before) .loop .inv .0) _ (omega (arith, (c .before .before) .loop-test .taken)) (omega (arith, (c) .if1 .taken, (c .before) .key-at .ensures, (c .before .before .before) .loop .inv .1)), (c .before .before .before) .loop .inv .1)
 
 -- src/lookup.rt:34:5
 loop-less-2 : tie.Need-loop-less-2 Inv-loop μ-loop
@@ -56,15 +56,15 @@ loop-less-2 c = let b = (c .before .before .before) .loop .inv .0 in omega (arit
 
 -- src/lookup.rt:34:5
 loop-again-2 : tie.Need-loop-again-2 Inv-loop μ-loop
-loop-again-2 c = (between-above ((c .before .before .before .before .before .before) .args .m) _ _ _ _ (table _ _ ((c .before .before .before .before .before .before) .pre .0)) _ _ ((c .before .before .before) .loop .inv .0) _ (omega (arith, (c .before .before) .loop-test .taken)) (omega (arith, (c) .if1 .left, (c .before) .key-at .ensures, (c .before .before .before) .loop .inv .1)), (c .before .before .before) .loop .inv .1)
+loop-again-2 c = (between-above ((c .before .before .before .before .before .before) .args .m) _ _ _ _ (rules _ _ ((c .before .before .before .before .before .before) .pre .0)) _ _ ((c .before .before .before) .loop .inv .0) _ (omega (arith, (c .before .before) .loop-test .taken)) (omega (arith, (c) .if1 .left, (c .before) .key-at .ensures, (c .before .before .before) .loop .inv .1)), (c .before .before .before) .loop .inv .1)
 
 -- src/lookup.rt:42:5
 cast-result : tie.Need-cast-result Inv-loop μ-loop
-cast-result c = let b = (c .before) .loop .inv .0 in omega (arith, b .low, b .high, b .within, table _ _ ((c .before .before .before .before) .pre .0) .transitions-fit)
+cast-result c = let b = (c .before) .loop .inv .0 in omega (arith, b .low, b .high, b .within, rules _ _ ((c .before .before .before .before) .pre .0) .transitions-fit)
 
 -- src/lookup.rt:27:1
 returns : tie.Need-returns Inv-loop μ-loop
-returns c = between-end ((c .before .before .before .before) .args .m) _ _ _ _ (table _ _ ((c .before .before .before .before) .pre .0)) _ _ ((c .before) .loop .inv .0) ((c) .loop-test .left)
+returns c = between-end ((c .before .before .before .before) .args .m) _ _ _ _ (rules _ _ ((c .before .before .before .before) .pre .0)) _ _ ((c .before) .loop .inv .0) ((c) .loop-test .left)
 
 pub lookup-spec : {M : Type 1} → statement M
 lookup-spec =
