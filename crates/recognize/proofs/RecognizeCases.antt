@@ -1,27 +1,29 @@
 -- The ways through recognize, over plain variables.
 --
 -- needed-fits   == the length needed is a small number
+-- lettered      == the letters of a word that is not refused are the machine's
 -- refused-table, refused-slice, says-no, says-yes == what each answer comes with
--- copy-turn, copy-end == one entry copied, and all
--- copied-front  == a run that is copied to the front of a slice
 -- fewest-front  == a run with the fewest entries is within the bound
-use Prim.Native.Nat.{ℕ, suc, _+_, _*_, _≤_, _<_}
+use Prim.Native.Nat.{ℕ, zero, suc, _+_, _*_, _≤_, _<_}
 use mathlib.Core.Path.{_≡_, refl, sym, _∙_, ap}
 use mathlib.Core.Bool.{Bool, true, false, cond, true≢false}
-use mathlib.Core.List.{List, _++_}
+use mathlib.Core.Logic.{_⊎_, inl, inr}
+use mathlib.Core.List.{List, [], _∷_, _++_}
 use native.Mathlib.Omega.{arith}
 use native.Mathlib.Nat.{mul-le-mul}
-use lib.ListN.{length, getD, set, take, drop}
-use lib.Seq.{take-suc, take-at, drop-cons, set-at, append-snoc, length-take-le}
+use lib.ListN.{length, getD, take, drop}
 use lib.Dec.{leb, eqb}
-use borrow.Author.Tests.{le-leb, lt-leb, eq-eqb, ne-eqb}
+use borrow.Author.Tests.{le-leb, lt-leb, leb-true, eq-eqb, ne-eqb}
+use Rattle.graphs.specs.Search.{allIn}
+use Rattle.graphs.specs.Search.Laws.{and-true, true-or-false}
 use Rattle.graphs.specs.Search.Loops.{first, second}
 use Rattle.fsbm.specs.Machine.{wellFormed}
 use Rattle.fsbm.specs.Moves.{accepting}
 use Rattle.fsbm.specs.Accepted.{runBound, accepted}
 use Rattle.fsbm.specs.Accepted.Laws.{accepted-true}
 use Rattle.runs.specs.Walk.{Written}
-use Rattle.fsbm.specs.Answers.{tableAndWord, refusal}
+use Rattle.targets.specs.Prepared.{Lettered}
+use Rattle.fsbm.specs.Answers.{goodLetter, goodLetters, tableAndWord, refusal}
 use Rattle.fsbm.specs.declared.machine.Machine.{Machine}
 use Rattle.fsbm.specs.Rules.{rules}
 use Rattle.recognize.specs.Recognition.{longestRecognized, recognition, recognizedValues, recognitionValues, AtFront, Recognition}
@@ -33,6 +35,24 @@ needed-fits m list w h l =
     let a : 3 * m .states ≤ 192 = omega (arith, rules m list h .states-fit) in
     let b : length w + 1 ≤ 256 = omega arith in
     mul-le-mul a b
+
+-- what holds of all elements of a list holds of each
+all-at : (p : ℕ → Bool) (l : List ℕ) → allIn p l ≡ true → (i : ℕ) → i < length l → p (getD l i 0) ≡ true
+unfolding allIn
+all-at p [] h i lt = absurd (omega arith)
+all-at p (x ∷ l) h zero lt = and-true (p x) (allIn p l) h .0
+all-at p (x ∷ l) h (suc i) lt = all-at p l (and-true (p x) (allIn p l) h .1) i (omega arith)
+
+pub lettered : (longest : ℕ) (m : Machine) (list w : List ℕ) → tableAndWord longest m list w ≡ 0 → Lettered (m .letters) w
+unfolding tableAndWord
+lettered longest m list w e = at (true-or-false (wellFormed m list)) (true-or-false (leb (length w) longest)) (true-or-false (goodLetters (m .letters) w))
+  where
+    at : (wellFormed m list ≡ true) ⊎ (wellFormed m list ≡ false) → (leb (length w) longest ≡ true) ⊎ (leb (length w) longest ≡ false)
+        → (goodLetters (m .letters) w ≡ true) ⊎ (goodLetters (m .letters) w ≡ false) → Lettered (m .letters) w
+    at (inr f) l g = absurd (let d = second {r = 16} _ f refl ∙ e in omega arith)
+    at (inl t) (inr f) g = absurd (let d = first {r = 9} _ t (second _ f refl) ∙ e in omega arith)
+    at (inl t) (inl l) (inr f) = absurd (let d = first {r = 8} _ t (first _ l (second _ f refl)) ∙ e in omega arith)
+    at (inl t) (inl l) (inl g) = λ i lt. leb-true (getD w i 0) (m .letters) (and-true (leb 1 (getD w i 0)) (leb (getD w i 0) (m .letters)) (all-at (goodLetter (m .letters)) w g i lt) .1)
 
 module _ (m : Machine) (list w before : List ℕ) where
   -- an answer that is right has the right number and values
@@ -109,33 +129,7 @@ module _ (m : Machine) (list w before : List ℕ) where
           same-run : (j : ℕ) → Yes k ≡ Yes j → accepting m list w (take j after) ≡ true
           same-run j y = let d : j ≡ k = cc in rw d acc
 
--- copying a run entry by entry
-pub copy-turn : (out run : List ℕ) (k : ℕ) → k < length out → k < length run → set (take k out ++ drop k run) k (getD out k 0) ≡ take (k + 1) out ++ drop (k + 1) run
-copy-turn out run k lo lr =
-    ap (λ (z : List ℕ). set (take k out ++ z) k (getD out k 0)) (drop-cons run k 0 lr)
-    ∙ (set-at (take k out) (getD run k 0) (drop (suc k) run) (getD out k 0) k (length-take-le k out (omega arith))
-    ∙ (sym (append-snoc (take k out) (getD out k 0) (drop (suc k) run))
-    ∙ (ap (λ (z : List ℕ). z ++ drop (suc k) run) (sym (take-suc out k 0 lo)) ∙ ap (λ (z : ℕ). take z out ++ drop z run) one-more)))
-  where
-    one-more : suc k ≡ k + 1
-    one-more = omega arith
-
-pub copy-end : (out run run′ : List ℕ) (k count : ℕ) → run′ ≡ take k out ++ drop k run → k ≡ count → run′ ≡ take count out ++ drop count run
-copy-end out run run′ k count e s = e ∙ ap (λ (z : ℕ). take z out ++ drop z run) s
-
-pub copied-front : (m : Machine) (list w out run run′ : List ℕ) (r : ℕ) → r ≤ length out → r ≤ length run → r ≤ runBound m (length w) → accepting m list w (take r out) ≡ true → run′ ≡ take r out ++ drop r run
-    → AtFront m list w r run run′
-copied-front m list w out run run′ r lo lr bounded acc e =
-    record {
-      fits = lr;
-      bounded = bounded;
-      front = e ∙ ap (λ (z : List ℕ). z ++ drop r run) (sym same);
-      accepts = ap (λ (z : List ℕ). accepting m list w z) same ∙ acc;
-    }
-  where
-    same : take r run′ ≡ take r out
-    same = ap (λ (z : List ℕ). take r z) e ∙ take-at (take r out) (drop r run) r (length-take-le r out lo)
-
+-- a run with the fewest entries is within the bound
 pub fewest-front : (m : Machine) (list w run run′ : List ℕ) (r : ℕ) → accepted m list w ≡ true → Written m list w r run run′ → AtFront m list w r run run′
 fewest-front m list w run run′ r t h =
     let (other, short, below, a) = accepted-true m list w .0 t in

@@ -2,68 +2,64 @@ use mathlib.Core.Path.{refl, sym, _∙_}
 use borrow.Author.Tests.{not-true, not-false}
 use Rattle.fsbm.proofs.AnswerCases.{table-good}
 use Rattle.fsbm.specs.Rules.{rules}
-use Rattle.recognize.proofs.RecognizeCases.{says-no, says-yes}
-use borrow.Author.Needs.{needs}
+use Rattle.recognize.proofs.RecognizeCases.{lettered, says-no, says-yes, fewest-front}
 use native.Mathlib.Omega.{arith}
+use borrow.Author.Needs.{needs}
 use Rattle.recognize.proofs.answer_with.Statement.{statement}
 use Rattle.recognize.proofs.answer_with.Tie as tie
+use Rattle.recognize.proofs.answer_with.Reads as reads
+use Rattle.recognize.proofs.answer_with.Lts as lts
+use Rattle.decide.proofs.places.decide.Reads as decide-reads
+use Rattle.images.proofs.kinds_of.Reads as kinds-of-reads
+use Rattle.runs.proofs.walk.write_run.Reads as write-run-reads
+use Rattle.targets.proofs.prepare_for.Reads as prepare-for-reads
 
--- src/lib.rt:133:5
-fill-requires : tie.Need-fill-requires
-fill-requires c κs = (table-good 255 (c .before .before .before .before .before .before .before .args .t1) ((c .before .before .before .before .before .before .before .args .list) .now) ((c .before .before .before .before .before .before .before .args .word) .now) ((c .before .before .before .before .before .before .before .pre) .0) .0, (c .before .before .before .before .before .before .before .pre) .3 .distinct .small, (c .before .before .before .before .before .before .before .pre) .4, (c .before .before .before .before .before .before .before .pre) .5, (c .before .before .before .before .before .before .before .pre) .6)
+-- src/lib.rt:36:5
+prepare-for-requires : tie.Need-prepare-for-requires
+prepare-for-requires c κs = (table-good 255 ((c .before .before .before .before .before) .args .t1) (((c .before .before .before .before .before) .args .list) .now) (((c .before .before .before .before .before) .args .word) .now) (((c .before .before .before .before .before) .pre) .0) .0, lettered 255 ((c .before .before .before .before .before) .args .t1) (((c .before .before .before .before .before) .args .list) .now) (((c .before .before .before .before .before) .args .word) .now) (((c .before .before .before .before .before) .pre) .0), ((c .before .before .before .before .before) .pre) .3, ((c .before .before .before .before .before) .pre) .4)
 
--- src/lib.rt:134:9
+-- src/lib.rt:37:9
 kinds-of-requires : tie.Need-kinds-of-requires
-kinds-of-requires c κs = rules (c .before .before .before .before .before .before .before .before .before .before .before .before .before .before .args .t1) ((c .before .before .before .before .before .before .before .before .before .before .before .before .before .before .args .list) .now) (table-good 255 (c .before .before .before .before .before .before .before .before .before .before .before .before .before .before .args .t1) ((c .before .before .before .before .before .before .before .before .before .before .before .before .before .before .args .list) .now) ((c .before .before .before .before .before .before .before .before .before .before .before .before .before .before .args .word) .now) ((c .before .before .before .before .before .before .before .before .before .before .before .before .before .before .pre) .0) .0) .states-fit
+kinds-of-requires c κs = rules ((c .before .before .before .before .before .before .before .before .before .before) .args .t1) (((c .before .before .before .before .before .before .before .before .before .before) .args .list) .now) (table-good 255 ((c .before .before .before .before .before .before .before .before .before .before) .args .t1) (((c .before .before .before .before .before .before .before .before .before .before) .args .list) .now) (((c .before .before .before .before .before .before .before .before .before .before) .args .word) .now) (((c .before .before .before .before .before .before .before .before .before .before) .pre) .0) .0) .states-fit
 
--- src/lib.rt:135:19
+-- src/lib.rt:38:9
 decide-requires : tie.Need-decide-requires
-decide-requires c κs = (table-good 255 (c .before .before .before .before .before .before .before .before .before .before .before .before .before .before .before .before .args .t1) ((c .before .before .before .before .before .before .before .before .before .before .before .before .before .before .before .before .args .list) .now) ((c .before .before .before .before .before .before .before .before .before .before .before .before .before .before .before .before .args .word) .now) ((c .before .before .before .before .before .before .before .before .before .before .before .before .before .before .before .before .pre) .0) .0, table-good 255 (c .before .before .before .before .before .before .before .before .before .before .before .before .before .before .before .before .args .t1) ((c .before .before .before .before .before .before .before .before .before .before .before .before .before .before .before .before .args .list) .now) ((c .before .before .before .before .before .before .before .before .before .before .before .before .before .before .before .before .args .word) .now) ((c .before .before .before .before .before .before .before .before .before .before .before .before .before .before .before .before .pre) .0) .1, (c .before .before .before .before .before .before .before .before .fill .ensures) _ _ ((c .before .before .before .before .before .before .before .before .before .before .before .before .before .before .before .before .pre) .3), (c .before .kinds-of .ensures))
+decide-requires c κs = (table-good 255 ((c .before .before .before .before .before .before .before .before .before .before .before .before) .args .t1) (((c .before .before .before .before .before .before .before .before .before .before .before .before) .args .list) .now) (((c .before .before .before .before .before .before .before .before .before .before .before .before) .args .word) .now) (((c .before .before .before .before .before .before .before .before .before .before .before .before) .pre) .0) .0, table-good 255 ((c .before .before .before .before .before .before .before .before .before .before .before .before) .args .t1) (((c .before .before .before .before .before .before .before .before .before .before .before .before) .args .list) .now) (((c .before .before .before .before .before .before .before .before .before .before .before .before) .args .word) .now) (((c .before .before .before .before .before .before .before .before .before .before .before .before) .pre) .0) .1, ((c .before .before .before .before .before .before) .prepare-for .ensures), ((c .before) .kinds-of .ensures))
 
--- src/lib.rt:137:9
+-- src/lib.rt:40:9
 same-length : tie.Need-same-length
 same-length c = search needs
 
--- src/lib.rt:137:9
+-- src/lib.rt:40:9
+returns : tie.Need-returns
+returns c = says-no ((c .before .before .before .before .before .before .before .before .before .before .before .before .before .before .before) .args .t1) (((c .before .before .before .before .before .before .before .before .before .before .before .before .before .before .before) .args .list) .now) (((c .before .before .before .before .before .before .before .before .before .before .before .before .before .before .before) .args .word) .now) (((c .before .before .before .before .before .before .before .before .before .before .before .before .before .before .before) .args .run) .now) _ refl (((c .before .before .before .before .before .before .before .before .before .before .before .before .before .before .before) .pre) .0) (omega (arith, ((c .before .before .before .before .before .before .before .before .before .before .before .before .before .before .before) .pre) .1, ((c .before .before .before .before .before .before .before .before .before .before .before .before .before .before .before) .pre) .2)) (sym (not-true _ ((c) .if1 .taken)) ∙ ((c .before .before) .decide .ensures) .0)
+
+-- src/lib.rt:42:9
+write-run-requires : tie.Need-write-run-requires
+write-run-requires c κs = (table-good 255 ((c .before .before .before .before .before .before .before .before .before .before .before .before .before .before .before .before) .args .t1) (((c .before .before .before .before .before .before .before .before .before .before .before .before .before .before .before .before) .args .list) .now) (((c .before .before .before .before .before .before .before .before .before .before .before .before .before .before .before .before) .args .word) .now) (((c .before .before .before .before .before .before .before .before .before .before .before .before .before .before .before .before) .pre) .0) .0, table-good 255 ((c .before .before .before .before .before .before .before .before .before .before .before .before .before .before .before .before) .args .t1) (((c .before .before .before .before .before .before .before .before .before .before .before .before .before .before .before .before) .args .list) .now) (((c .before .before .before .before .before .before .before .before .before .before .before .before .before .before .before .before) .args .word) .now) (((c .before .before .before .before .before .before .before .before .before .before .before .before .before .before .before .before) .pre) .0) .1, sym (((c .before .before .before) .decide .ensures) .0) ∙ not-false _ ((c .before) .if1 .left), omega (arith, ((c .before .before .before .before .before .before .before .before .before .before .before .before .before .before .before .before) .pre) .1, ((c .before .before .before .before .before .before .before .before .before .before .before .before .before .before .before .before) .pre) .2))
+
+-- src/lib.rt:24:1
 same-length-2 : tie.Need-same-length-2
 same-length-2 c = search needs
 
--- src/lib.rt:137:9
-returns : tie.Need-returns
-returns c = says-no (c .before .before .before .before .before .before .before .before .before .before .before .before .before .before .before .before .before .before .args .t1) ((c .before .before .before .before .before .before .before .before .before .before .before .before .before .before .before .before .before .before .args .list) .now) ((c .before .before .before .before .before .before .before .before .before .before .before .before .before .before .before .before .before .before .args .word) .now) ((c .before .before .before .before .before .before .before .before .before .before .before .before .before .before .before .before .before .before .args .run) .now) _ refl ((c .before .before .before .before .before .before .before .before .before .before .before .before .before .before .before .before .before .before .pre) .0) (omega (arith, (c .before .before .before .before .before .before .before .before .before .before .before .before .before .before .before .before .before .before .pre) .1, (c .before .before .before .before .before .before .before .before .before .before .before .before .before .before .before .before .before .before .pre) .2)) (sym (not-true _ (c .if1 .taken)) ∙ (c .before .decide .ensures))
-
--- src/lib.rt:139:9
-write-requires : tie.Need-write-requires
-write-requires c κs = (table-good 255 (c .before .before .before .before .before .before .before .before .before .before .before .before .before .before .before .before .before .before .before .before .before .before .before .args .t1) ((c .before .before .before .before .before .before .before .before .before .before .before .before .before .before .before .before .before .before .before .before .before .before .before .args .list) .now) ((c .before .before .before .before .before .before .before .before .before .before .before .before .before .before .before .before .before .before .before .before .before .before .before .args .word) .now) ((c .before .before .before .before .before .before .before .before .before .before .before .before .before .before .before .before .before .before .before .before .before .before .before .pre) .0) .0, table-good 255 (c .before .before .before .before .before .before .before .before .before .before .before .before .before .before .before .before .before .before .before .before .before .before .before .args .t1) ((c .before .before .before .before .before .before .before .before .before .before .before .before .before .before .before .before .before .before .before .before .before .before .before .args .list) .now) ((c .before .before .before .before .before .before .before .before .before .before .before .before .before .before .before .before .before .before .before .before .before .before .before .args .word) .now) ((c .before .before .before .before .before .before .before .before .before .before .before .before .before .before .before .before .before .before .before .before .before .before .before .pre) .0) .1, sym (c .before .before .before .before .before .before .decide .ensures) ∙ not-false _ (c .before .before .before .before .before .if1 .left), (c .before .before .before .before .before .before .before .before .before .before .before .before .before .before .before .before .before .before .before .before .before .before .before .pre) .1, (c .before .before .before .before .before .before .before .before .before .before .before .before .before .before .before .before .before .before .before .before .before .before .before .pre) .2, record { size = (c .before .before .before .before .before .before .before .before .before .before .before .before .before .before .before .fill .ensures) _ _ ((c .before .before .before .before .before .before .before .before .before .before .before .before .before .before .before .before .before .before .before .before .before .before .before .pre) .3) .table .size; rows = (c .before .before .before .before .before .before .before .before .before .before .before .before .before .before .before .fill .ensures) _ _ ((c .before .before .before .before .before .before .before .before .before .before .before .before .before .before .before .before .before .before .before .before .before .before .before .pre) .3) .table .rows; epsilons = (c .before .before .before .before .before .before .before .before .before .before .before .before .before .before .before .fill .ensures) _ _ ((c .before .before .before .before .before .before .before .before .before .before .before .before .before .before .before .before .before .before .before .before .before .before .before .pre) .3) .epsilons })
-
--- src/lib.rt:118:1
+-- src/lib.rt:24:1
 same-length-3 : tie.Need-same-length-3
-same-length-3 c = (c .before .before .before .before .before .before .before .before .before .before .before .before .before .before .before .before .before .table .given)
+same-length-3 c = search needs
 
--- src/lib.rt:118:1
-same-length-4 : tie.Need-same-length-4
-same-length-4 c = (c .before .before .before .before .before .before .before .before .before .before .before .before .before .before .before .firsts .given)
-
--- src/lib.rt:118:1
-same-length-5 : tie.Need-same-length-5
-same-length-5 c = (c .before .run .given)
-
--- src/lib.rt:118:1
+-- src/lib.rt:24:1
 returns-2 : tie.Need-returns-2
-returns-2 c = says-yes (c .before .before .before .before .before .before .before .before .before .before .before .before .before .before .before .before .before .before .before .before .before .before .before .before .before .before .args .t1) ((c .before .before .before .before .before .before .before .before .before .before .before .before .before .before .before .before .before .before .before .before .before .before .before .before .before .before .args .list) .now) ((c .before .before .before .before .before .before .before .before .before .before .before .before .before .before .before .before .before .before .before .before .before .before .before .before .before .before .args .word) .now) ((c .before .before .before .before .before .before .before .before .before .before .before .before .before .before .before .before .before .before .before .before .before .before .before .before .before .before .args .run) .now) _ refl ((c .before .before .before .before .before .before .before .before .before .before .before .before .before .before .before .before .before .before .before .before .before .before .before .before .before .before .pre) .0) (omega (arith, (c .before .before .before .before .before .before .before .before .before .before .before .before .before .before .before .before .before .before .before .before .before .before .before .before .before .before .pre) .1, (c .before .before .before .before .before .before .before .before .before .before .before .before .before .before .before .before .before .before .before .before .before .before .before .before .before .before .pre) .2)) (sym (not-false _ (c .before .before .before .before .before .before .before .before .if1 .left)) ∙ (c .before .before .before .before .before .before .before .before .before .decide .ensures)) _ (c .before .before .write .result) ((c .before .before .write .ensures) .fits) ((c .before .before .write .ensures) .bounded) ((c .before .before .write .ensures) .front) ((c .before .before .write .ensures) .accepts)
+returns-2 c = let written = fewest-front ((c .before .before .before .before .before .before .before .before .before .before .before .before .before .before .before .before .before .before .before) .args .t1) (((c .before .before .before .before .before .before .before .before .before .before .before .before .before .before .before .before .before .before .before) .args .list) .now) (((c .before .before .before .before .before .before .before .before .before .before .before .before .before .before .before .before .before .before .before) .args .word) .now) (((c .before .before .before .before .before .before .before .before .before .before .before .before .before .before .before .before .before .before .before) .args .run) .now) _ _ (sym (((c .before .before .before .before .before .before) .decide .ensures) .0) ∙ not-false _ ((c .before .before .before .before) .if1 .left)) ((c .before .before) .write-run .ensures) in says-yes ((c .before .before .before .before .before .before .before .before .before .before .before .before .before .before .before .before .before .before .before) .args .t1) (((c .before .before .before .before .before .before .before .before .before .before .before .before .before .before .before .before .before .before .before) .args .list) .now) (((c .before .before .before .before .before .before .before .before .before .before .before .before .before .before .before .before .before .before .before) .args .word) .now) (((c .before .before .before .before .before .before .before .before .before .before .before .before .before .before .before .before .before .before .before) .args .run) .now) _ refl (((c .before .before .before .before .before .before .before .before .before .before .before .before .before .before .before .before .before .before .before) .pre) .0) (omega (arith, ((c .before .before .before .before .before .before .before .before .before .before .before .before .before .before .before .before .before .before .before) .pre) .1, ((c .before .before .before .before .before .before .before .before .before .before .before .before .before .before .before .before .before .before .before) .pre) .2)) (sym (not-false _ ((c .before .before .before .before) .if1 .left)) ∙ ((c .before .before .before .before .before .before) .decide .ensures) .0) _ ((c .before .before) .write-run .result) (written .fits) (written .bounded) (written .front) (written .accepts)
 
 pub answer-with-spec : {M : Type 1} → statement M
 answer-with-spec =
     tie.close
     (tie.spec
-    fill-requires
+    prepare-for-requires
     kinds-of-requires
     decide-requires
     same-length
-    same-length-2
     returns
-    write-requires
+    write-run-requires
+    same-length-2
     same-length-3
-    same-length-4
-    same-length-5
     returns-2)
