@@ -1,3 +1,2 @@
-pub mod WayCases
 pub mod RowCases
 pub mod LayerCases

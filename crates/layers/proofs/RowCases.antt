@@ -1,47 +1,206 @@
 -- The ways through the functions of src/row.rt.
 --
--- open-normal .. open-emptying   == the returns of is_open
+-- apart-both, apart-one          == the returns of apart
+-- normal-shut, normal-open, buffering-open, emptying-open, emptying-shut == the returns of the functions that cut a set
+-- seen-none .. seen-same         == the returns of seen
+-- glance-start, glance-end       == the loop of glance
+-- Least, least-start, least-turn, least-end == the loop of least_of
+-- least-none, least-low, least-some == the returns of least_in
+-- visit-seen                     == what visit asks of the row it lowers into
+-- blank-said                     == the return of is_blank
 -- lesser-is, lesser-not          == the returns of lesser
 -- lower-not, lower-is            == the returns of lower
--- visit-shut, visit-lowers       == the returns of visit
--- Passing, passing-start .. passing-false    == the loop of pass
--- Changing, changing-start .. changing-false == the loop of change
--- close-none, close-ends, close-again        == the returns of close, and a turn of its loop
-use Prim.Native.Nat.{ℕ, suc, _+_, _*_, _≤_, _<_}
+use Prim.Native.Nat.{ℕ, suc, _+_, _*_, _^_, _≤_, _<_}
 use mathlib.Core.Path.{_≡_, refl, sym, ap, _∙_, subst}
-use mathlib.Core.Logic.{_⊎_, inl, inr}
+use mathlib.Core.Logic.{_⊎_, inl, inr, _↔_}
 use mathlib.Core.Bool.{Bool, true, false, not, cond}
 use mathlib.Core.List.{List}
 use native.Mathlib.Omega.{arith}
+use native.Mathlib.Decide.{ℕ-discrete, decLt}
 use native.Mathlib.Numerals.{add-one}
-use lib.ListN.{length, set}
-use lib.Dec.{ltb}
-use borrow.Author.Tests.{le-ltb, lt-ltb, ltb-true}
+use lib.ListN.{length, getD, set}
+use lib.Dec.{ltb, eqb}
+use borrow.Author.Tests.{le-ltb, lt-ltb, ltb-true, eqb-true}
 use Rattle.graphs.specs.Search.Laws.{not-both, true-or-false}
-use Rattle.fsbm.specs.Machine.{wellFormed, transitionAt, buffering}
-use Rattle.fsbm.specs.declared.machine.Machine.{Machine}
+use Rattle.stateset.specs.Set.{width, In, has, SetIs}
+use Rattle.stateset.specs.Set.Laws.{has-in, in?, in-lt, empty-in, lowest-in}
 use Rattle.fsbm.specs.declared.config.Mode.{Mode}
 use Rattle.fsbm.specs.declared.config.Mode.the-variants.{Normal, Buffering, Emptying}
-use Rattle.language.specs.NoWord.{passable}
+use Rattle.fsbm.specs.declared.machine.Machine.{Machine}
 use Rattle.fsbm.specs.Rules.{rules}
-use Rattle.layers.specs.Ways.{keyIn, opens, Next, HasKey, StateWays, Ways, Visited}
-use Rattle.layers.specs.Ways.Laws.{key-says, open-passable, leads-key, key-in-below}
-use Rattle.layers.specs.Costs.{at}
-use Rattle.layers.specs.Rows.{lesserOf, lowered, Lowered, Lowering, ByPass, ByChange, Closed}
-use Rattle.layers.specs.Rows.Laws.{pass-start, pass-skip, pass-none, pass-one, change-start, change-skip, change-one, closed-here, closed-more, pass-stays, pass-falls, change-stays, change-falls}
+use Rattle.images.specs.Graph.{setOf}
+use Rattle.targets.specs.Prepared.{Row}
+use Rattle.images.specs.Graph.{May}
+use Rattle.layers.specs.declared.row.Sum.{Sum}
+use Rattle.layers.specs.Costs.{none, at}
+use Rattle.layers.specs.Rows.{Given, lesserOf, lowered, Lowered, Apart, Cut, Glance, Seen, LeastOf}
 
-module _ (marks : List ℕ) (a b : ℕ) (t : Mode) where
-  pub open-normal : t ≡ Normal → (c : Bool) → c ≡ buffering marks a → not c ≡ opens marks a b t
-  unfolding opens
-  open-normal e c is = ap not is ∙ ap (opens marks a b) (sym e)
+-- Cut sets
 
-  pub open-buffering : t ≡ Buffering → (c : Bool) → c ≡ buffering marks b → not c ≡ opens marks a b t
-  unfolding opens
-  open-buffering e c is = ap not is ∙ ap (opens marks a b) (sym e)
+module _ (h a b r v : ℕ) (c : Bool) (is : c ≡ has h a) where
+  pub apart-both : c ≡ true → SetIs r v (λ q. In b q × (In h q → ⊥)) → Apart h a b r
+  apart-both t s q = (
+    λ i. let z = s .members q .0 i in (z .0, λ y. z .1 (y .1)),
+    λ i. s .members q .1 (i .0, λ y. i .1 (has-in h a .0 (sym is ∙ t), y)),
+  )
 
-  pub open-emptying : t ≡ Emptying → true ≡ opens marks a b t
-  unfolding opens
-  open-emptying e = ap (opens marks a b) (sym e)
+  pub apart-one : c ≡ false → Apart h a b b
+  apart-one f q = (λ i. (i, λ y. not-both (has-in h a .1 (y .0)) (sym is ∙ f)), λ i. i .0)
+
+module _ (g h a b r : ℕ) where
+  pub normal-shut : (c : Bool) → c ≡ has g a → c ≡ true → Cut g h Normal a b 0
+  normal-shut c is t q = (λ i. absurd (empty-in q i), λ i. absurd (i .1 .1 (has-in g a .0 (sym is ∙ t))))
+
+  pub normal-open : (c : Bool) → c ≡ has g a → c ≡ false → Apart h a b r → Cut g h Normal a b r
+  normal-open c is f s q = (λ i. let z = s q .0 i in (z .0, (z .1, λ y. not-both (has-in g a .1 y) (sym is ∙ f))), λ i. s q .1 (i .0, i .1 .0))
+
+  pub buffering-open : (r′ v : ℕ) → Apart h a b r → SetIs r′ v (λ q. In r q × (In g q → ⊥)) → Cut g h Buffering a b r′
+  buffering-open r′ v s d q = (
+    λ i. let y = d .members q .0 i in let z = s q .0 (y .0) in (z .0, (z .1, y .1)),
+    λ i. d .members q .1 (s q .1 (i .0, i .1 .0), i .1 .1),
+  )
+
+  pub emptying-open : (v : ℕ) (c : Bool) → c ≡ has h a → c ≡ true → SetIs r v (λ q. In b q × In h q) → Cut g h Emptying a b r
+  emptying-open v c is t s q = (λ i. let z = s .members q .0 i in (z .0, (has-in h a .0 (sym is ∙ t), z .1)), λ i. s .members q .1 (i .0, i .1 .1))
+
+  pub emptying-shut : (c : Bool) → c ≡ has h a → c ≡ false → Cut g h Emptying a b 0
+  emptying-shut c is f q = (λ i. absurd (empty-in q i), λ i. absurd (not-both (has-in h a .1 (i .1 .0)) (sym is ∙ f)))
+
+pub cut-as : (g h a b r : ℕ) (t s : Mode) → t ≡ s → Cut g h s a b r → Cut g h t a b r
+cut-as g h a b r t s e c = subst (λ (z : Mode). Cut g h z a b r) (sym e) c
+
+-- A row at a glance
+
+pub glance-start : (row : List ℕ) → Glance row 0 (record { live = 0; least = none; lows = 0 })
+glance-start row = record { live = λ q (l : q < 0). absurd (omega arith); least = λ q (l : q < 0). absurd (omega arith); lows = λ q i. absurd (empty-in q i) }
+
+pub glance-end : (row : List ℕ) (k n : ℕ) (s : Sum) → n ≤ k → Glance row k s → Glance row n s
+glance-end row k n s le g = record { live = λ q l. g .live q (omega arith); least = λ q l. g .least q (omega arith); lows = g .lows }
+
+module _ (s : Sum) (q v : ℕ) (small : q < 64) (row : List ℕ) (is : at row q ≡ v) (g : Glance row q s) where
+  -- one state more: those below q, and q
+  upto : (P : ℕ → Type 0) → ((p : ℕ) → p < q → P p) → P q → (p : ℕ) → p < q + 1 → P p
+  upto P before here p l = on (ℕ-discrete p q)
+    where
+      on : Dec (p ≡ q) → P p
+      on (yes e) = subst P (sym e) here
+      on (no n) = before p (omega arith)
+
+  pub seen-none : v ≡ none → s .least ≤ none → Glance row (q + 1) s
+  seen-none e le =
+      record {
+        live = upto (λ p. at row p < none → In (s .live) p) (g .live) (λ l. absurd (omega arith));
+        least = upto (λ p. s .least ≤ at row p) (g .least) (omega arith);
+        lows = g .lows;
+      }
+
+  module _ (live : ℕ) {w : ℕ} (added : SetIs live w (λ p. In (s .live) p ⊎ ((p ≡ q) × (p < width)))) where
+    lives : (p : ℕ) → p < q + 1 → at row p < none → In live p
+    lives = upto (λ p. at row p < none → In live p) (λ p l h. added .members p .1 (inl (g .live p l h))) (λ h. added .members q .1 (inr (refl, small)))
+
+    pub seen-less : v < s .least → (lows : ℕ) {w : ℕ} → SetIs lows w (λ p. (p ≡ q) × (p < width)) → Glance row (q + 1) (record { live = live; least = v; lows = lows })
+    seen-less l lows one =
+        record {
+          live = lives;
+          least = upto (λ p. v ≤ at row p) (λ p h. omega (arith, g .least p h)) (omega arith);
+          lows = λ p i. ap (at row) (one .members p .0 i .0) ∙ is;
+        }
+
+    pub seen-more : s .least < v → Glance row (q + 1) (record { live = live; least = s .least; lows = s .lows })
+    seen-more l = record { live = lives; least = upto (λ p. s .least ≤ at row p) (g .least) (omega arith); lows = g .lows }
+
+    pub seen-same : v ≡ s .least → (lows : ℕ) {w : ℕ} → SetIs lows w (λ p. In (s .lows) p ⊎ ((p ≡ q) × (p < width))) → Glance row (q + 1) (record { live = live; least = v; lows = lows })
+    seen-same e lows one =
+        record {
+          live = lives;
+          least = upto (λ p. v ≤ at row p) (λ p h. omega (arith, g .least p h)) (omega arith);
+          lows = λ p i. low p (one .members p .0 i);
+        }
+      where
+        low : (p : ℕ) → In (s .lows) p ⊎ ((p ≡ q) × (p < width)) → at row p ≡ v
+        low p (inl i) = g .lows p i ∙ sym e
+        low p (inr z) = ap (at row) (z .0) ∙ is
+
+-- The least number of a set: the rest is still to do
+
+pub record Least (row : List ℕ) (set rest least : ℕ) : Type 0 where
+  pub fits : rest < 2 ^ width
+  pub inside : (q : ℕ) → In rest q → In set q
+  pub small : least ≤ none
+  pub below : (q : ℕ) → In set q → (In rest q → ⊥) → least ≤ at row q
+  pub real : least < none → (q : ℕ) × In set q × (least ≡ at row q)
+
+module _ (row : List ℕ) (set : ℕ) where
+  pub least-start : set < 2 ^ width → Least row set set none
+  least-start fits =
+      record { fits = fits; inside = λ q i. i; small = omega arith; below = λ q i n. absurd (n i); real = λ (l : none < none). absurd (omega arith) }
+
+  pub least-turn : {rest a rest′ least r : ℕ} → Least row set rest least → In rest a → rest′ < 2 ^ width → ((p : ℕ) → In rest′ p ↔ (In rest p × (p ≡ a → ⊥)))
+      → (r ≤ at row a) × (r ≤ least) × ((r ≡ at row a) ⊎ (r ≡ least)) → Least row set rest′ r
+  least-turn {rest} {a} {rest′} {least} {r} s here fits others z =
+      record {
+        fits = fits;
+        inside = λ q i. s .inside q (others q .0 i .0);
+        small = omega (arith, s .small, z .1);
+        below = λ q i n. at-one q i n (ℕ-discrete q a);
+        real = λ l. from l (z .2);
+      }
+    where
+      at-one : (q : ℕ) → In set q → (In rest′ q → ⊥) → Dec (q ≡ a) → r ≤ at row q
+      at-one q i n (yes e) = let k : at row q ≡ at row a = ap (at row) e in omega (arith, z .0)
+      at-one q i n (no d) = omega (arith, z .1, s .below q i (λ h. n (others q .1 (h, d))))
+
+      from : r < none → (r ≡ at row a) ⊎ (r ≡ least) → (q : ℕ) × In set q × (r ≡ at row q)
+      from l (inl e) = (a, s .inside a here, e)
+      from l (inr e) = let (q, i, k) = s .real (omega arith) in (q, i, e ∙ k)
+
+  pub least-end : {rest least : ℕ} → Least row set rest least → rest ≡ 0 → LeastOf row set least
+  least-end s e = record { small = s .small; below = λ q i. s .below q i (λ h. empty-in q (subst (λ (n : ℕ). In n q) e h)); real = s .real }
+
+module _ (row : List ℕ) (s : Sum) (set some : ℕ) {w : ℕ} (both : SetIs some w (λ q. In set q × In (s .live) q)) (seen : Seen row set s) where
+  other : (q : ℕ) → In set q → (In some q → ⊥) → none ≤ at row q
+  other q i n = on (decLt (at row q) none)
+    where
+      on : Dec (at row q < none) → none ≤ at row q
+      on (yes l) = absurd (n (both .members q .1 (i, seen .live q i l)))
+      on (no l) = omega arith
+
+  pub least-none : some ≡ 0 → LeastOf row set none
+  least-none e =
+      record { small = omega arith; below = λ q i. other q i (λ h. empty-in q (subst (λ (n : ℕ). In n q) e h)); real = λ (l : none < none). absurd (omega arith) }
+
+  pub least-low : (low : ℕ) {v : ℕ} → SetIs low v (λ q. In some q × In (s .lows) q) → (low ≡ 0 → ⊥) → s .least ≤ none → LeastOf row set (s .least)
+  least-low low sh n le =
+      let i = lowest-in width low (omega arith) (sh .fits) in
+      let (a, b) = sh .members _ .0 i in
+      record { small = le; below = λ q h. seen .least q h; real = λ l. (_, both .members _ .0 a .0, sym (seen .lows _ b)) }
+
+  pub least-some : (r : ℕ) → LeastOf row some r → LeastOf row set r
+  least-some r f =
+      record { small = f .small; below = λ q i. on q i (in? some q); real = λ l. let (q, i, e) = f .real l in (q, both .members q .0 i .0, e) }
+    where
+      on : (q : ℕ) → In set q → Dec (In some q) → r ≤ at row q
+      on q i (yes h) = f .below q h
+      on q i (no n) = omega (arith, other q i n, f .small)
+
+-- the states that a transition leads to are the machine's
+glance-seen : (row : List ℕ) (k t : ℕ) (s : Sum) → ((q : ℕ) → In t q → q < k) → Glance row k s → Seen row t s
+glance-seen row k t s below g = record { live = λ q i l. g .live q (below q i) l; least = λ q i. g .least q (below q i); lows = g .lows }
+
+module _ (m : Machine) (list targets : List ℕ) (g h : ℕ) (given : Given m list targets g h) (t : Mode) (x a r : ℕ) (below : a < m .states) (row-of : Row m list targets x)
+    (cut : Cut g h t a (getD targets (setOf (m .states) x a) 0) r) where
+  cut-below : (q : ℕ) → In r q → q < m .states
+  cut-below q i =
+      let δ = row-of .listed a q below .0 (cut q .0 i .0) in
+      subst (λ (p : ℕ). p < m .states) (δ .to) (rules m list (given .good) .to-below (δ .number) (δ .listed))
+
+  pub visit-seen : (next : List ℕ) (s : Sum) → Glance next (m .states) s → Seen next r s
+  visit-seen next s g = glance-seen next (m .states) r s cut-below g
+
+pub blank-said : (row : List ℕ) (k : ℕ) (s : Sum) → Glance row k s → eqb (s .least) none ≡ true → (q : ℕ) → q < k → none ≤ at row q
+blank-said row k s g t q l = let e = eqb-true (s .least) none t in omega (arith, g .least q l)
+
+-- One number
 
 pub lesser-is : (v d : ℕ) → v + 1 < d → v + 1 ≡ lesserOf v d
 unfolding lesserOf
@@ -51,7 +210,7 @@ pub lesser-not : (v d : ℕ) → d ≤ v + 1 → d ≡ lesserOf v d
 unfolding lesserOf
 lesser-not v d h = rw (le-ltb (suc v) d (omega arith))
 
-module _ (row : List ℕ) (a v e : ℕ) (is : e ≡ lesserOf v (at row a)) where
+module _ (row : List ℕ) (a v e : ℕ) (is : e ≡ lesserOf v (at row a)) (small : at row a ≤ none) where
   lower-cases : (b : Bool) → ltb (suc v) (at row a) ≡ b → e ≡ cond b (suc v) (at row a)
   unfolding lesserOf
   lower-cases b h = is ∙ ap (λ (z : Bool). cond z (suc v) (at row a)) h
@@ -62,148 +221,12 @@ module _ (row : List ℕ) (a v e : ℕ) (is : e ≡ lesserOf v (at row a)) where
     where
       on : (ltb (suc v) (at row a) ≡ true) ⊎ (ltb (suc v) (at row a) ≡ false) → Lowered row a v row false
       on (inl t) = let l = ltb-true (suc v) (at row a) t in let k = lower-cases true t in absurd (omega arith)
-      on (inr f) = record { told = sym f; is = refl }
+      on (inr f) = record { told = sym f; is = refl; small = small }
 
   pub lower-is : (e ≡ at row a → ⊥) → Lowered row a v (set row a e) true
   unfolding lowered
   lower-is other = on (true-or-false (ltb (suc v) (at row a)))
     where
       on : (ltb (suc v) (at row a) ≡ true) ⊎ (ltb (suc v) (at row a) ≡ false) → Lowered row a v (set row a e) true
-      on (inl t) = record { told = sym t; is = ap (set row a) (lower-cases true t) }
+      on (inl t) = record { told = sym t; is = ap (set row a) (lower-cases true t); small = small }
       on (inr f) = absurd (other (lower-cases false f))
-
--- what a pass asks of the list, at a transition
-pub visit-fits : (m : Machine) (list : List ℕ) (k : ℕ) → wellFormed m list ≡ true → k < m .transitions
-    → (k < 4000) × (k * 3 + 2 < length list) × (transitionAt list k .from < 64) × (transitionAt list k .to < 64)
-visit-fits m list k good lt =
-    let r = rules m list good in
-    let s = r .states-fit in
-    let n = r .transitions-fit in
-    let f = r .from-below k lt in
-    let g = r .to-below k lt in
-    let l = r .list-fits in
-    (omega arith, omega arith, omega arith, omega arith)
-
-module _ (marks list : List ℕ) (t : Mode) (k : ℕ) (next row : List ℕ) (b : Bool) (is : b ≡ opens marks (transitionAt list k .from) (transitionAt list k .to) t) where
-  open-is : (m : Machine) (x : ℕ) → m .marks ≡ marks → HasKey m list (keyIn t x) k → b ≡ passable (m .marks) (transitionAt list k) t
-  open-is m x e h =
-      is ∙ ap (λ (z : List ℕ). opens z (transitionAt list k .from) (transitionAt list k .to) t) (sym e)
-      ∙ open-passable (m .marks) (transitionAt list k) t (key-says (m .marks) (transitionAt list k) t x h .1)
-
-  pub visit-shut : b ≡ false → Visited marks list t k next row row false
-  visit-shut shut = record { lowers = λ m x e h. pass-none row k (λ l. not-both (l .passes) (sym (open-is m x e h) ∙ shut)) }
-
-  pub visit-lowers : b ≡ true → (row′ : List ℕ) (r : Bool) → Lowered row (transitionAt list k .from) (at next (transitionAt list k .to)) row′ r → Visited marks list t k next row row′ r
-  visit-lowers free row′ r low =
-      record {
-        lowers = λ m x e h. pass-one row row′ k r
-            (record { listed = omega arith; letter = key-says (m .marks) (transitionAt list k) t x h .0; passes = sym (open-is m x e h) ∙ free }) low;
-      }
-
-module _ {m : Machine} {list : List ℕ} {mode : Mode} {x : ℕ} {next row₀ row₁ row₂ : List ℕ} {k : ℕ} {r : Bool} (b : Bool)
-    (f : Lowering (ByPass m list mode x next 0 k) row₀ row₁ r) (g : Lowering (ByPass m list mode x next k (k + 1)) row₁ row₂ b) where
-  pub pass-true : b ≡ true → {r′ : Bool} → r′ ≡ true → Lowering (ByPass m list mode x next 0 (k + 1)) row₀ row₂ r′
-  pass-true h e = rw e (pass-falls {k = k} (omega arith) f (subst (λ (z : Bool). Lowering (ByPass m list mode x next k (k + 1)) row₁ row₂ z) h g))
-
-  pub pass-false : b ≡ false → {r′ : Bool} → r′ ≡ r → Lowering (ByPass m list mode x next 0 (k + 1)) row₀ row₂ r′
-  pass-false h e = rw e (pass-stays {k = k} (omega arith) f (subst (λ (z : Bool). Lowering (ByPass m list mode x next k (k + 1)) row₁ row₂ z) h g))
-
-module _ {test : ℕ → Bool} {next row₀ row₁ row₂ : List ℕ} {k : ℕ} {r : Bool} (b : Bool)
-    (f : Lowering (ByChange test next 0 k) row₀ row₁ r) (g : Lowering (ByChange test next k (k + 1)) row₁ row₂ b) where
-  pub change-true : b ≡ true → {r′ : Bool} → r′ ≡ true → Lowering (ByChange test next 0 (k + 1)) row₀ row₂ r′
-  change-true h e = rw e (change-falls {k = k} (omega arith) f (subst (λ (z : Bool). Lowering (ByChange test next k (k + 1)) row₁ row₂ z) h g))
-
-  pub change-false : b ≡ false → {r′ : Bool} → r′ ≡ r → Lowering (ByChange test next 0 (k + 1)) row₀ row₂ r′
-  change-false h e = rw e (change-stays {k = k} (omega arith) f (subst (λ (z : Bool). Lowering (ByChange test next k (k + 1)) row₁ row₂ z) h g))
-
--- A pass before transition k: k is the next with the mode's key, and the row is lowered along those before it
-
-pub record Passing (m : Machine) (list : List ℕ) (t : Mode) (x : ℕ) (next row₀ row : List ℕ) (fell : Bool) (k : ℕ) : Type 0 where
-  pub done : ℕ
-  pub fits : done ≤ m .transitions
-  pub way : Next (HasKey m list (keyIn t x)) (m .transitions) done k
-  pub so-far : Lowering (ByPass m list t x next 0 done) row₀ row fell
-
-module _ (m : Machine) (list ways : List ℕ) (t : Mode) (x : ℕ) (next row₀ : List ℕ) (w : Ways m list ways) where
-  pub passing-start : x < 256 → (key : ℕ) → key ≡ keyIn t x → Passing m list t x next row₀ row₀ false (at ways key)
-  passing-start l key e =
-      record {
-        done = 0;
-        fits = omega arith;
-        way = subst (λ (z : ℕ). Next (HasKey m list (keyIn t x)) (m .transitions) 0 (at ways z)) (sym e) (w .first (keyIn t x) (key-in-below t x l));
-        so-far = pass-start row₀;
-      }
-
-  module _ (row : List ℕ) (fell : Bool) (k : ℕ) (p : Passing m list t x next row₀ row fell k) where
-    pub passing-end : m .transitions ≤ k → Lowering (ByPass m list t x next 0 (m .transitions)) row₀ row fell
-    passing-end le =
-        pass-stays {k = p .done} {n = m .transitions} (p .fits) (p .so-far)
-        (pass-skip row (p .done) (m .transitions) (λ j a l. p .way .skipped j a (omega (arith, l .listed)) (l .listed) (leads-key m list (m .transitions) t x j l)))
-
-    module _ (lt : k < m .transitions) where
-      passing-here : Lowering (ByPass m list t x next 0 k) row₀ row fell
-      passing-here =
-          pass-stays {k = p .done} {n = k} (p .way .on) (p .so-far)
-          (pass-skip row (p .done) k (λ j a l. p .way .skipped j a (l .listed) (omega (arith, l .listed)) (leads-key m list k t x j l)))
-
-      passing-on : Next (HasKey m list (keyIn t x)) (m .transitions) (k + 1) (at ways (578 + k))
-      passing-on = subst (λ (z : ℕ). Next (HasKey m list z) (m .transitions) (k + 1) (at ways (578 + k))) (p .way .found lt) (w .link k (omega arith) lt)
-
-      pub passing-less : k < at ways (578 + k)
-      passing-less = omega (arith, passing-on .on)
-
-      module _ (b : Bool) (row₂ : List ℕ) (v : Visited (m .marks) list t k next row row₂ b) where
-        pub passing-true : b ≡ true → {r : Bool} → r ≡ true → Passing m list t x next row₀ row₂ r (at ways (578 + k))
-        passing-true h e = record { done = k + 1; fits = omega arith; way = passing-on; so-far = pass-true b passing-here (v .lowers m x refl (p .way .found lt)) h e }
-
-        pub passing-false : b ≡ false → {r : Bool} → r ≡ fell → Passing m list t x next row₀ row₂ r (at ways (578 + k))
-        passing-false h e = record { done = k + 1; fits = omega arith; way = passing-on; so-far = pass-false b passing-here (v .lowers m x refl (p .way .found lt)) h e }
-
--- A change before state q, likewise
-
-pub record Changing (test : ℕ → Bool) (n : ℕ) (next row₀ row : List ℕ) (fell : Bool) (q : ℕ) : Type 0 where
-  pub done : ℕ
-  pub fits : done ≤ n
-  pub way : Next (λ j. test j ≡ true) n done q
-  pub so-far : Lowering (ByChange test next 0 done) row₀ row fell
-
-module _ (test : ℕ → Bool) (n head : ℕ) (ways next row₀ : List ℕ) (w : StateWays test n 0 head ways) where
-  pub changing-start : (i : ℕ) → i ≡ head → Changing test n next row₀ row₀ false (at ways i)
-  changing-start i e =
-      record { done = 0; fits = omega arith; way = subst (λ (z : ℕ). Next (λ j. test j ≡ true) n 0 (at ways z)) (sym e) (w .first); so-far = change-start row₀ }
-
-  module _ (row : List ℕ) (fell : Bool) (q : ℕ) (p : Changing test n next row₀ row fell q) where
-    pub changing-end : n ≤ q → Lowering (ByChange test next 0 n) row₀ row fell
-    changing-end le =
-        change-stays {k = p .done} {n = n} (p .fits) (p .so-far) (change-skip row (p .done) n (λ j a l is. p .way .skipped j a (omega arith) l is))
-
-    module _ (lt : q < n) where
-      changing-here : Lowering (ByChange test next 0 q) row₀ row fell
-      changing-here =
-          change-stays {k = p .done} {n = q} (p .way .on) (p .so-far) (change-skip row (p .done) q (λ j a l is. p .way .skipped j a l (omega arith) is))
-
-      changing-on : Next (λ j. test j ≡ true) n (q + 1) (at ways (514 + q))
-      changing-on = w .link q (omega arith) lt (p .way .found lt)
-
-      pub changing-less : q < at ways (514 + q)
-      changing-less = omega (arith, changing-on .on)
-
-      module _ (b : Bool) (row₂ : List ℕ) (v : Lowered row q (at next q) row₂ b) where
-        pub changing-true : b ≡ true → {r : Bool} → r ≡ true → Changing test n next row₀ row₂ r (at ways (514 + q))
-        changing-true h e = record { done = q + 1; fits = omega arith; way = changing-on; so-far = change-true b changing-here (change-one row row₂ q b (p .way .found lt) v) h e }
-
-        pub changing-false : b ≡ false → {r : Bool} → r ≡ fell → Changing test n next row₀ row₂ r (at ways (514 + q))
-        changing-false h e = record { done = q + 1; fits = omega arith; way = changing-on; so-far = change-false b changing-here (change-one row row₂ q b (p .way .found lt) v) h e }
-
-module _ (m : Machine) (list : List ℕ) (mode : Mode) (good : wellFormed m list ≡ true) (row row′ : List ℕ) (b : Bool) (f : Lowering (ByPass m list mode 0 row 0 (m .transitions)) row row′ b) where
-  pub close-ends : b ≡ false → Closed m list mode row row′
-  close-ends h = closed-here m list mode (rules m list good .to-below) row row′ (subst (λ (z : Bool). Lowering (ByPass m list mode 0 row 0 (m .transitions)) row row′ z) h f)
-
-  pub close-again : (out : List ℕ) → Closed m list mode row′ out → Closed m list mode row out
-  close-again out g = closed-more m list mode (rules m list good .to-below) row row′ out f g
-
--- no transition reads nothing in the mode
-pub close-none : (m : Machine) (list ways : List ℕ) (t : Mode) → wellFormed m list ≡ true → Ways m list ways → (row : List ℕ) (key : ℕ) → key ≡ keyIn t 0 → m .transitions ≤ at ways key
-    → Closed m list t row row
-close-none m list ways t good w row key e le =
-    close-ends m list t good row row false (passing-end m list ways t 0 row row w row false (at ways key) (passing-start m list ways t 0 row row w (omega arith) key e) le) refl

@@ -1,4 +1,3 @@
 pub mod Costs
 pub mod Rows
-pub mod Ways
 pub mod Layers

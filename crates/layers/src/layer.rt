@@ -1,38 +1,43 @@
-// Whole layers: rows of least numbers, from the rows of the layers after them.
+// Whole layers: rows of least numbers, from the rows of the layers after them. As in row, targets is a table of target sets, g the
+// set of the buffering states and h that of the matching states.
 ghost use Prim.Native.Nat.{ℕ, _+_, _≤_, _<_};
 ghost use mathlib.Core.Path.{_≡_};
 ghost use mathlib.Core.Bool.{Bool, true, false};
-ghost use Rattle.fsbm.specs.Machine.{wellFormed};
-ghost use Rattle.layers.specs.Layers.{blankRow, Seeded, FirstRow, EmptyingLayer, BufferingLayer, Round, ClosedPlace, PlaceLayer};
-ghost use Rattle.layers.specs.Ways.{Ways};
+ghost use mathlib.Core.List.{List};
+ghost use Rattle.stateset.specs.Set.{In};
+ghost use Rattle.fsbm.specs.declared.config.Mode.the-variants.{Normal, Buffering, Emptying};
+ghost use Rattle.targets.specs.Prepared.{Row};
+ghost use Rattle.layers.specs.Rows.{Given, Closed};
+ghost use Rattle.layers.specs.Layers.{blankRow, NoneBelow, Seeded, FirstRow, EmptyingLayer, BufferingLayer, Storing, Round, ClosedPlace, PlaceLayer};
 use crate::row;
+use crate::row::NONE;
 use fsbm::config::Mode;
 use fsbm::machine;
 use fsbm::machine::Machine;
 
 // The row of a layer. Where it is not live, it is blank.
 pub struct Layer {
-    pub row: [u16; 64],
+    pub row: [u32; 64],
     pub live: bool,
 }
 
-// The three rows of a place, the buffer empty. Where it is not live, they are blank.
+// The three rows of a place, the buffer empty. Where no copy ends there, that of emptying mode says none.
 pub struct Place {
-    pub normal: [u16; 64],
-    pub buffering: [u16; 64],
-    pub emptying: [u16; 64],
-    pub live: bool,
+    pub normal: [u32; 64],
+    pub buffering: [u32; 64],
+    pub emptying: [u32; 64],
+    pub ends: bool,
 }
 
 // A row that says none everywhere.
-pub fn blank() -> [u16; 64]
+pub fn blank() -> [u32; 64]
     ensures { λ r. ⌜ r ≡ blankRow ⌝ }
 {
-    [65535; 64]
+    [NONE; 64]
 }
 
 // The row of the end of the word, in normal mode: 0 at the final states, none elsewhere.
-fn seeds(m: Machine) -> [u16; 64]
+fn seeds(m: Machine) -> [u32; 64]
     requires { ⌜ m .states ≤ 64 ⌝ }
     ensures { λ r. ⌜ Seeded m (m .states) r ⌝ }
 {
@@ -47,19 +52,49 @@ fn seeds(m: Machine) -> [u16; 64]
     row
 }
 
+// Lowers a row of buffering mode along the transitions that read nothing.
+fn close_buffering(m: Machine, list: &[u16], targets: &[u64], g: u64, h: u64, row: &mut [u32; 64])
+    requires { ⌜ Given m (now list) (now targets) g h ⌝ }
+    ensures { λ r. ⌜ Closed m (now (list .entry)) (λ q. q < m .states) Buffering (now (row .entry)) (now (row .exit)) ⌝ }
+{
+    row::close(
+        m,
+        list,
+        targets,
+        g,
+        h,
+        Mode::Buffering,
+        stateset::full(m.states),
+        row,
+    );
+}
+
+// Lowers a row of emptying mode along the transitions that read nothing: they lead from matching states.
+fn close_emptying(m: Machine, list: &[u16], targets: &[u64], g: u64, h: u64, row: &mut [u32; 64])
+    requires { ⌜ Given m (now list) (now targets) g h ⌝ }
+    ensures { λ r. ⌜ Closed m (now (list .entry)) (λ q. q < m .states) Emptying (now (row .entry)) (now (row .exit)) ⌝ }
+{
+    row::close(m, list, targets, g, h, Mode::Emptying, h, row);
+}
+
 // The row of emptying mode where x is the first letter of both the input and the buffer, from the row after it is read.
-pub fn emptying_layer(m: Machine, list: &[u16], ways: &[u16], x: u16, next: &[u16; 64]) -> Layer
-    requires { ⌜ (wellFormed m (now list) ≡ true) × Ways m (now list) (now ways) × (x < 256) ⌝ }
+pub fn emptying_layer(
+    m: Machine,
+    list: &[u16],
+    targets: &[u64],
+    g: u64,
+    h: u64,
+    x: u16,
+    next: &[u32; 64],
+) -> Layer
+    requires { ⌜ Given m (now list) (now targets) g h × Row m (now list) (now targets) x ⌝ }
     ensures { λ r. ⌜ EmptyingLayer m (now (list .entry)) x (now (next .entry)) (r .row) × (r .live ≡ false → r .row ≡ blankRow) ⌝ }
 {
     let mut row = blank();
-    if x == 0 {
+    if !row::read(m, list, targets, g, h, Mode::Emptying, x, h, next, &mut row) {
         return Layer { row, live: false };
     }
-    if !row::pass(m, list, ways, Mode::Emptying, x, next, &mut row) {
-        return Layer { row, live: false };
-    }
-    row::close(m, list, ways, Mode::Emptying, &mut row);
+    close_emptying(m, list, targets, g, h, &mut row);
     Layer { row, live: true }
 }
 
@@ -68,65 +103,63 @@ pub fn emptying_layer(m: Machine, list: &[u16], ways: &[u16], x: u16, next: &[u1
 pub fn buffering_layer(
     m: Machine,
     list: &[u16],
-    ways: &[u16],
+    targets: &[u64],
+    g: u64,
+    h: u64,
     x: u16,
-    next: &[u16; 64],
-    emptied: &[u16; 64],
+    next: &[u32; 64],
+    emptied: &[u32; 64],
 ) -> Layer
-    requires { ⌜ (wellFormed m (now list) ≡ true) × Ways m (now list) (now ways) × (x < 256) ⌝ }
+    requires { ⌜ Given m (now list) (now targets) g h × Row m (now list) (now targets) x ⌝ }
     ensures { λ r. ⌜ BufferingLayer m (now (list .entry)) x (now (next .entry)) (now (emptied .entry)) (r .row) × (r .live ≡ false → r .row ≡ blankRow) ⌝ }
 {
     let mut row = blank();
-    let changed = row::change(m, ways, 8, emptied, &mut row);
-    if x == 0 {
-        row::close(m, list, ways, Mode::Buffering, &mut row);
-        return Layer { row, live: true };
-    }
-    let passed = row::pass(m, list, ways, Mode::Buffering, x, next, &mut row);
+    let all = stateset::full(m.states);
+    let changed = row::change(h, emptied, &mut row);
+    let passed = row::read(
+        m,
+        list,
+        targets,
+        g,
+        h,
+        Mode::Buffering,
+        x,
+        all,
+        next,
+        &mut row,
+    );
     if !changed {
         if !passed {
             return Layer { row, live: false };
         }
     }
-    row::close(m, list, ways, Mode::Buffering, &mut row);
-    Layer { row, live: true }
-}
-
-// The same where the row after the mode is changed is blank.
-pub fn storing_layer(m: Machine, list: &[u16], ways: &[u16], x: u16, next: &[u16; 64]) -> Layer
-    requires { ⌜ (wellFormed m (now list) ≡ true) × Ways m (now list) (now ways) × (x < 256) ⌝ }
-    ensures { λ r. ⌜ BufferingLayer m (now (list .entry)) x (now (next .entry)) blankRow (r .row) × (r .live ≡ false → r .row ≡ blankRow) ⌝ }
-{
-    let mut row = blank();
-    if x == 0 {
-        return Layer { row, live: false };
-    }
-    if !row::pass(m, list, ways, Mode::Buffering, x, next, &mut row) {
-        return Layer { row, live: false };
-    }
-    row::close(m, list, ways, Mode::Buffering, &mut row);
+    close_buffering(m, list, targets, g, h, &mut row);
     Layer { row, live: true }
 }
 
 // One round over the rows of a place: the moves that read nothing, then the changes of mode. It says whether a change lowered
-// anything.
+// anything. Normal mode goes on in the states of near, and begins a copy in those of starts.
 fn round(
     m: Machine,
     list: &[u16],
-    ways: &[u16],
-    normal: &mut [u16; 64],
-    buffering: &mut [u16; 64],
-    emptying: &mut [u16; 64],
+    targets: &[u64],
+    g: u64,
+    h: u64,
+    near: u64,
+    starts: u64,
+    normal: &mut [u32; 64],
+    buffering: &mut [u32; 64],
+    emptying: &mut [u32; 64],
 ) -> bool
-    requires { ⌜ (wellFormed m (now list) ≡ true) × Ways m (now list) (now ways) ⌝ }
-    ensures { λ r. ⌜ Round m (now (list .entry)) (now (normal .entry)) (now (buffering .entry)) (now (emptying .entry)) (now (normal .exit)) (now (buffering .exit)) (now (emptying .exit)) r ⌝ }
+    requires { ⌜ Given m (now list) (now targets) g h × ((q : ℕ) → In near q → q < m .states) ⌝ }
+    ensures { λ r. ⌜ Round m (now (list .entry)) near starts h (now (normal .entry)) (now (buffering .entry)) (now (emptying .entry)) (now (normal .exit)) (now (buffering .exit)) (now (emptying .exit)) r ⌝ }
 {
-    row::close(m, list, ways, Mode::Normal, normal);
-    row::close(m, list, ways, Mode::Buffering, buffering);
-    row::close(m, list, ways, Mode::Emptying, emptying);
-    let a = row::change(m, ways, 4, &*buffering, normal);
-    let b = row::change(m, ways, 8, &*emptying, buffering);
-    let c = row::change(m, ways, 8, &*normal, emptying);
+    row::close(m, list, targets, g, h, Mode::Normal, near, normal);
+    close_buffering(m, list, targets, g, h, buffering);
+    close_emptying(m, list, targets, g, h, emptying);
+    let a = row::change(starts, &*buffering, normal);
+    let b = row::change(h, &*emptying, buffering);
+    let c = row::change(h, &*normal, emptying);
     if a {
         return true;
     }
@@ -136,27 +169,65 @@ fn round(
     c
 }
 
+// Lowers the rows of normal and emptying mode at a place where no copy begins along the moves that read nothing.
+fn close_shut(
+    m: Machine,
+    list: &[u16],
+    targets: &[u64],
+    g: u64,
+    h: u64,
+    near: u64,
+    normal: &mut [u32; 64],
+    emptying: &mut [u32; 64],
+)
+    requires { ⌜ Given m (now list) (now targets) g h × ((q : ℕ) → In near q → q < m .states) ⌝ }
+    ensures { λ r. ⌜ ((b : List ℕ) → ClosedPlace m (now (list .entry)) near 0 h (now (normal .entry)) b (now (emptying .entry)) (now (normal .exit)) b (now (emptying .exit))) ⌝ }
+{
+    row::close(m, list, targets, g, h, Mode::Normal, near, normal);
+    row::change(h, &*normal, emptying);
+    close_emptying(m, list, targets, g, h, emptying);
+}
+
 // Lowers the three rows of a place along the moves that read nothing until none of them would lower a number.
 fn close_place(
     m: Machine,
     list: &[u16],
-    ways: &[u16],
-    normal: &mut [u16; 64],
-    buffering: &mut [u16; 64],
-    emptying: &mut [u16; 64],
+    targets: &[u64],
+    g: u64,
+    h: u64,
+    near: u64,
+    starts: u64,
+    normal: &mut [u32; 64],
+    buffering: &mut [u32; 64],
+    emptying: &mut [u32; 64],
 )
-    requires { ⌜ (wellFormed m (now list) ≡ true) × Ways m (now list) (now ways) ⌝ }
-    ensures { λ r. ⌜ ClosedPlace m (now (list .entry)) (now (normal .entry)) (now (buffering .entry)) (now (emptying .entry)) (now (normal .exit)) (now (buffering .exit)) (now (emptying .exit)) ⌝ }
+    requires { ⌜ Given m (now list) (now targets) g h × ((q : ℕ) → In near q → q < m .states) ⌝ }
+    ensures { λ r. ⌜ ClosedPlace m (now (list .entry)) near starts h (now (normal .entry)) (now (buffering .entry)) (now (emptying .entry)) (now (normal .exit)) (now (buffering .exit)) (now (emptying .exit)) ⌝ }
 {
+    if starts == 0 {
+        close_shut(m, list, targets, g, h, near, normal, emptying);
+        return;
+    }
     loop {
-        if !round(m, list, ways, normal, buffering, emptying) {
+        if !round(
+            m,
+            list,
+            targets,
+            g,
+            h,
+            near,
+            starts,
+            normal,
+            buffering,
+            emptying,
+        ) {
             return;
         }
     }
 }
 
 // The row that normal mode starts from: 0 at the final states where the word is read to its end, else none.
-fn first_row(m: Machine, last: bool) -> [u16; 64]
+fn first_row(m: Machine, last: bool) -> [u32; 64]
     requires { ⌜ m .states ≤ 64 ⌝ }
     ensures { λ r. ⌜ FirstRow m last r ⌝ }
 {
@@ -166,52 +237,81 @@ fn first_row(m: Machine, last: bool) -> [u16; 64]
     blank()
 }
 
+// The states that a copy is stored in at a place: all where one begins, else none.
+fn storing_states(starts: u64, states: usize) -> u64
+    ensures { λ r. ⌜ Storing starts states r ⌝ }
+{
+    if starts == 0 {
+        return 0;
+    }
+    stateset::full(states)
+}
+
 // The three rows of a place where x is the first letter of the input (0: there is none), from the rows after it is read. `last` says
-// that the word is read to its end.
+// that the word is read to its end. Normal mode goes on in the states of near; where none of them is buffering, no copy begins, and
+// nothing is said of the row of buffering mode.
 pub fn place_layer(
     m: Machine,
     list: &[u16],
-    ways: &[u16],
+    targets: &[u64],
+    g: u64,
+    h: u64,
+    near: u64,
     last: bool,
     x: u16,
-    onward: &[u16; 64],
-    storing: &[u16; 64],
+    onward: &[u32; 64],
+    storing: &[u32; 64],
 ) -> Place
-    requires { ⌜ (wellFormed m (now list) ≡ true) × Ways m (now list) (now ways) × (x < 256) ⌝ }
-    ensures { λ r. ⌜ PlaceLayer m (now (list .entry)) last x (now (onward .entry)) (now (storing .entry)) (r .normal) (r .buffering) (r .emptying)
-        × (r .live ≡ false → (r .normal ≡ blankRow) × (r .buffering ≡ blankRow) × (r .emptying ≡ blankRow)) ⌝ }
+    requires { ⌜ Given m (now list) (now targets) g h × Row m (now list) (now targets) x × ((q : ℕ) → In near q → q < m .states) ⌝ }
+    ensures { λ r. ⌜ PlaceLayer m (now (list .entry)) near last x (now (onward .entry)) (now (storing .entry)) (r .normal) (r .buffering) (r .emptying)
+        × (r .ends ≡ false → NoneBelow (m .states) (r .emptying)) ⌝ }
 {
+    let starts = stateset::intersection(near, g);
+    let all = storing_states(starts, m.states);
     let mut normal = first_row(m, last);
     let mut buffering = blank();
     let mut emptying = blank();
-    if x == 0 {
-        close_place(m, list, ways, &mut normal, &mut buffering, &mut emptying);
-        return Place {
-            normal,
-            buffering,
-            emptying,
-            live: true,
-        };
-    }
-    let passed = row::pass(m, list, ways, Mode::Normal, x, onward, &mut normal);
-    let stored = row::pass(m, list, ways, Mode::Buffering, x, storing, &mut buffering);
-    if !last {
-        if !passed {
-            if !stored {
-                return Place {
-                    normal,
-                    buffering,
-                    emptying,
-                    live: false,
-                };
-            }
-        }
-    }
-    close_place(m, list, ways, &mut normal, &mut buffering, &mut emptying);
+    row::read(
+        m,
+        list,
+        targets,
+        g,
+        h,
+        Mode::Normal,
+        x,
+        near,
+        onward,
+        &mut normal,
+    );
+    row::read(
+        m,
+        list,
+        targets,
+        g,
+        h,
+        Mode::Buffering,
+        x,
+        all,
+        storing,
+        &mut buffering,
+    );
+    close_place(
+        m,
+        list,
+        targets,
+        g,
+        h,
+        near,
+        starts,
+        &mut normal,
+        &mut buffering,
+        &mut emptying,
+    );
+    let ends = !row::is_blank(&emptying, m.states);
     Place {
         normal,
         buffering,
         emptying,
-        live: true,
+        ends,
     }
 }

@@ -3,7 +3,5 @@
 //
 // layer  whole layers of least numbers
 // row    rows of numbers, one a state: lowering along transitions and changes of mode
-// ways   an index of the transitions by letter and of the states by kind
 pub mod layer;
 pub mod row;
-pub mod ways;

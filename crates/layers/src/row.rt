@@ -1,30 +1,169 @@
-// Rows of numbers, one a state, lowered along transitions and changes of mode. 65535 says none.
+// Rows of numbers, one a state, lowered along transitions and changes of mode. Where the transitions lead stands in a table of target
+// sets: that of letter x and state a at 1 + x * states + a, the states with epsilon transitions at 0. g is the set of the buffering
+// states, h that of the matching states.
 ghost use Prim.Native.Nat.{ℕ, _+_, _*_, _≤_, _<_};
 ghost use mathlib.Core.Path.{_≡_};
 ghost use mathlib.Core.Bool.{Bool, true, false};
-ghost use lib.ListN.{length};
-ghost use Rattle.fsbm.specs.Machine.{wellFormed, transitionAt};
-ghost use Rattle.layers.specs.Rows.{Lowered, Lowering, ByPass, ByChange, Closed, ofKind, lesserOf};
-ghost use Rattle.layers.specs.Ways.{Ways, StateWays, Visited, kindHead, opens};
-use crate::ways;
+ghost use mathlib.Core.Logic.{_⊎_};
+ghost use mathlib.Core.List.{List};
+ghost use lib.ListN.{length, getD};
+ghost use Rattle.stateset.specs.Set.{In};
+ghost use Rattle.fsbm.specs.declared.config.Mode.the-variants.{Normal, Buffering, Emptying};
+ghost use Rattle.images.specs.Graph.{setOf};
+ghost use Rattle.targets.specs.Prepared.{Row};
+ghost use Rattle.layers.specs.Costs.{none, at};
+ghost use Rattle.layers.specs.Rows.{Given, Lowered, Lowering, Through, Reads, Beside, Only, Within, Cut, Apart, Glance, Seen, LeastOf, Closed, lesserOf};
 use fsbm::config::Mode;
-use fsbm::machine;
 use fsbm::machine::Machine;
 
-// Whether the marks let a transition from a to b with the mode's key be taken.
-fn is_open(marks: &[u8; 64], a: usize, b: usize, mode: Mode) -> bool
-    ensures { λ r. ⌜ r ≡ opens (now (marks .entry)) a b mode ⌝ }
+// The number that says that there is no way to acceptance.
+pub const NONE: u32 = 4294967295;
+
+// A row at a glance: the states that have a number, the least number, and the states that have it.
+struct Sum {
+    live: u64,
+    least: u32,
+    lows: u64,
+}
+
+// The states of a set that a transition from a may lead to where both are matching or not: none of h where a is one of h.
+fn apart(h: u64, a: usize, set: u64) -> u64
+    ensures { λ r. ⌜ Apart h a set r ⌝ }
+{
+    if stateset::member(h, a) {
+        return stateset::difference(set, h);
+    }
+    set
+}
+
+// The states of a set that a transition from a may lead to in normal mode.
+fn normal_cut(g: u64, h: u64, a: usize, set: u64) -> u64
+    ensures { λ r. ⌜ Cut g h Normal a set r ⌝ }
+{
+    if stateset::member(g, a) {
+        return 0;
+    }
+    apart(h, a, set)
+}
+
+// The same in buffering mode.
+fn buffering_cut(g: u64, h: u64, a: usize, set: u64) -> u64
+    ensures { λ r. ⌜ Cut g h Buffering a set r ⌝ }
+{
+    stateset::difference(apart(h, a, set), g)
+}
+
+// The same in emptying mode.
+fn emptying_cut(h: u64, a: usize, set: u64) -> u64
+    ensures { λ r. ⌜ Cut 0 h Emptying a set r ⌝ }
+{
+    if stateset::member(h, a) {
+        return stateset::intersection(set, h);
+    }
+    0
+}
+
+// The same in a mode.
+fn cut(g: u64, h: u64, mode: Mode, a: usize, set: u64) -> u64
+    ensures { λ r. ⌜ Cut g h mode a set r ⌝ }
 {
     match mode {
-        Mode::Normal => !machine::is_buffering(marks, a),
-        Mode::Buffering => !machine::is_buffering(marks, b),
-        Mode::Emptying => true,
+        Mode::Normal => normal_cut(g, h, a, set),
+        Mode::Buffering => buffering_cut(g, h, a, set),
+        Mode::Emptying => emptying_cut(h, a, set),
     }
 }
 
+// What is seen of a row once the number v of state q is seen too.
+fn seen(s: Sum, q: usize, v: u32) -> Sum
+    requires { ⌜ q < 64 ⌝ }
+    ensures { λ r. ⌜ ((row : List ℕ) → at row q ≡ v → Glance row q s → Glance row (q + 1) r) ⌝ }
+{
+    if v == NONE {
+        return s;
+    }
+    let live = stateset::add(s.live, q);
+    if v < s.least {
+        return Sum {
+            live,
+            least: v,
+            lows: stateset::single(q),
+        };
+    }
+    if s.least < v {
+        return Sum {
+            live,
+            least: s.least,
+            lows: s.lows,
+        };
+    }
+    Sum {
+        live,
+        least: v,
+        lows: stateset::add(s.lows, q),
+    }
+}
+
+// The row at a glance.
+fn glance(row: &[u32; 64], states: usize) -> Sum
+    requires { ⌜ states ≤ 64 ⌝ }
+    ensures { λ r. ⌜ Glance (now (row .entry)) states r ⌝ }
+{
+    let mut s = Sum {
+        live: 0,
+        least: NONE,
+        lows: 0,
+    };
+    let mut q: usize = 0;
+    while q < states {
+        s = seen(s, q, row[q]);
+        q += 1;
+    }
+    s
+}
+
+// The lesser of two numbers.
+fn smaller(a: u32, b: u32) -> u32
+    ensures { λ r. ⌜ (r ≤ a) × (r ≤ b) × ((r ≡ a) ⊎ (r ≡ b)) ⌝ }
+{
+    if a < b {
+        return a;
+    }
+    b
+}
+
+// The least number of the states of a set. Time: the members of the set, each once.
+fn least_of(row: &[u32; 64], set: u64) -> u32
+    ensures { λ r. ⌜ LeastOf (now (row .entry)) set r ⌝ }
+{
+    let mut least = NONE;
+    let mut rest = set;
+    while rest != 0 {
+        let a = stateset::lowest(rest) as usize;
+        rest = stateset::without_lowest(rest);
+        least = smaller(row[a], least);
+    }
+    least
+}
+
+// The same, from what the row shows at a glance where that tells it.
+fn least_in(row: &[u32; 64], s: Sum, set: u64) -> u32
+    requires { ⌜ Seen (now row) set s ⌝ }
+    ensures { λ r. ⌜ LeastOf (now (row .entry)) set r ⌝ }
+{
+    let some = stateset::intersection(set, s.live);
+    if some == 0 {
+        return NONE;
+    }
+    if stateset::intersection(some, s.lows) != 0 {
+        return s.least;
+    }
+    least_of(row, some)
+}
+
 // The lesser of v + 1 and d.
-fn lesser(v: u16, d: u16) -> u16
-    ensures { λ r. ⌜ r ≡ lesserOf v d ⌝ }
+fn lesser(v: u32, d: u32) -> u32
+    ensures { λ r. ⌜ (r ≡ lesserOf v d) × (d ≤ none) ⌝ }
 {
     if d <= v {
         return d;
@@ -37,7 +176,7 @@ fn lesser(v: u16, d: u16) -> u16
 }
 
 // Lowers the number of state a to v + 1 where that is less, and says whether it was.
-fn lower(row: &mut [u16; 64], a: usize, v: u16) -> bool
+fn lower(row: &mut [u32; 64], a: usize, v: u32) -> bool
     requires { ⌜ a < 64 ⌝ }
     ensures { λ r. ⌜ Lowered (now (row .entry)) a v (now (row .exit)) r ⌝ }
 {
@@ -50,83 +189,128 @@ fn lower(row: &mut [u16; 64], a: usize, v: u16) -> bool
     true
 }
 
-// One transition of a pass, one that has the mode's key.
+// Lowers the number of state a along its transitions that read x into the row `next`.
 fn visit(
-    marks: &[u8; 64],
+    m: Machine,
     list: &[u16],
+    targets: &[u64],
+    g: u64,
+    h: u64,
     mode: Mode,
-    k: usize,
-    next: &[u16; 64],
-    row: &mut [u16; 64],
+    x: u16,
+    next: &[u32; 64],
+    s: Sum,
+    a: usize,
+    row: &mut [u32; 64],
 ) -> bool
-    requires { ⌜ (k < 4000) × (k * 3 + 2 < length (now list)) × (transitionAt (now list) k .from < 64) × (transitionAt (now list) k .to < 64) ⌝ }
-    ensures { λ r. ⌜ Visited (now (marks .entry)) (now (list .entry)) mode k (now (next .entry)) (now (row .entry)) (now (row .exit)) r ⌝ }
+    requires { ⌜ Given m (now list) (now targets) g h × Row m (now list) (now targets) x × (a < m .states) × Glance (now next) (m .states) s ⌝ }
+    ensures { λ r. ⌜ Lowering (Only (Through m (now (list .entry)) mode x (now (next .entry))) a) (now (row .entry)) (now (row .exit)) r ⌝ }
 {
-    let a = list[k * 3] as usize;
-    let b = list[k * 3 + 2] as usize;
-    if !is_open(marks, a, b, mode) {
-        return false;
-    }
-    let v = next[b];
+    let set = targets[1 + x as usize * m.states + a];
+    let v = least_in(next, s, cut(g, h, mode, a, set));
     lower(row, a, v)
 }
 
-// Lowers a row along the transitions that read x into the row `next`, and says whether any number fell.
-// Time: the transitions that read x, each once.
-pub fn pass(
+// Lowers the numbers of the states of a set along transitions that read x into the row `next`, and says whether any number fell.
+// Time: the states of the set, each once; and for each, where its targets do not have the least number of all, its targets.
+fn pass(
     m: Machine,
     list: &[u16],
-    ways: &[u16],
+    targets: &[u64],
+    g: u64,
+    h: u64,
     mode: Mode,
     x: u16,
-    next: &[u16; 64],
-    row: &mut [u16; 64],
+    set: u64,
+    next: &[u32; 64],
+    row: &mut [u32; 64],
 ) -> bool
-    requires { ⌜ (wellFormed m (now list) ≡ true) × Ways m (now list) (now ways) × (x < 256) ⌝ }
-    ensures { λ r. ⌜ Lowering (ByPass m (now (list .entry)) mode x (now (next .entry)) 0 (m .transitions)) (now (row .entry)) (now (row .exit)) r ⌝ }
+    requires { ⌜ Given m (now list) (now targets) g h × Row m (now list) (now targets) x × ((q : ℕ) → In set q → q < m .states) ⌝ }
+    ensures { λ r. ⌜ Lowering (Within (Through m (now (list .entry)) mode x (now (next .entry))) set) (now (row .entry)) (now (row .exit)) r ⌝ }
 {
+    let s = glance(next, m.states);
     let mut fell = false;
-    let mut k = ways[ways::key_in(mode, x)] as usize;
-    while k < m.transitions {
-        if visit(&m.marks, list, mode, k, next, row) {
+    let mut rest = set;
+    while rest != 0 {
+        let a = stateset::lowest(rest) as usize;
+        rest = stateset::without_lowest(rest);
+        if visit(m, list, targets, g, h, mode, x, next, s, a, row) {
             fell = true;
         }
-        k = ways[578 + k] as usize;
     }
     fell
 }
 
-// Lowers a row along the transitions that read nothing until none of them would lower it.
-pub fn close(m: Machine, list: &[u16], ways: &[u16], mode: Mode, row: &mut [u16; 64])
-    requires { ⌜ (wellFormed m (now list) ≡ true) × Ways m (now list) (now ways) ⌝ }
-    ensures { λ r. ⌜ Closed m (now (list .entry)) mode (now (row .entry)) (now (row .exit)) ⌝ }
+// The same where x is a letter; where it is 0, nothing is read.
+pub fn read(
+    m: Machine,
+    list: &[u16],
+    targets: &[u64],
+    g: u64,
+    h: u64,
+    mode: Mode,
+    x: u16,
+    set: u64,
+    next: &[u32; 64],
+    row: &mut [u32; 64],
+) -> bool
+    requires { ⌜ Given m (now list) (now targets) g h × Row m (now list) (now targets) x × ((q : ℕ) → In set q → q < m .states) ⌝ }
+    ensures { λ r. ⌜ Lowering (Within (Reads m (now (list .entry)) mode x (now (next .entry))) set) (now (row .entry)) (now (row .exit)) r ⌝ }
 {
-    if m.transitions <= ways[ways::key_in(mode, 0)] as usize {
+    if x == 0 {
+        return false;
+    }
+    pass(m, list, targets, g, h, mode, x, set, next, row)
+}
+
+// Lowers the numbers of the states of a set along transitions that read nothing until none of them would lower one.
+pub fn close(
+    m: Machine,
+    list: &[u16],
+    targets: &[u64],
+    g: u64,
+    h: u64,
+    mode: Mode,
+    set: u64,
+    row: &mut [u32; 64],
+)
+    requires { ⌜ Given m (now list) (now targets) g h × ((q : ℕ) → In set q → q < m .states) ⌝ }
+    ensures { λ r. ⌜ Closed m (now (list .entry)) (In set) mode (now (row .entry)) (now (row .exit)) ⌝ }
+{
+    let may = stateset::intersection(set, targets[0]);
+    if may == 0 {
         return;
     }
     loop {
         let old = *row;
-        if !pass(m, list, ways, mode, 0, &old, row) {
+        if !pass(m, list, targets, g, h, mode, 0, may, &old, row) {
             return;
         }
     }
 }
 
-// Lowers a row along the changes of mode, at the states of a kind (4 buffering, else matching), into the row `next`, and says
-// whether any number fell.
-// Time: the states of the kind, each once.
-pub fn change(m: Machine, ways: &[u16], kind: u8, next: &[u16; 64], row: &mut [u16; 64]) -> bool
-    requires { ⌜ (m .states ≤ 64) × (578 ≤ length (now ways)) × StateWays (ofKind (m .marks) kind) (m .states) 0 (kindHead kind) (now ways) ⌝ }
-    ensures { λ r. ⌜ Lowering (ByChange (ofKind (m .marks) kind) (now (next .entry)) 0 (m .states)) (now (row .entry)) (now (row .exit)) r ⌝ }
+// Lowers the numbers of the states of a set along the changes of mode into the row `next`, and says whether any number fell.
+// Time: the states of the set, each once.
+pub fn change(set: u64, next: &[u32; 64], row: &mut [u32; 64]) -> bool
+    ensures { λ r. ⌜ Lowering (Within (Beside (now (next .entry))) set) (now (row .entry)) (now (row .exit)) r ⌝ }
 {
     let mut fell = false;
-    let mut q = ways[ways::kind_head(kind)] as usize;
-    while q < m.states {
-        let v = next[q];
-        if lower(row, q, v) {
+    let mut rest = set;
+    while rest != 0 {
+        let q = stateset::lowest(rest) as usize;
+        rest = stateset::without_lowest(rest);
+        if lower(row, q, next[q]) {
             fell = true;
         }
-        q = ways[514 + q] as usize;
     }
     fell
+}
+
+// Whether a row says none at every state.
+pub fn is_blank(row: &[u32; 64], states: usize) -> bool
+    requires { ⌜ states ≤ 64 ⌝ }
+    ensures { λ r. ⌜ (r ≡ true → (q : ℕ) → q < states → none ≤ at (now (row .entry)) q) ⌝ }
+{
+    let s = glance(row, states);
+    s.least == NONE
 }

@@ -44,13 +44,7 @@ fn answer_with(
 }
 
 // The answer on a machine whose table has at most 160 sets, at most 2,048, and any number: a small table is cleared sooner.
-fn answer_small(
-    m: Machine,
-    list: &[u16],
-    word: &[u8],
-    needed: usize,
-    run: &mut [u16],
-) -> Recognized
+fn answer_small(m: Machine, list: &[u16], word: &[u8], needed: usize, run: &mut [u16]) -> Recognized
     requires { ⌜ (tableAndWord longestRecognized m (now list) (now word) ≡ 0) × (needed ≡ runBound m (length (now word))) × (needed ≤ length (now run))
         × (setOf (m .states) (m .letters) (m .states) ≤ 160) ⌝ }
     ensures { λ r. ⌜ Recognition m (now (list .entry)) (now (word .entry)) (now (run .entry)) (now (run .exit)) r ⌝ }
@@ -74,13 +68,7 @@ fn answer_medium(
     answer_with(m, list, &mut targets, word, needed, run)
 }
 
-fn answer_large(
-    m: Machine,
-    list: &[u16],
-    word: &[u8],
-    needed: usize,
-    run: &mut [u16],
-) -> Recognized
+fn answer_large(m: Machine, list: &[u16], word: &[u8], needed: usize, run: &mut [u16]) -> Recognized
     requires { ⌜ (tableAndWord longestRecognized m (now list) (now word) ≡ 0) × (needed ≡ runBound m (length (now word))) × (needed ≤ length (now run))
         × (setOf (m .states) (m .letters) (m .states) ≤ 16065) ⌝ }
     ensures { λ r. ⌜ Recognition m (now (list .entry)) (now (word .entry)) (now (run .entry)) (now (run .exit)) r ⌝ }

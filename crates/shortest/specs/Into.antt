@@ -1,5 +1,6 @@
 -- The transitions that enter each state, as linked lists. The laws stand in specs/Into/Laws.antt.
 --
+-- Next P n k r           == r is the first number from k on, below n, with P; at least n where there is none
 -- Enters list q k        == transition k enters state q
 -- IntoFrom n list k links == the lists of the transitions from k on, of n
 -- Into m list links      == the lists of all
@@ -9,8 +10,12 @@ use mathlib.Core.List.{List}
 use lib.ListN.{length, getD}
 use Rattle.fsbm.specs.Machine.{transitionAt}
 use Rattle.fsbm.specs.declared.machine.Machine.{Machine}
-use Rattle.layers.specs.Ways.{Next}
 pub mod Laws
+
+pub record Next (P : ℕ → Type 0) (n k r : ℕ) : Type 0 where
+  pub on : k ≤ r
+  pub skipped : (j : ℕ) → k ≤ j → j < r → j < n → P j → ⊥
+  pub found : r < n → P r
 
 abbrev pub Enters : List ℕ → ℕ → ℕ → Type 0
 Enters list q k = transitionAt list k .to ≡ q

@@ -2,6 +2,8 @@
 --
 -- Cases D D′         == the kinds of moves, each with what it says of D and D′
 -- yields-cases       == every published move is one of them
+-- normal-leads, buffer-leads, empty-leads == a listed transition that the marks let be taken
+-- normal-apart, buffer-apart, empty-apart == what the marks say of a transition that leads
 -- silent-yields, normal-yields, buffer-yields, empty-yields == a transition that leads is a published move
 -- go-step            == a move, then a way to acceptance
 -- layer-least        == a relation between configurations and numbers that no move would lower has least numbers
@@ -24,7 +26,7 @@ use Rattle.fsbm.specs.declared.config.Mode.{Mode}
 use Rattle.fsbm.specs.declared.config.Mode.the-variants.{Normal, Buffering, Emptying}
 use Rattle.graphs.specs.Bools.{not-says, says-not, not-and-says, says-not-and}
 use Rattle.language.specs.NoWord.{passable}
-use Rattle.layers.specs.Costs.{none, Go, Best, Leads}
+use Rattle.layers.specs.Costs.{none, Near, Step, Go, Best, Leads}
 
 unfoldable pub Fits : List ℕ → List ℕ → Mode → Type 0
 Fits u v Normal = v ≡ []
@@ -36,13 +38,13 @@ Fit D = Fits (D .input) (D .buffer) (D .mode)
 
 module _ (m : Machine) (list : List ℕ) where
   pub data Cases (D D′ : Configuration) : Type 0 where
-    silent : (k : ℕ) → Leads m list (m .transitions) (D .mode) 0 k → transitionAt list k .from ≡ D .state
+    silent : (k : ℕ) → Leads m list (D .mode) 0 k → transitionAt list k .from ≡ D .state
         → D′ ≡ config (D .input) (transitionAt list k .to) (D .buffer) (D .mode) → Cases D D′
-    normal-letter : (k x : ℕ) (u : List ℕ) → Leads m list (m .transitions) Normal (suc x) k → transitionAt list k .from ≡ D .state → D .mode ≡ Normal → D .input ≡ suc x ∷ u
+    normal-letter : (k x : ℕ) (u : List ℕ) → Leads m list Normal (suc x) k → transitionAt list k .from ≡ D .state → D .mode ≡ Normal → D .input ≡ suc x ∷ u
         → D′ ≡ config u (transitionAt list k .to) [] Normal → Cases D D′
-    buffer-letter : (k x : ℕ) (u : List ℕ) → Leads m list (m .transitions) Buffering (suc x) k → transitionAt list k .from ≡ D .state → D .mode ≡ Buffering → D .input ≡ suc x ∷ u
+    buffer-letter : (k x : ℕ) (u : List ℕ) → Leads m list Buffering (suc x) k → transitionAt list k .from ≡ D .state → D .mode ≡ Buffering → D .input ≡ suc x ∷ u
         → D′ ≡ config u (transitionAt list k .to) (D .buffer ++ (suc x ∷ [])) Buffering → Cases D D′
-    empty-letter : (k x : ℕ) (u v : List ℕ) → Leads m list (m .transitions) Emptying (suc x) k → transitionAt list k .from ≡ D .state → D .mode ≡ Emptying → D .input ≡ suc x ∷ u
+    empty-letter : (k x : ℕ) (u v : List ℕ) → Leads m list Emptying (suc x) k → transitionAt list k .from ≡ D .state → D .mode ≡ Emptying → D .input ≡ suc x ∷ u
         → D .buffer ≡ suc x ∷ v → D′ ≡ config u (transitionAt list k .to) v Emptying → Cases D D′
     to-buffering : D .mode ≡ Normal → buffering (m .marks) (D .state) ≡ true → D′ ≡ config (D .input) (D .state) [] Buffering → Cases D D′
     to-emptying : D .mode ≡ Buffering → matching (m .marks) (D .state) ≡ true → D′ ≡ config (D .input) (D .state) (D .buffer) Emptying → Cases D D′
@@ -52,8 +54,8 @@ module _ (m : Machine) (list : List ℕ) where
   mark-at e test h = subst (λ (n : ℕ). test (m .marks) n ≡ true) e h
 
   -- a listed transition that the marks let be taken
-  normal-leads : {p x q : ℕ} (δ : Listed list (m .transitions) p x q) → ((matching (m .marks) p ≡ true) × (matching (m .marks) q ≡ true) → ⊥) → (buffering (m .marks) p ≡ true → ⊥)
-      → Leads m list (m .transitions) Normal x (δ .number)
+  pub normal-leads : {p x q : ℕ} (δ : Listed list (m .transitions) p x q) → ((matching (m .marks) p ≡ true) × (matching (m .marks) q ≡ true) → ⊥) → (buffering (m .marks) p ≡ true → ⊥)
+      → Leads m list Normal x (δ .number)
   normal-leads δ apart not-from =
       let tr = transitionAt list (δ .number) in
       record {
@@ -64,8 +66,8 @@ module _ (m : Machine) (list : List ℕ) where
             (says-not (buffering (m .marks) (tr .from)) (λ z. not-from (mark-at (δ .from) buffering z)));
       }
 
-  buffer-leads : {p x q : ℕ} (δ : Listed list (m .transitions) p x q) → ((matching (m .marks) p ≡ true) × (matching (m .marks) q ≡ true) → ⊥) → (buffering (m .marks) q ≡ true → ⊥)
-      → Leads m list (m .transitions) Buffering x (δ .number)
+  pub buffer-leads : {p x q : ℕ} (δ : Listed list (m .transitions) p x q) → ((matching (m .marks) p ≡ true) × (matching (m .marks) q ≡ true) → ⊥) → (buffering (m .marks) q ≡ true → ⊥)
+      → Leads m list Buffering x (δ .number)
   buffer-leads δ apart not-to =
       let tr = transitionAt list (δ .number) in
       record {
@@ -76,8 +78,8 @@ module _ (m : Machine) (list : List ℕ) where
             (says-not (buffering (m .marks) (tr .to)) (λ z. not-to (mark-at (δ .to) buffering z)));
       }
 
-  empty-leads : {p x q : ℕ} (δ : Listed list (m .transitions) p x q) → matching (m .marks) p ≡ true → matching (m .marks) q ≡ true
-      → Leads m list (m .transitions) Emptying x (δ .number)
+  pub empty-leads : {p x q : ℕ} (δ : Listed list (m .transitions) p x q) → matching (m .marks) p ≡ true → matching (m .marks) q ≡ true
+      → Leads m list Emptying x (δ .number)
   empty-leads δ a b =
       let tr = transitionAt list (δ .number) in
       record {
@@ -102,40 +104,42 @@ module _ (m : Machine) (list : List ℕ) where
 
   -- From a transition that leads to a move
 
-  the-listed : {t : Mode} {x k : ℕ} → Leads m list (m .transitions) t x k → Listed list (m .transitions) (transitionAt list k .from) x (transitionAt list k .to)
+  pub the-listed : {t : Mode} {x k : ℕ} → Leads m list t x k → Listed list (m .transitions) (transitionAt list k .from) x (transitionAt list k .to)
   the-listed {k = k} l = record { number = k; listed = l .listed; from = refl; letter = l .letter; to = refl }
 
-  normal-apart : {x k : ℕ} → Leads m list (m .transitions) Normal x k
+  pub normal-apart : {x k : ℕ} → Leads m list Normal x k
       → ((matching (m .marks) (transitionAt list k .from) ≡ true) × (matching (m .marks) (transitionAt list k .to) ≡ true) → ⊥) × (buffering (m .marks) (transitionAt list k .from) ≡ true → ⊥)
   normal-apart {k = k} l =
       let tr = transitionAt list k in
       let (a, b) = and-true (not (bothMatching (m .marks) tr)) (not (buffering (m .marks) (tr .from))) (l .passes) in
       (not-and-says (matching (m .marks) (tr .from)) (matching (m .marks) (tr .to)) a, not-says (buffering (m .marks) (tr .from)) b)
 
-  buffer-apart : {x k : ℕ} → Leads m list (m .transitions) Buffering x k
+  pub buffer-apart : {x k : ℕ} → Leads m list Buffering x k
       → ((matching (m .marks) (transitionAt list k .from) ≡ true) × (matching (m .marks) (transitionAt list k .to) ≡ true) → ⊥) × (buffering (m .marks) (transitionAt list k .to) ≡ true → ⊥)
   buffer-apart {k = k} l =
       let tr = transitionAt list k in
       let (a, b) = and-true (not (bothMatching (m .marks) tr)) (not (buffering (m .marks) (tr .to))) (l .passes) in
       (not-and-says (matching (m .marks) (tr .from)) (matching (m .marks) (tr .to)) a, not-says (buffering (m .marks) (tr .to)) b)
 
-  pub normal-yields : {x k : ℕ} (u : List ℕ) → Leads m list (m .transitions) Normal (suc x) k
+  pub empty-apart : {x k : ℕ} → Leads m list Emptying x k → (matching (m .marks) (transitionAt list k .from) ≡ true) × (matching (m .marks) (transitionAt list k .to) ≡ true)
+  empty-apart {k = k} l = let tr = transitionAt list k in and-true (matching (m .marks) (tr .from)) (matching (m .marks) (tr .to)) (l .passes)
+
+  pub normal-yields : {x k : ℕ} (u : List ℕ) → Leads m list Normal (suc x) k
       → Yields (fsbmOf m list) (config (suc x ∷ u) (transitionAt list k .from) [] Normal) (config u (transitionAt list k .to) [] Normal)
   normal-yields u l = let (a, b) = normal-apart l in normal (the-listed l) a b
 
-  pub buffer-yields : {x k : ℕ} (u v : List ℕ) → Leads m list (m .transitions) Buffering (suc x) k
+  pub buffer-yields : {x k : ℕ} (u v : List ℕ) → Leads m list Buffering (suc x) k
       → Yields (fsbmOf m list) (config (suc x ∷ u) (transitionAt list k .from) v Buffering) (config u (transitionAt list k .to) (v ++ (suc x ∷ [])) Buffering)
   buffer-yields u v l = let (a, b) = buffer-apart l in buffer (the-listed l) a b
 
-  pub empty-yields : {x k : ℕ} (u v : List ℕ) → Leads m list (m .transitions) Emptying (suc x) k
+  pub empty-yields : {x k : ℕ} (u v : List ℕ) → Leads m list Emptying (suc x) k
       → Yields (fsbmOf m list) (config (suc x ∷ u) (transitionAt list k .from) (suc x ∷ v) Emptying) (config u (transitionAt list k .to) v Emptying)
   empty-yields {k = k} u v l =
-      let tr = transitionAt list k in
-      let (a, b) = and-true (matching (m .marks) (tr .from)) (matching (m .marks) (tr .to)) (l .passes) in
+      let (a, b) = empty-apart l in
       empty (the-listed l) a b
 
   -- in normal mode the buffer is empty
-  pub silent-yields : (t : Mode) {k : ℕ} (u v : List ℕ) → (t ≡ Normal → v ≡ []) → Leads m list (m .transitions) t 0 k
+  pub silent-yields : (t : Mode) {k : ℕ} (u v : List ℕ) → (t ≡ Normal → v ≡ []) → Leads m list t 0 k
       → Yields (fsbmOf m list) (config u (transitionAt list k .from) v t) (config u (transitionAt list k .to) v t)
   silent-yields Normal {k} u v z l =
       let (a, b) = normal-apart l in
@@ -146,28 +150,29 @@ module _ (m : Machine) (list : List ℕ) where
       subst (λ (s : List ℕ). Yields (fsbmOf m list) (config u (transitionAt list k .from) v Buffering) (config u (transitionAt list k .to) s Buffering)) (append-nil v)
       (buffer (the-listed l) a b)
   silent-yields Emptying {k} u v z l =
-      let tr = transitionAt list k in
-      let (a, b) = and-true (matching (m .marks) (tr .from)) (matching (m .marks) (tr .to)) (l .passes) in
+      let (a, b) = empty-apart l in
       empty (the-listed l) a b
 
-  pub go-step : {C C′ : Configuration} {n : ℕ} → Yields (fsbmOf m list) C C′ → Go m list C′ n → Go m list C (suc n)
-  go-step y g = record { last = g .last; last-final = g .last-final; path = step y (g .path) }
+  pub go-step : {N : ℕ → ℕ} {C C′ : Configuration} {n : ℕ} → Yields (fsbmOf m list) C C′ → (C .mode ≡ Normal → Near N (C .input) (C .state)) → Go m list N C′ n → Go m list N C (suc n)
+  go-step y k g = record { last = g .last; last-final = g .last-final; path = step (record { move = y; kept = k }) (g .path) }
 
   -- Least numbers
 
-  module _ (L : Configuration → ℕ → Type 0) (goal : (q d : ℕ) → fsbmOf m list .F q → L (config [] q [] Normal) d → d ≡ 0)
-      (edge : (C C′ : Configuration) (d n : ℕ) → L C d → Cases C C′ → Go m list C′ n → ((d′ : ℕ) × L C′ d′ × (d ≤ suc d′)) ⊎ (d ≤ suc n)) where
-    path-least : {C E : Configuration} {n : ℕ} → Path Configuration (Yields (fsbmOf m list)) C E n → (q : ℕ) → fsbmOf m list .F q → E ≡ config [] q [] Normal → (d : ℕ) → L C d → d ≤ n
+  module _ (N : ℕ → ℕ) (L : Configuration → ℕ → Type 0) (goal : (q d : ℕ) → fsbmOf m list .F q → L (config [] q [] Normal) d → d ≡ 0)
+      (edge : (C C′ : Configuration) (d n : ℕ) → L C d → (C .mode ≡ Normal → Near N (C .input) (C .state)) → Cases C C′ → Go m list N C′ n
+      → ((d′ : ℕ) × L C′ d′ × (d ≤ suc d′)) ⊎ (d ≤ suc n)) where
+    path-least : {C E : Configuration} {n : ℕ} → Path Configuration (Step m list N) C E n → (q : ℕ) → fsbmOf m list .F q → E ≡ config [] q [] Normal → (d : ℕ) → L C d → d ≤ n
     path-least here q f e d l = let z = goal q d f (subst (λ (C : Configuration). L C d) e l) in omega arith
     path-least (step {u = C} {v = C′} {n = n} y p) q f e d l =
-        on (edge C C′ d n l (yields-cases y) (record { last = q; last-final = f; path = subst (λ (E : Configuration). Path Configuration (Yields (fsbmOf m list)) C′ E n) e p }))
+        on (edge C C′ d n l (y .kept) (yields-cases (y .move))
+        (record { last = q; last-final = f; path = subst (λ (E : Configuration). Path Configuration (Step m list N) C′ E n) e p }))
         (λ d′ l′. path-least p q f e d′ l′)
       where
         on : ((d′ : ℕ) × L C′ d′ × (d ≤ suc d′)) ⊎ (d ≤ suc n) → ((d′ : ℕ) → L C′ d′ → d′ ≤ n) → d ≤ suc n
         on (inl z) h = let k = h (z .0) (z .1) in let b = z .2 in omega arith
         on (inr z) h = z
 
-    pub layer-least : {C : Configuration} {n : ℕ} → Go m list C n → (d : ℕ) → L C d → d ≤ n
+    pub layer-least : {C : Configuration} {n : ℕ} → Go m list N C n → (d : ℕ) → L C d → d ≤ n
     layer-least g d l = path-least (g .path) (g .last) (g .last-final) refl d l
 
   -- Where there is no way
@@ -183,13 +188,13 @@ module _ (m : Machine) (list : List ℕ) where
   fit-step (begin-emptying {u = u} {v = v} is) h = let l = length-append v (h .0) in let e = ap length (h .1) in omega arith
   fit-step (back-to-normal {u = u} is) h = (u, refl)
 
-  fit-path : {C E : Configuration} {n : ℕ} → Path Configuration (Yields (fsbmOf m list)) C E n → Fit E → Fit C
+  fit-path : {N : ℕ → ℕ} {C E : Configuration} {n : ℕ} → Path Configuration (Step m list N) C E n → Fit E → Fit C
   fit-path here h = h
-  fit-path (step y p) h = fit-step y (fit-path p h)
+  fit-path (step y p) h = fit-step (y .move) (fit-path p h)
 
-  pub go-fit : {C : Configuration} {n : ℕ} → Go m list C n → Fit C
+  pub go-fit : {N : ℕ → ℕ} {C : Configuration} {n : ℕ} → Go m list N C n → Fit C
   unfolding Fits
   go-fit g = fit-path (g .path) refl
 
-  pub best-none : {C : Configuration} → ((n : ℕ) → Go m list C n → ⊥) → Best m list C none
+  pub best-none : {N : ℕ → ℕ} {C : Configuration} → ((n : ℕ) → Go m list N C n → ⊥) → Best m list N C none
   best-none never = record { realised = λ (l : none < none). absurd (omega arith); least = λ n g. absurd (never n g) }

@@ -1,29 +1,37 @@
 -- The laws of specs/Rows.antt.
 --
 -- weight-set        == the sum after one number is replaced
--- lowering-none, lowering-one, lowering-then == no candidate, one candidate, two lots of candidates one after the other
--- pass-start, pass-more, change-start, change-more == the candidates of a loop as it goes on
--- pass-bounded, change-marked == at its end no candidate would lower the row
--- pass-real         == the numbers stay those of ways to acceptance
--- closed-here, closed-more == a pass over the row itself: the last one, and one before others
-use Prim.Native.Nat.{ℕ, zero, suc, _+_, _≤_, _<_}
+-- lowering-none, lowering-one, lowering-as == no candidate, those of one state, candidates by another name
+-- lowering-stays, lowering-falls == two lots of candidates one after the other
+-- Sweeping, sweep-start .. sweep-end == a loop over the states of a set
+-- through-bounded, beside-marked == at its end no candidate would lower the row
+-- through-real, beside-real == the numbers stay those of ways to acceptance
+-- may-leads, leads-may == which transitions a mode may take, by the marks and by the sets of states
+-- visit-lowers      == the candidates of one state, from its set in the table
+-- closed-here, closed-more, closed-none == passes over the row itself: the last one, one before others, and where no state has a transition
+use Prim.Native.Nat.{ℕ, zero, suc, _+_, _^_, _≤_, _<_}
 use mathlib.Core.Path.{_≡_, refl, sym, ap, _∙_, subst}
-use mathlib.Core.Logic.{_⊎_, inl, inr}
+use mathlib.Core.Logic.{_⊎_, inl, inr, _↔_}
 use mathlib.Core.Bool.{Bool, true, false, false≢true}
 use mathlib.Core.List.{List, [], _∷_}
 use native.Mathlib.Omega.{arith}
 use native.Mathlib.Decide.{ℕ-discrete, decLt}
-use lib.ListN.{length, set, length-set, List·getD-eq-default}
+use lib.ListN.{length, getD, set, length-set, List·getD-eq-default}
 use lib.Seq.{getD-set-same, getD-set-other}
 use borrow.Author.Tests.{ltb-true, ltb-false}
-use Rattle.fsbm.specs.Machine.{transitionAt}
-use Rattle.fsbm.specs.Published.{fsbmOf, Configuration, config, Yields}
+use Rattle.stateset.specs.Set.{width, In}
+use Rattle.stateset.specs.Set.Laws.{empty-in}
+use Rattle.fsbm.specs.Machine.{transitionAt, buffering, matching}
+use Rattle.fsbm.specs.Published.{Listed, fsbmOf, Configuration, config, Yields}
 use Rattle.fsbm.specs.declared.machine.Machine.{Machine}
 use Rattle.fsbm.specs.declared.config.Mode.{Mode}
-use Rattle.fsbm.specs.declared.config.Mode.the-variants.{Normal}
-use Rattle.layers.specs.Costs.{none, Go, at, Leads, Bounded, Marked, RowReal}
-use Rattle.layers.specs.Costs.Laws.{silent-yields, go-step}
-use Rattle.layers.specs.Rows.{weight, lowered, Lowered, Lowering, ByPass, ByChange, Closed}
+use Rattle.fsbm.specs.declared.config.Mode.the-variants.{Normal, Buffering, Emptying}
+use Rattle.images.specs.Graph.{setOf}
+use Rattle.targets.specs.Prepared.{Row}
+use Rattle.images.specs.Graph.{May}
+use Rattle.layers.specs.Costs.{none, Near, Go, at, Leads, Bounded, Marked, RowReal}
+use Rattle.layers.specs.Costs.Laws.{silent-yields, go-step, normal-leads, buffer-leads, empty-leads, normal-apart, buffer-apart, empty-apart, the-listed}
+use Rattle.layers.specs.Rows.{Given, weight, lowered, Lowered, Lowering, Through, Beside, Only, Within, Swept, Reads, Cut, LeastOf, Closed}
 
 weight-set : (row : List ℕ) (a v : ℕ) → a < length row → weight (set row a v) + at row a ≡ weight row + v
 unfolding weight
@@ -52,7 +60,8 @@ module _ {C : ℕ → ℕ → Type 0} where
         less = λ e. absurd (false≢true e);
       }
 
-  pub lowering-one : (row row′ : List ℕ) (a v : ℕ) (r : Bool) → C a (suc v) → ((q w : ℕ) → C q w → (q ≡ a) × (w ≡ suc v)) → Lowered row a v row′ r
+  -- v + 1 is the least candidate of a, and no other state has one
+  pub lowering-one : (row row′ : List ℕ) (a v : ℕ) (r : Bool) → (v < none → C a (suc v)) → ((q w : ℕ) → C q w → (q ≡ a) × (suc v ≤ w)) → Lowered row a v row′ r
       → Lowering C row row′ r
   unfolding lowered
   lowering-one row row′ a v false is only h =
@@ -92,7 +101,7 @@ module _ {C : ℕ → ℕ → Type 0} where
       })
     where
       from : at (set row a (suc v)) a ≡ suc v → (q : ℕ) → Dec (q ≡ a) → (at (set row a (suc v)) q ≡ at row q) ⊎ C q (at (set row a (suc v)) q)
-      from here q (yes e) = inr (rw (e, here) is)
+      from here q (yes e) = inr (rw (e, here) (is (omega (arith, ltb-true (suc v) (at row a) (sym (h .told)), h .small))))
       from here q (no n) = inl (getD-set-other row a q (suc v) 0 n)
 
       at-one : at (set row a (suc v)) a ≡ suc v → (q w : ℕ) → C q w → at (set row a (suc v)) q ≤ w
@@ -145,153 +154,208 @@ module _ {C₁ C₂ C : ℕ → ℕ → Type 0} (left : (q v : ℕ) → C₁ q v
         less = λ z. omega (arith, f .fewer, g .less refl);
       }
 
--- The loop over transitions
+-- The same candidates by another name
 
-leads-up : {m : Machine} {list : List ℕ} {t : Mode} {x n n′ k : ℕ} → n ≤ n′ → Leads m list n t x k → Leads m list n′ t x k
-leads-up le l = record { listed = omega (arith, l .listed); letter = l .letter; passes = l .passes }
+pub lowering-as : {C D : ℕ → ℕ → Type 0} {row row′ : List ℕ} {r : Bool} → ((q v : ℕ) → C q v → D q v) → ((q v : ℕ) → D q v → C q v) → Lowering C row row′ r → Lowering D row row′ r
+lowering-as {C} {D} {row} {row′} to from f =
+    record { size = f .size; origin = λ q. at-one q (f .origin q); settled = λ q v d. f .settled q v (from q v d); lower = f .lower; fewer = f .fewer; same = f .same; less = f .less }
+  where
+    at-one : (q : ℕ) → (at row′ q ≡ at row q) ⊎ C q (at row′ q) → (at row′ q ≡ at row q) ⊎ D q (at row′ q)
+    at-one q (inl e) = inl e
+    at-one q (inr c) = inr (to q (at row′ q) c)
 
-module _ {m : Machine} {list : List ℕ} {t : Mode} {x : ℕ} {next : List ℕ} where
-  pub pass-start : (row : List ℕ) → Lowering (ByPass m list t x next 0 0) row row false
-  pass-start row = lowering-none row (λ q v (c : ByPass m list t x next 0 0 q v). omega (arith, c .leads .listed))
+-- A loop over the states of a set: the rest is still to do
 
-  -- no transition from j on leads
-  pub pass-skip : (row : List ℕ) (j n : ℕ) → ((k : ℕ) → j ≤ k → Leads m list n t x k → ⊥) → Lowering (ByPass m list t x next j n) row row false
-  pass-skip row j n never = lowering-none row (λ q v c. never (c .number) (c .from-on) (c .leads))
+pub record Sweeping (C : ℕ → ℕ → Type 0) (set rest : ℕ) (row₀ row : List ℕ) (fell : Bool) : Type 0 where
+  pub fits : rest < 2 ^ width
+  pub inside : (q : ℕ) → In rest q → In set q
+  pub so-far : Lowering (Swept C set rest) row₀ row fell
 
-  pub pass-none : (row : List ℕ) (k : ℕ) → (Leads m list (k + 1) t x k → ⊥) → Lowering (ByPass m list t x next k (k + 1)) row row false
-  pass-none row k never = lowering-none row (λ q v c. never (subst (λ (j : ℕ). Leads m list (k + 1) t x j) (here q v c) (c .leads)))
-    where
-      here : (q v : ℕ) (c : ByPass m list t x next k (k + 1) q v) → c .number ≡ k
-      here q v c = omega (arith, c .from-on, c .leads .listed)
+module _ {C : ℕ → ℕ → Type 0} {set : ℕ} where
+  pub sweep-start : (row : List ℕ) → set < 2 ^ width → Sweeping C set set row row false
+  sweep-start row fits = record { fits = fits; inside = λ q h. h; so-far = lowering-none row (λ q v c. c .done (c .inside)) }
 
-  pub pass-one : (row row′ : List ℕ) (k : ℕ) (r : Bool) → Leads m list (k + 1) t x k
-      → Lowered row (transitionAt list k .from) (at next (transitionAt list k .to)) row′ r → Lowering (ByPass m list t x next k (k + 1)) row row′ r
-  pass-one row row′ k r leads h =
-      lowering-one row row′ (transitionAt list k .from) (at next (transitionAt list k .to)) r
-      (record { number = k; from-on = omega arith; leads = leads; from = refl; value = refl })
-      (λ q w c. (sym (c .from) ∙ ap (λ (j : ℕ). transitionAt list j .from) (here q w c), c .value ∙ ap (λ (j : ℕ). suc (at next (transitionAt list j .to))) (here q w c))) h
-    where
-      here : (q v : ℕ) (c : ByPass m list t x next k (k + 1) q v) → c .number ≡ k
-      here q v c = omega (arith, c .from-on, c .leads .listed)
+  pub sweep-end : {rest : ℕ} {row₀ row : List ℕ} {fell : Bool} → rest ≡ 0 → Sweeping C set rest row₀ row fell → Lowering (Within C set) row₀ row fell
+  sweep-end e s =
+      lowering-as (λ q v c. record { inside = c .inside; is = c .is })
+      (λ q v c. record { inside = c .inside; done = λ h. empty-in q (subst (λ (n : ℕ). In n q) e h); is = c .is }) (s .so-far)
 
-  module _ {k n : ℕ} (le : k ≤ n) where
-    pass-left : (q v : ℕ) → ByPass m list t x next 0 k q v → ByPass m list t x next 0 n q v
-    pass-left q v c = record { number = c .number; from-on = omega arith; leads = leads-up le (c .leads); from = c .from; value = c .value }
+  module _ {rest a rest′ : ℕ} {row₀ row : List ℕ} {fell : Bool} (s : Sweeping C set rest row₀ row fell) (here : In rest a) (fits : rest′ < 2 ^ width)
+      (others : (p : ℕ) → In rest′ p ↔ (In rest p × (p ≡ a → ⊥))) where
+    left : (q v : ℕ) → Swept C set rest q v → Swept C set rest′ q v
+    left q v c = record { inside = c .inside; done = λ h. c .done (others q .0 h .0); is = c .is }
 
-    pass-right : (q v : ℕ) → ByPass m list t x next k n q v → ByPass m list t x next 0 n q v
-    pass-right q v c = record { number = c .number; from-on = omega arith; leads = c .leads; from = c .from; value = c .value }
+    right : (q v : ℕ) → Only C a q v → Swept C set rest′ q v
+    right q v c = record { inside = subst (In set) (sym (c .here)) (s .inside a here); done = λ h. others q .0 h .1 (c .here); is = c .is }
 
-    pass-either : (q v : ℕ) → ByPass m list t x next 0 n q v → ByPass m list t x next 0 k q v ⊎ ByPass m list t x next k n q v
-    pass-either q v c = on (decLt (c .number) k)
+    either : (q v : ℕ) → Swept C set rest′ q v → Swept C set rest q v ⊎ Only C a q v
+    either q v c = on (ℕ-discrete q a)
       where
-        on : Dec (c .number < k) → ByPass m list t x next 0 k q v ⊎ ByPass m list t x next k n q v
-        on (yes l) = inl (record { number = c .number; from-on = omega arith; leads = record { listed = l; letter = c .leads .letter; passes = c .leads .passes }; from = c .from; value = c .value })
-        on (no l) = inr (record { number = c .number; from-on = omega arith; leads = c .leads; from = c .from; value = c .value })
+        on : Dec (q ≡ a) → Swept C set rest q v ⊎ Only C a q v
+        on (yes e) = inr (record { here = e; is = c .is })
+        on (no n) = inl (record { inside = c .inside; done = λ h. c .done (others q .1 (h, n)); is = c .is })
 
-    pub pass-stays : {row row₁ row₂ : List ℕ} {r : Bool} → Lowering (ByPass m list t x next 0 k) row row₁ r → Lowering (ByPass m list t x next k n) row₁ row₂ false
-        → Lowering (ByPass m list t x next 0 n) row row₂ r
-    pass-stays = lowering-stays pass-left pass-right pass-either
+    pub sweep-falls : {row′ : List ℕ} {b : Bool} → Lowering (Only C a) row row′ b → b ≡ true → {r : Bool} → r ≡ true → Sweeping C set rest′ row₀ row′ r
+    sweep-falls {row′} g t e =
+        rw e
+        (record {
+          fits = fits;
+          inside = λ q h. s .inside q (others q .0 h .0);
+          so-far = lowering-falls left right either (s .so-far) (subst (λ (z : Bool). Lowering (Only C a) row row′ z) t g);
+        })
 
-    pub pass-falls : {row row₁ row₂ : List ℕ} {r : Bool} → Lowering (ByPass m list t x next 0 k) row row₁ r → Lowering (ByPass m list t x next k n) row₁ row₂ true
-        → Lowering (ByPass m list t x next 0 n) row row₂ true
-    pass-falls = lowering-falls pass-left pass-right pass-either
+    pub sweep-stays : {row′ : List ℕ} {b : Bool} → Lowering (Only C a) row row′ b → b ≡ false → {r : Bool} → r ≡ fell → Sweeping C set rest′ row₀ row′ r
+    sweep-stays {row′} g f e =
+        rw e
+        (record {
+          fits = fits;
+          inside = λ q h. s .inside q (others q .0 h .0);
+          so-far = lowering-stays left right either (s .so-far) (subst (λ (z : Bool). Lowering (Only C a) row row′ z) f g);
+        })
 
-  pub pass-bounded : {row row′ : List ℕ} {r : Bool} {n : ℕ} → Lowering (ByPass m list t x next 0 n) row row′ r → Bounded m list n t x row′ next
-  pass-bounded f k l = f .settled (transitionAt list k .from) (suc (at next (transitionAt list k .to))) (record { number = k; from-on = omega arith; leads = l; from = refl; value = refl })
+-- Along transitions
+
+module _ {m : Machine} {list : List ℕ} {t : Mode} {x : ℕ} {next : List ℕ} {set : ℕ} where
+  pub through-bounded : {row row′ : List ℕ} {r : Bool} → Lowering (Within (Through m list t x next) set) row row′ r → Bounded m list (In set) t x row′ next
+  through-bounded f k l h = f .settled (transitionAt list k .from) (suc (at next (transitionAt list k .to))) (record { inside = h; is = record { number = k; leads = l; from = refl; value = refl } })
 
   -- where the transitions are moves from one row's configurations to the other's
-  pub pass-real : {row row′ : List ℕ} {r : Bool} {n : ℕ} (F G : ℕ → Configuration)
-      → ((k : ℕ) → Leads m list n t x k → (transitionAt list k .to < m .states) × Yields (fsbmOf m list) (F (transitionAt list k .from)) (G (transitionAt list k .to)))
-      → ((q : ℕ) → q < m .states → at next q < none → Go m list (G q) (at next q))
-      → ((q : ℕ) → q < m .states → at row q < none → Go m list (F q) (at row q))
-      → Lowering (ByPass m list t x next 0 n) row row′ r
-      → (q : ℕ) → q < m .states → at row′ q < none → Go m list (F q) (at row′ q)
-  pass-real {row = row} {row′ = row′} {n = n} F G moves real-next real f q lt l = on (f .origin q)
+  pub through-real : {N : ℕ → ℕ} {row row′ : List ℕ} {r : Bool} (F G : ℕ → Configuration)
+      → ((k : ℕ) → Leads m list t x k → (transitionAt list k .to < m .states) × Yields (fsbmOf m list) (F (transitionAt list k .from)) (G (transitionAt list k .to)))
+      → ((q : ℕ) → In set q → F q .mode ≡ Normal → Near N (F q .input) (F q .state))
+      → ((q : ℕ) → q < m .states → at next q < none → Go m list N (G q) (at next q))
+      → ((q : ℕ) → q < m .states → at row q < none → Go m list N (F q) (at row q))
+      → Lowering (Within (Through m list t x next) set) row row′ r
+      → (q : ℕ) → q < m .states → at row′ q < none → Go m list N (F q) (at row′ q)
+  through-real {N} {row = row} {row′ = row′} F G moves kept real-next real f q lt l = on (f .origin q)
     where
-      on : (at row′ q ≡ at row q) ⊎ ByPass m list t x next 0 n q (at row′ q) → Go m list (F q) (at row′ q)
+      on : (at row′ q ≡ at row q) ⊎ Within (Through m list t x next) set q (at row′ q) → Go m list N (F q) (at row′ q)
       on (inl e) = rw e (real q lt (omega arith))
       on (inr c) =
-          let k = c .number in
-          let (to-there, y) = moves k (c .leads) in
-          let e = c .value in
-          rw e (subst (λ (p : ℕ). Go m list (F p) (suc (at next (transitionAt list k .to)))) (c .from) (go-step m list y (real-next (transitionAt list k .to) to-there (omega arith))))
+          let k = c .is .number in
+          let (to-there, y) = moves k (c .is .leads) in
+          let e = c .is .value in
+          let z = c .is .from in
+          let y′ : Yields (fsbmOf m list) (F q) (G (transitionAt list k .to)) = subst (λ (p : ℕ). Yields (fsbmOf m list) (F p) (G (transitionAt list k .to))) z y in
+          rw e (go-step m list y′ (kept q (c .inside)) (real-next (transitionAt list k .to) to-there (omega arith)))
 
--- The loop over states
+  -- those that read a letter
+  pub reads-through : {row row′ : List ℕ} {r : Bool} → 0 < x → Lowering (Within (Reads m list t x next) set) row row′ r → Lowering (Within (Through m list t x next) set) row row′ r
+  reads-through pos f = lowering-as (λ q v c. record { inside = c .inside; is = c .is .through }) (λ q v c. record { inside = c .inside; is = record { some = pos; through = c .is } }) f
 
-module _ {test : ℕ → Bool} {next : List ℕ} where
-  pub change-start : (row : List ℕ) → Lowering (ByChange test next 0 0) row row false
-  change-start row = lowering-none row (λ q v (c : ByChange test next 0 0 q v). omega (arith, c .below))
+  pub through-reads : {row row′ : List ℕ} {r : Bool} → 0 < x → Lowering (Within (Through m list t x next) set) row row′ r → Lowering (Within (Reads m list t x next) set) row row′ r
+  through-reads pos f = lowering-as (λ q v c. record { inside = c .inside; is = record { some = pos; through = c .is } }) (λ q v c. record { inside = c .inside; is = c .is .through }) f
 
-  -- no state from j on is of the kind
-  pub change-skip : (row : List ℕ) (j n : ℕ) → ((q : ℕ) → j ≤ q → q < n → test q ≡ true → ⊥) → Lowering (ByChange test next j n) row row false
-  change-skip row j n never = lowering-none row (λ q v c. never q (c .from-on) (c .below) (c .kind))
+  pub reads-none : (row : List ℕ) → x ≡ 0 → Lowering (Within (Reads m list t x next) set) row row false
+  reads-none row z = lowering-none row (λ q v c. let pos = c .is .some in absurd (omega arith))
 
-  pub change-one : (row row′ : List ℕ) (k : ℕ) (r : Bool) → test k ≡ true → Lowered row k (at next k) row′ r → Lowering (ByChange test next k (k + 1)) row row′ r
-  change-one row row′ k r is h =
-      lowering-one row row′ k (at next k) r (record { from-on = omega arith; below = omega arith; kind = is; value = refl })
-      (λ q w c. (here q w c, c .value ∙ ap (λ (j : ℕ). suc (at next j)) (here q w c))) h
+  pub reads-same : {row row′ : List ℕ} {r : Bool} → x ≡ 0 → Lowering (Within (Reads m list t x next) set) row row′ r → (q : ℕ) → at row′ q ≡ at row q
+  reads-same {row} {row′} z f q = on (f .origin q)
     where
-      here : (q v : ℕ) (c : ByChange test next k (k + 1) q v) → q ≡ k
-      here q v c = omega (arith, c .from-on, c .below)
+      on : (at row′ q ≡ at row q) ⊎ Within (Reads m list t x next) set q (at row′ q) → at row′ q ≡ at row q
+      on (inl e) = e
+      on (inr c) = let pos = c .is .some in absurd (omega arith)
 
-  module _ {k n : ℕ} (le : k ≤ n) where
-    change-left : (q v : ℕ) → ByChange test next 0 k q v → ByChange test next 0 n q v
-    change-left q v c = record { from-on = omega arith; below = omega (arith, c .below); kind = c .kind; value = c .value }
+-- Along changes of mode
 
-    change-right : (q v : ℕ) → ByChange test next k n q v → ByChange test next 0 n q v
-    change-right q v c = record { from-on = omega arith; below = c .below; kind = c .kind; value = c .value }
+pub beside-one : {next : List ℕ} (row row′ : List ℕ) (a : ℕ) (r : Bool) → Lowered row a (at next a) row′ r → Lowering (Only (Beside next) a) row row′ r
+beside-one {next} row row′ a r h =
+    lowering-one row row′ a (at next a) r (λ l. record { here = refl; is = record { value = refl } })
+    (λ q w c. (c .here, (let e : suc (at next a) ≡ w = ap (λ (p : ℕ). suc (at next p)) (sym (c .here)) ∙ sym (c .is .value) in omega arith))) h
 
-    change-either : (q v : ℕ) → ByChange test next 0 n q v → ByChange test next 0 k q v ⊎ ByChange test next k n q v
-    change-either q v c = on (decLt q k)
-      where
-        on : Dec (q < k) → ByChange test next 0 k q v ⊎ ByChange test next k n q v
-        on (yes l) = inl (record { from-on = omega arith; below = l; kind = c .kind; value = c .value })
-        on (no l) = inr (record { from-on = omega arith; below = c .below; kind = c .kind; value = c .value })
+module _ {next : List ℕ} {set : ℕ} where
+  pub beside-marked : {row row′ : List ℕ} {r : Bool} → Lowering (Within (Beside next) set) row row′ r → Marked (In set) row′ next
+  beside-marked f q h = f .settled q (suc (at next q)) (record { inside = h; is = record { value = refl } })
 
-    pub change-stays : {row row₁ row₂ : List ℕ} {r : Bool} → Lowering (ByChange test next 0 k) row row₁ r → Lowering (ByChange test next k n) row₁ row₂ false
-        → Lowering (ByChange test next 0 n) row row₂ r
-    change-stays = lowering-stays change-left change-right change-either
-
-    pub change-falls : {row row₁ row₂ : List ℕ} {r : Bool} → Lowering (ByChange test next 0 k) row row₁ r → Lowering (ByChange test next k n) row₁ row₂ true
-        → Lowering (ByChange test next 0 n) row row₂ true
-    change-falls = lowering-falls change-left change-right change-either
-
-  -- the states of the kind are below n
-  pub change-marked : {row row′ : List ℕ} {r : Bool} {n : ℕ} → ((q : ℕ) → test q ≡ true → q < n) → Lowering (ByChange test next 0 n) row row′ r → Marked test row′ next
-  change-marked below f q is = f .settled q (suc (at next q)) (record { from-on = omega arith; below = below q is; kind = is; value = refl })
-
-  pub change-real : {m : Machine} {list : List ℕ} {row row′ : List ℕ} {r : Bool} {n : ℕ} (F G : ℕ → Configuration)
-      → ((q : ℕ) → test q ≡ true → Yields (fsbmOf m list) (F q) (G q))
-      → ((q : ℕ) → q < m .states → at next q < none → Go m list (G q) (at next q))
-      → ((q : ℕ) → q < m .states → at row q < none → Go m list (F q) (at row q))
-      → Lowering (ByChange test next 0 n) row row′ r
-      → (q : ℕ) → q < m .states → at row′ q < none → Go m list (F q) (at row′ q)
-  change-real {m} {list} {row = row} {row′ = row′} {n = n} F G moves real-next real f q lt l = on (f .origin q)
+  pub beside-real : {m : Machine} {list : List ℕ} {N : ℕ → ℕ} {row row′ : List ℕ} {r : Bool} (F G : ℕ → Configuration)
+      → ((q : ℕ) → In set q → Yields (fsbmOf m list) (F q) (G q))
+      → ((q : ℕ) → In set q → F q .mode ≡ Normal → Near N (F q .input) (F q .state))
+      → ((q : ℕ) → q < m .states → at next q < none → Go m list N (G q) (at next q))
+      → ((q : ℕ) → q < m .states → at row q < none → Go m list N (F q) (at row q))
+      → Lowering (Within (Beside next) set) row row′ r
+      → (q : ℕ) → q < m .states → at row′ q < none → Go m list N (F q) (at row′ q)
+  beside-real {m} {list} {N} {row = row} {row′ = row′} F G moves kept real-next real f q lt l = on (f .origin q)
     where
-      on : (at row′ q ≡ at row q) ⊎ ByChange test next 0 n q (at row′ q) → Go m list (F q) (at row′ q)
+      on : (at row′ q ≡ at row q) ⊎ Within (Beside next) set q (at row′ q) → Go m list N (F q) (at row′ q)
       on (inl e) = rw e (real q lt (omega arith))
-      on (inr c) = let e = c .value in rw e (go-step m list (moves q (c .kind)) (real-next q lt (omega arith)))
+      on (inr c) = let e = c .is .value in rw e (go-step m list (moves q (c .inside)) (kept q (c .inside)) (real-next q lt (omega arith)))
 
-module _ (m : Machine) (list : List ℕ) (t : Mode) (to-below : (k : ℕ) → k < m .transitions → transitionAt list k .to < m .states) where
-  silent-real : (u v : List ℕ) → (t ≡ Normal → v ≡ []) → {row row′ : List ℕ} {r : Bool} → Lowering (ByPass m list t 0 row 0 (m .transitions)) row row′ r
-      → RowReal m list u v t row → RowReal m list u v t row′
-  silent-real u v z f real =
-      pass-real (λ q. config u q v t) (λ q. config u q v t) (λ k l. (to-below k (l .listed), silent-yields m list t u v z l)) real real f
+-- The sets of the table
 
-  pub closed-here : (row row′ : List ℕ) → Lowering (ByPass m list t 0 row 0 (m .transitions)) row row′ false → Closed m list t row row′
-  closed-here row row′ f =
-      record {
-        real = λ u v z. silent-real u v z f;
-        bounded = subst (λ (s : List ℕ). Bounded m list (m .transitions) t 0 row′ s) (sym (f .same refl)) (pass-bounded f);
-        lower = f .lower;
-        fewer = f .fewer;
-      }
+module _ (m : Machine) (list targets : List ℕ) (g h : ℕ) (given : Given m list targets g h) where
+  may-leads : (t : Mode) {p x q : ℕ} (δ : Listed list (m .transitions) p x q) → May g h t p q → Leads m list t x (δ .number)
+  may-leads Normal {p} {x} {q} δ c =
+      normal-leads m list δ (λ z. c .0 (given .matchings p .1 (z .0), given .matchings q .1 (z .1))) (λ z. c .1 (given .bufferings p .1 z))
+  may-leads Buffering {p} {x} {q} δ c =
+      buffer-leads m list δ (λ z. c .0 (given .matchings p .1 (z .0), given .matchings q .1 (z .1))) (λ z. c .1 (given .bufferings q .1 z))
+  may-leads Emptying {p} {x} {q} δ c = empty-leads m list δ (given .matchings p .0 (c .0)) (given .matchings q .0 (c .1))
 
-  pub closed-more : (row row₁ row′ : List ℕ) {r : Bool} → Lowering (ByPass m list t 0 row 0 (m .transitions)) row row₁ r → Closed m list t row₁ row′ → Closed m list t row row′
-  closed-more row row₁ row′ f g =
-      record {
-        real = λ u v z h. g .real u v z (silent-real u v z f h);
-        bounded = g .bounded;
-        lower = λ q. omega (arith, f .lower q, g .lower q);
-        fewer = omega (arith, f .fewer, g .fewer);
-      }
+  leads-may : (t : Mode) {x k : ℕ} → Leads m list t x k → May g h t (transitionAt list k .from) (transitionAt list k .to)
+  leads-may Normal {x} {k} l =
+      let (a, b) = normal-apart m list l in
+      (λ z. a (given .matchings (transitionAt list k .from) .0 (z .0), given .matchings (transitionAt list k .to) .0 (z .1)), λ z. b (given .bufferings (transitionAt list k .from) .0 z))
+  leads-may Buffering {x} {k} l =
+      let (a, b) = buffer-apart m list l in
+      (λ z. a (given .matchings (transitionAt list k .from) .0 (z .0), given .matchings (transitionAt list k .to) .0 (z .1)), λ z. b (given .bufferings (transitionAt list k .to) .0 z))
+  leads-may Emptying {x} {k} l =
+      let (a, b) = empty-apart m list l in
+      (given .matchings (transitionAt list k .from) .1 a, given .matchings (transitionAt list k .to) .1 b)
+
+  -- only matching states are left in emptying mode
+  pub emptying-from : {x k : ℕ} → Leads m list Emptying x k → In h (transitionAt list k .from)
+  emptying-from l = leads-may Emptying l .0
+
+  module _ (t : Mode) (x a b : ℕ) (next : List ℕ) (below : a < m .states) (row-of : Row m list targets x) (cut : Cut g h t a (getD targets (setOf (m .states) x a) 0) b) where
+    reached : (q : ℕ) → In b q → Through m list t x next a (suc (at next q))
+    reached q i =
+        let (inside, may) = cut q .0 i in
+        let δ = row-of .listed a q below .0 inside in
+        record { number = δ .number; leads = may-leads t δ may; from = δ .from; value = ap (λ (p : ℕ). suc (at next p)) (sym (δ .to)) }
+
+    into : (q w : ℕ) → q ≡ a → (c : Through m list t x next q w) → In b (transitionAt list (c .number) .to)
+    into q w e c =
+        let k = c .number in
+        let from-a : transitionAt list k .from ≡ a = c .from ∙ e in
+        cut (transitionAt list k .to) .1 (
+          row-of .listed a (transitionAt list k .to) below .1 (record { number = k; listed = c .leads .listed; from = from-a; letter = c .leads .letter; to = refl }),
+          subst (λ (p : ℕ). May g h t p (transitionAt list k .to)) from-a (leads-may t (c .leads)),
+        )
+
+    pub visit-lowers : (v : ℕ) → LeastOf next b v → (row row′ : List ℕ) (r : Bool) → Lowered row a v row′ r → Lowering (Only (Through m list t x next) a) row row′ r
+    visit-lowers v least row row′ r low =
+        lowering-one row row′ a v r
+        (λ l. let (q, i, e) = least .real l in record { here = refl; is = subst (Through m list t x next a) (ap suc (sym e)) (reached q i) })
+        (λ q w c. (c .here, (let k = least .below (transitionAt list (c .is .number) .to) (into q w (c .here) (c .is)) in let e = c .is .value in omega arith))) low
+
+  -- A row that is lowered along transitions that read nothing
+
+  module _ (t : Mode) (set may : ℕ) (to-below : (k : ℕ) → k < m .transitions → transitionAt list k .to < m .states) (part : (q : ℕ) → In may q ↔ (In set q × In (getD targets 0 0) q)) where
+    silent-real : {row row′ : List ℕ} {r : Bool} → Lowering (Within (Through m list t 0 row) may) row row′ r → (N : ℕ → ℕ) (u v : List ℕ) → (t ≡ Normal → v ≡ []) → (t ≡ Normal → (q : ℕ) → In set q → Near N u q)
+        → RowReal m list N u v t row → RowReal m list N u v t row′
+    silent-real f N u v z kept real =
+        through-real (λ q. config u q v t) (λ q. config u q v t) (λ k l. (to-below k (l .listed), silent-yields m list t u v z l)) (λ q i n. kept n q (part q .0 i .0)) real real f
+
+    silent-may : (k : ℕ) → Leads m list t 0 k → In set (transitionAt list k .from) → In may (transitionAt list k .from)
+    silent-may k l i = part (transitionAt list k .from) .1 (i, given .sources (transitionAt list k .from) (transitionAt list k .to) (the-listed m list l))
+
+    pub closed-here : (row row′ : List ℕ) {r : Bool} → r ≡ false → Lowering (Within (Through m list t 0 row) may) row row′ r → Closed m list (In set) t row row′
+    closed-here row row′ e f =
+        record {
+          real = silent-real f;
+          bounded = subst (λ (s : List ℕ). Bounded m list (In set) t 0 row′ s) (sym (f .same e)) (λ k l i. through-bounded f k l (silent-may k l i));
+          lower = f .lower;
+          fewer = f .fewer;
+        }
+
+    pub closed-more : (row row₁ row′ : List ℕ) {r : Bool} → Lowering (Within (Through m list t 0 row) may) row row₁ r → Closed m list (In set) t row₁ row′ → Closed m list (In set) t row row′
+    closed-more row row₁ row′ f g =
+        record {
+          real = λ N u v z kept h. g .real N u v z kept (silent-real f N u v z kept h);
+          bounded = g .bounded;
+          lower = λ q. omega (arith, f .lower q, g .lower q);
+          fewer = omega (arith, f .fewer, g .fewer);
+        }
+
+    pub closed-none : (row : List ℕ) → may ≡ 0 → Closed m list (In set) t row row
+    closed-none row e =
+        closed-here row row refl (lowering-none row (λ q v c. empty-in q (subst (λ (n : ℕ). In n q) e (c .inside))))

@@ -8,8 +8,7 @@ use mathlib.Core.List.{List}
 use native.Mathlib.Omega.{arith}
 use native.Mathlib.Decide.{decLt, ℕ-discrete}
 use Rattle.fsbm.specs.Machine.{transitionAt}
-use Rattle.layers.specs.Ways.{Next}
-use Rattle.shortest.specs.Into.{Enters}
+use Rattle.shortest.specs.Into.{Next, Enters}
 use Rattle.shortest.specs.Find.{Finds}
 
 pub record Finding (n : ℕ) (list : List ℕ) (z : ℕ) (Q : ℕ → Type 0) (k : ℕ) : Type 0 where

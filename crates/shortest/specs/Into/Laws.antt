@@ -1,5 +1,6 @@
 -- The laws of specs/Into.antt.
 --
+-- next-here, next-back, next-none == the first number with P, one number further back
 -- into-start      == where every link says that there is none, the lists have no transition
 -- into-turn       == one transition more
 use Prim.Native.Nat.{ℕ, suc, _+_, _≤_, _<_}
@@ -12,9 +13,21 @@ use lib.Seq.{getD-set-same, getD-set-other}
 use Rattle.fsbm.specs.Machine.{transitionAt}
 use Rattle.fsbm.specs.Rules.{Rules}
 use Rattle.fsbm.specs.declared.machine.Machine.{Machine}
-use Rattle.layers.specs.Ways.{Next}
-use Rattle.layers.specs.Ways.Laws.{next-here, next-back, next-none}
-use Rattle.shortest.specs.Into.{Enters, IntoFrom}
+use Rattle.shortest.specs.Into.{Next, Enters, IntoFrom}
+
+module _ {P : ℕ → Type 0} {n : ℕ} where
+  next-here : (k : ℕ) → P k → Next P n k k
+  next-here k p = record { on = omega arith; skipped = λ j a b. absurd (omega arith); found = λ l. p }
+
+  next-back : (k r : ℕ) → (P k → ⊥) → Next P n (k + 1) r → Next P n k r
+  next-back k r never h = record { on = omega (arith, h .on); skipped = λ j a b l p. before j a b l p (ℕ-discrete j k); found = h .found }
+    where
+      before : (j : ℕ) → k ≤ j → j < r → j < n → P j → Dec (j ≡ k) → ⊥
+      before j a b l p (yes e) = never (subst P e p)
+      before j a b l p (no d) = h .skipped j (omega arith) b l p
+
+  next-none : (k r : ℕ) → n ≤ k → k ≤ r → Next P n k r
+  next-none k r a b = record { on = b; skipped = λ j c d l p. absurd (omega arith); found = λ l. absurd (omega arith) }
 
 module _ (m : Machine) (list : List ℕ) (t : Rules m list) where
   pub into-start : IntoFrom (m .transitions) list (m .transitions) (replicate {A = ℕ} 4064 65535)

@@ -1,59 +1,52 @@
-use Rattle.layers.proofs.LayerCases.{buffering-zero, buffering-letter, buffering-none, lives}
-use Rattle.layers.specs.Ways.Laws.{kind-ways}
 use borrow.Author.Tests.{not-true}
-use native.Mathlib.Omega.{arith}
-use Rattle.fsbm.specs.Rules.{rules}
+use Rattle.layers.proofs.LayerCases.{buffering-made, buffering-none, lives}
 use borrow.Author.Needs.{needs}
 use Rattle.layers.proofs.layer.buffering_layer.Statement.{statement}
 use Rattle.layers.proofs.layer.buffering_layer.Tie as tie
 use Rattle.layers.proofs.layer.buffering_layer.Reads as reads
 use Rattle.layers.proofs.layer.buffering_layer.Lts as lts
 use Rattle.layers.proofs.layer.blank.Reads as blank-reads
+use Rattle.layers.proofs.layer.close_buffering.Reads as close-buffering-reads
 use Rattle.layers.proofs.row.change.Reads as change-reads
-use Rattle.layers.proofs.row.close.Reads as close-reads
-use Rattle.layers.proofs.row.pass.Reads as pass-reads
+use Rattle.layers.proofs.row.read.Reads as read-reads
+use Rattle.stateset.proofs.full.Reads as full-reads
 
--- src/layer.rt:79:19
+-- src/layer.rt:116:19
 blank-requires : tie.Need-blank-requires
 blank-requires c κs = search needs
 
--- src/layer.rt:80:9
+-- src/layer.rt:117:9
+full-requires : tie.Need-full-requires
+full-requires c κs = search needs
+
+-- src/layer.rt:118:9
 change-requires : tie.Need-change-requires
-change-requires c κs = (rules _ _ ((c .before .before .before .before .pre) .0) .states-fit, omega (arith, (c .before .before .before .before .pre) .1 .size), kind-ways _ _ (rules _ _ ((c .before .before .before .before .pre) .0)) _ ((c .before .before .before .before .pre) .1) 8)
+change-requires c κs = search needs
 
--- src/layer.rt:82:9
-close-requires : tie.Need-close-requires
-close-requires c κs = search needs
+-- src/layer.rt:119:9
+read-requires : tie.Need-read-requires
+read-requires c κs = ((c .before .before .before .before .before .before .before .pre) .0, (c .before .before .before .before .before .before .before .pre) .1, λ q i. (c .before .before .before .full) .ensures .members q .0 i .0)
 
--- src/layer.rt:83:9
+-- src/layer.rt:122:13
 returns : tie.Need-returns
-returns c = lives (buffering-zero _ _ (rules _ _ ((c .before .before .before .before .before .before .before .before .pre) .0)) _ _ _ _ (c .before .before .before .before .before .blank .ensures) _ (c .before .before .before .change .ensures) _ _ (c .before .before .if1 .taken) (c .close .ensures))
+returns c = buffering-none _ _ _ _ _ ((c .before .before .before .before .before .before .before .before .before .before .pre) .0) _ _ _ _ _ _ ((c .before .before .before .before .before .before .before .blank) .ensures) _ _ _ ((c .before .before .before .before .before .before .full) .ensures) ((c .before .before .before .before .change) .ensures) ((c .before .before .read) .ensures) (not-true _ ((c .before .if1) .taken)) (not-true _ ((c .if2) .taken))
 
--- src/layer.rt:85:9
-pass-requires : tie.Need-pass-requires
-pass-requires c κs = search needs
+-- src/layer.rt:125:5
+close-buffering-requires : tie.Need-close-buffering-requires
+close-buffering-requires c κs = (c .before .before .before .before .before .before .before .before .before .before .pre) .0
 
--- src/layer.rt:88:13
+-- src/layer.rt:103:1
 returns-2 : tie.Need-returns-2
-returns-2 c = buffering-none _ _ (rules _ _ ((c .before .before .before .before .before .before .before .before .before .before .pre) .0)) _ _ _ _ (c .before .before .before .before .before .before .before .blank .ensures) _ (c .before .before .before .before .before .change .ensures) _ (c .before .before .before .before .if1 .left) (not-true _ (c .before .if2 .taken)) _ _ (c .before .before .pass .ensures) (not-true _ (c .if3 .taken))
-
--- src/layer.rt:91:5
-close-requires-2 : tie.Need-close-requires-2
-close-requires-2 c κs = search needs
-
--- src/layer.rt:68:1
-returns-3 : tie.Need-returns-3
-returns-3 c = lives (buffering-letter _ _ (rules _ _ ((c .before .before .before .before .before .before .before .before .before .before .before .pre) .0)) _ _ _ _ (c .before .before .before .before .before .before .before .before .blank .ensures) _ (c .before .before .before .before .before .before .change .ensures) _ _ (c .before .before .before .before .before .if1 .left) _ _ (c .before .before .before .pass .ensures) (c .close2 .ensures))
+returns-2 c = lives (buffering-made _ _ _ _ _ ((c .before .before .before .before .before .before .before .before .before .before .before .pre) .0) _ _ _ _ _ _ ((c .before .before .before .before .before .before .before .before .blank) .ensures) _ _ _ ((c .before .before .before .before .before .before .before .full) .ensures) ((c .before .before .before .before .before .change) .ensures) ((c .before .before .before .read) .ensures) _ ((c .close-buffering) .ensures))
 
 pub buffering-layer-spec : {M : Type 1} → statement M
 buffering-layer-spec =
     tie.close
     (tie.spec
     blank-requires
+    full-requires
     change-requires
-    close-requires
+    read-requires
     returns
-    pass-requires
-    returns-2
-    close-requires-2
-    returns-3)
+    close-buffering-requires
+    returns-2)

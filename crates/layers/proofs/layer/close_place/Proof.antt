@@ -1,41 +1,59 @@
-use Rattle.layers.proofs.LayerCases.{lower-here, lower-then, closed-after}
-use Rattle.layers.specs.Layers.{LowerPlace}
-use Rattle.layers.specs.Rows.{weight}
-use Rattle.fsbm.specs.Rules.{rules}
 use borrow.Author.Tests.{not-true, not-false}
 use Prim.Native.Nat.{_+_}
+use Rattle.layers.specs.Layers.{LowerPlace}
+use Rattle.layers.specs.Rows.{weight}
+use Rattle.layers.proofs.LayerCases.{lower-here, lower-then, closed-after, shut-place}
 use Rattle.layers.proofs.layer.close_place.Statement.{statement}
 use Rattle.layers.proofs.layer.close_place.Tie as tie
 use Rattle.layers.proofs.layer.close_place.Reads as reads
 use Rattle.layers.proofs.layer.close_place.Lts as lts
+use Rattle.layers.proofs.layer.close_shut.Reads as close-shut-reads
 use Rattle.layers.proofs.layer.round.Reads as round-reads
 
 abbrev Inv-loop : tie.InvT-loop
-Inv-loop m list ways normal₀ buffering₀ emptying₀ normal buffering emptying = LowerPlace m list normal₀ buffering₀ emptying₀ normal buffering emptying
+Inv-loop m list targets g h near starts normal₀ buffering₀ emptying₀ normal buffering emptying = LowerPlace m list near starts h normal₀ buffering₀ emptying₀ normal buffering emptying
 
 abbrev μ-loop : tie.MeasureT-loop
-μ-loop m list ways normal₀ buffering₀ emptying₀ normal buffering emptying = weight normal + weight buffering + weight emptying
+μ-loop m list targets g h near starts normal₀ buffering₀ emptying₀ normal buffering emptying = weight normal + weight buffering + weight emptying
 
--- src/layer.rt:122:5
-loop-holds : tie.Need-loop-holds Inv-loop μ-loop
-loop-holds c = lower-here _ _ (rules _ _ ((c .before .before .pre) .0)) _ _ _
+-- src/layer.rt:197:9
+close-shut-requires : tie.Need-close-shut-requires Inv-loop μ-loop
+close-shut-requires c κs = (c .before .before .before .before .before .pre)
 
--- src/layer.rt:123:13
-round-requires : tie.Need-round-requires Inv-loop μ-loop
-round-requires c κs = (c .before .before .before .before .before .before .pre)
-
--- src/layer.rt:124:13
+-- src/layer.rt:198:9
 returns : tie.Need-returns Inv-loop μ-loop
-returns c = closed-after _ _ (rules _ _ ((c .before .before .before .before .before .before .before .before .pre) .0)) _ _ _ _ _ _ _ _ _ _ (c .before .before .before .before .before .loop .inv) (c .before .round .ensures) (not-true _ (c .if1 .taken))
+returns c = shut-place _ _ _ _ _ ((c .before .before .before .before .before .before .pre) .0) _ _ _ _ _ _ _ ((c .before .before .before .if1) .taken) ((c .close-shut) .ensures)
 
--- src/layer.rt:122:5
+-- src/layer.rt:200:5
+loop-holds : tie.Need-loop-holds Inv-loop μ-loop
+loop-holds c = lower-here _ _ _ _ _ ((c .before .before .before .pre) .0) _ _ _ _ _
+
+-- src/layer.rt:201:13
+round-requires : tie.Need-round-requires Inv-loop μ-loop
+round-requires c κs = (c .before .before .before .before .before .before .before .pre)
+
+-- src/layer.rt:204:13
+returns-2 : tie.Need-returns-2 Inv-loop μ-loop
+returns-2 c = closed-after _ _ _ _ _ ((c .before .before .before .before .before .before .before .before .before .pre) .0) _ _ _ _ _ _ _ _ _ _ _ _ ((c .before .before .before .before .before .loop) .inv) ((c .before .round) .ensures) (not-true _ ((c .if2) .taken))
+
+-- src/layer.rt:200:5
 loop-less : tie.Need-loop-less Inv-loop μ-loop
-loop-less c = (c .before .round .ensures) .less (not-false _ (c .if1 .left))
+loop-less c = ((c .before .round) .ensures) .less (not-false _ ((c .if2) .left))
 
--- src/layer.rt:122:5
+-- src/layer.rt:200:5
 loop-again : tie.Need-loop-again Inv-loop μ-loop
-loop-again c = lower-then _ _ (rules _ _ ((c .before .before .before .before .before .before .before .before .pre) .0)) _ _ _ _ _ _ _ _ _ (c .before .before .before .before .before .loop .inv) ((c .before .round .ensures) .lower)
+loop-again c = lower-then _ _ _ _ _ ((c .before .before .before .before .before .before .before .before .before .pre) .0) _ _ _ _ _ _ _ _ _ _ _ ((c .before .before .before .before .before .loop) .inv) (((c .before .round) .ensures) .lower)
 
 pub close-place-spec : {M : Type 1} → statement M
 close-place-spec =
-    tie.close (tie.spec Inv-loop μ-loop loop-holds round-requires returns loop-less loop-again)
+    tie.close
+    (tie.spec
+    Inv-loop
+    μ-loop
+    close-shut-requires
+    returns
+    loop-holds
+    round-requires
+    returns-2
+    loop-less
+    loop-again)

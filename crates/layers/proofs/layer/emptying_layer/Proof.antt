@@ -1,39 +1,34 @@
-use Rattle.layers.proofs.LayerCases.{emptying-blank, emptying-letter, emptying-none, lives}
 use borrow.Author.Tests.{not-true}
-use Rattle.fsbm.specs.Rules.{rules}
+use Rattle.layers.proofs.LayerCases.{emptying-made, emptying-none, lives, matching-inside}
 use borrow.Author.Needs.{needs}
 use Rattle.layers.proofs.layer.emptying_layer.Statement.{statement}
 use Rattle.layers.proofs.layer.emptying_layer.Tie as tie
 use Rattle.layers.proofs.layer.emptying_layer.Reads as reads
 use Rattle.layers.proofs.layer.emptying_layer.Lts as lts
 use Rattle.layers.proofs.layer.blank.Reads as blank-reads
-use Rattle.layers.proofs.row.close.Reads as close-reads
-use Rattle.layers.proofs.row.pass.Reads as pass-reads
+use Rattle.layers.proofs.layer.close_emptying.Reads as close-emptying-reads
+use Rattle.layers.proofs.row.read.Reads as read-reads
 
--- src/layer.rt:55:19
+-- src/layer.rt:93:19
 blank-requires : tie.Need-blank-requires
 blank-requires c κs = search needs
 
--- src/layer.rt:57:9
+-- src/layer.rt:94:9
+read-requires : tie.Need-read-requires
+read-requires c κs = ((c .before .before .before .before .pre) .0, (c .before .before .before .before .pre) .1, matching-inside _ _ _ _ _ ((c .before .before .before .before .pre) .0))
+
+-- src/layer.rt:95:9
 returns : tie.Need-returns
-returns c = emptying-blank _ _ (rules _ _ ((c .before .before .before .before .pre) .0)) _ _ _ (c .if1 .taken) (c .before .blank .ensures)
+returns c = emptying-none _ _ _ _ _ ((c .before .before .before .before .before .before .pre) .0) _ _ _ _ ((c .before .before .before .blank) .ensures) _ ((c .before .read) .ensures) (not-true _ ((c .if1) .taken))
 
--- src/layer.rt:59:9
-pass-requires : tie.Need-pass-requires
-pass-requires c κs = search needs
+-- src/layer.rt:97:5
+close-emptying-requires : tie.Need-close-emptying-requires
+close-emptying-requires c κs = (c .before .before .before .before .before .before .before .pre) .0
 
--- src/layer.rt:60:9
+-- src/layer.rt:81:1
 returns-2 : tie.Need-returns-2
-returns-2 c = emptying-none _ _ (rules _ _ ((c .before .before .before .before .before .before .before .pre) .0)) _ _ (c .before .before .before .if1 .left) _ (c .before .before .before .before .blank .ensures) _ _ (c .before .pass .ensures) (not-true _ (c .if2 .taken))
-
--- src/layer.rt:62:5
-close-requires : tie.Need-close-requires
-close-requires c κs = search needs
-
--- src/layer.rt:51:1
-returns-3 : tie.Need-returns-3
-returns-3 c = lives (emptying-letter _ _ (rules _ _ ((c .before .before .before .before .before .before .before .before .before .pre) .0)) _ _ _ (c .before .before .before .before .before .if1 .left) _ (c .before .before .before .before .before .before .blank .ensures) _ _ (c .before .before .before .pass .ensures) (c .close .ensures))
+returns-2 c = lives (emptying-made _ _ _ _ _ ((c .before .before .before .before .before .before .before .before .pre) .0) _ _ _ _ ((c .before .before .before .before .before .blank) .ensures) _ ((c .before .before .before .read) .ensures) _ ((c .close-emptying) .ensures))
 
 pub emptying-layer-spec : {M : Type 1} → statement M
 emptying-layer-spec =
-    tie.close (tie.spec blank-requires returns pass-requires returns-2 close-requires returns-3)
+    tie.close (tie.spec blank-requires read-requires returns close-emptying-requires returns-2)

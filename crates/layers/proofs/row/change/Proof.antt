@@ -1,82 +1,72 @@
-use Rattle.layers.proofs.WayCases.{kind-head-below}
 use borrow.Author.Needs.{needs}
-use mathlib.Core.Logic.{⊎-elim}
-use Prim.Native.Nat.{_-_, _+_}
 use native.Mathlib.Omega.{arith}
-use Rattle.layers.specs.Rows.{ofKind}
-use Rattle.layers.proofs.RowCases.{Changing, changing-start, changing-end, changing-less, changing-true, changing-false}
+use mathlib.Core.Path.{refl}
+use lib.Count.{ones}
+use Rattle.stateset.specs.Set.{width}
+use Rattle.stateset.specs.Set.Laws.{in-lt, drop-lowest, lowest-removed}
+use Rattle.layers.specs.Rows.{Beside}
+use Rattle.layers.specs.Rows.Laws.{Sweeping, sweep-start, sweep-falls, sweep-stays, sweep-end, beside-one}
 use Rattle.layers.proofs.row.change.Statement.{statement}
 use Rattle.layers.proofs.row.change.Tie as tie
 use Rattle.layers.proofs.row.change.Reads as reads
 use Rattle.layers.proofs.row.change.Lts as lts
 use Rattle.layers.proofs.row.lower.Reads as lower-reads
-use Rattle.layers.proofs.ways.kind_head.Reads as kind-head-reads
+use Rattle.stateset.proofs.lowest.Reads as lowest-reads
+use Rattle.stateset.proofs.without_lowest.Reads as without-lowest-reads
 
 abbrev Inv-loop : tie.InvT-loop
-Inv-loop m ways kind next row₀ fell₀ q₀ row fell q = Changing (ofKind (m .marks) kind) (m .states) next row₀ row fell q
+Inv-loop set next row₀ fell₀ rest₀ row fell rest = Sweeping (Beside next) set rest row₀ row fell
 
 abbrev μ-loop : tie.MeasureT-loop
-μ-loop m ways kind next row₀ fell₀ q₀ row fell q = m .states - q
+μ-loop set next row₀ fell₀ rest₀ row fell rest = ones rest
 
--- src/row.rt:123:22
-kind-head-requires : tie.Need-kind-head-requires Inv-loop μ-loop
-kind-head-requires c κs = search needs
-
--- src/row.rt:123:17
-mul-q : tie.Need-mul-q Inv-loop μ-loop
-mul-q c = omega (arith, (c .kind-head .ensures), kind-head-below (c .before .before .args .kind))
-
--- src/row.rt:123:17
-shared-slice-read-q : tie.Need-shared-slice-read-q Inv-loop μ-loop
-shared-slice-read-q c = omega (arith, (c .before .kind-head .ensures), kind-head-below (c .before .before .before .args .kind), (c .before .before .before .pre) .1)
-
--- src/row.rt:123:17
-cast-q : tie.Need-cast-q Inv-loop μ-loop
-cast-q c = omega (arith, (c .shared-slice-known2 .given) (c .before .kind-head .result))
-
--- src/row.rt:124:5
+-- src/row.rt:298:5
 loop-holds : tie.Need-loop-holds Inv-loop μ-loop
-loop-holds c = changing-start _ _ _ _ _ _ ((c .before .before .before .pre) .2) _ (c .before .kind-head .ensures)
+loop-holds c = sweep-start _ (omega arith)
 
--- src/row.rt:125:17
-mul-v : tie.Need-mul-v Inv-loop μ-loop
-mul-v c = omega (arith, (c .if1 .taken), (c .before .before .before .before .before .before .pre) .0)
+-- src/row.rt:299:17
+lowest-requires : tie.Need-lowest-requires Inv-loop μ-loop
+lowest-requires c κs = search needs
 
--- src/row.rt:125:17
-element-copy-out-v : tie.Need-element-copy-out-v Inv-loop μ-loop
-element-copy-out-v c = omega (arith, (c .if1 .taken), (c .before .before .before .before .before .before .pre) .0)
+-- src/row.rt:299:17
+cast-q : tie.Need-cast-q Inv-loop μ-loop
+cast-q c = search needs
 
--- src/row.rt:126:12
+-- src/row.rt:300:9
+without-lowest-requires : tie.Need-without-lowest-requires Inv-loop μ-loop
+without-lowest-requires c κs = search needs
+
+-- src/row.rt:301:26
+mul-lower : tie.Need-mul-lower Inv-loop μ-loop
+mul-lower c = omega (arith, in-lt {w = width} {x = (c .before .before .before .before .loop) .rest} {q = (c .before .before .lowest) .result} (((c .before .before .before .before .loop) .inv) .fits) (((c .before .before .lowest) .ensures) .member (omega arith)))
+
+-- src/row.rt:301:26
+element-copy-out-lower : tie.Need-element-copy-out-lower Inv-loop μ-loop
+element-copy-out-lower c = omega (arith, in-lt {w = width} {x = (c .before .before .before .before .loop) .rest} {q = (c .before .before .lowest) .result} (((c .before .before .before .before .loop) .inv) .fits) (((c .before .before .lowest) .ensures) .member (omega arith)))
+
+-- src/row.rt:301:12
 lower-requires : tie.Need-lower-requires Inv-loop μ-loop
-lower-requires c κs = omega (arith, (c .before .before .if1 .taken), (c .before .before .before .before .before .before .before .before .pre) .0)
+lower-requires c κs = omega (arith, in-lt {w = width} {x = (c .before .before .before .before .before .loop) .rest} {q = (c .before .before .before .lowest) .result} (((c .before .before .before .before .before .loop) .inv) .fits) (((c .before .before .before .lowest) .ensures) .member (omega arith)))
 
--- src/row.rt:129:18
-add-q : tie.Need-add-q Inv-loop μ-loop
-add-q c = omega (arith, (c .before .before .before .before .if1 .taken), (c .before .before .before .before .before .before .before .before .before .before .pre) .0)
-
--- src/row.rt:129:13
-mul-q-2 : tie.Need-mul-q-2 Inv-loop μ-loop
-mul-q-2 c = omega (arith, (c .before .before .before .before .if1 .taken), (c .before .before .before .before .before .before .before .before .before .before .pre) .0)
-
--- src/row.rt:129:13
-shared-slice-read-q-2 : tie.Need-shared-slice-read-q-2 Inv-loop μ-loop
-shared-slice-read-q-2 c = omega (arith, (c .before .before .before .before .before .if1 .taken), (c .before .before .before .before .before .before .before .before .before .before .before .pre) .0, (c .before .before .before .before .before .before .before .before .before .before .before .pre) .1)
-
--- src/row.rt:129:13
-cast-q-2 : tie.Need-cast-q-2 Inv-loop μ-loop
-cast-q-2 c = omega (arith, (c .shared-slice-known3 .given) (514 + (c .before .before .before .before .before .before .before .loop .q)))
-
--- src/row.rt:124:5
+-- src/row.rt:298:5
 loop-less : tie.Need-loop-less Inv-loop μ-loop
-loop-less c = omega (arith, (c .before .before .before .before .before .if1 .taken), changing-less _ _ _ _ _ _ ((c .before .before .before .before .before .before .before .before .before .before .before .pre) .2) _ _ _ (c .before .before .before .before .before .before .before .loop .inv) (c .before .before .before .before .before .if1 .taken))
+loop-less c = drop-lowest ((c .before .before .before .before .before .before .before .loop) .rest) ((c .before .before .before .before .before .lowest) .result) ((c .before .before .before .before .without-lowest) .result) (((c .before .before .before .before .before .before .before .loop) .inv) .fits) (omega arith) ((c .before .before .before .before .before .lowest) .ensures) (lowest-removed ((c .before .before .before .before .before .lowest) .ensures) ((c .before .before .before .before .without-lowest) .ensures) .value)
 
--- src/row.rt:124:5
+-- src/row.rt:298:5
 loop-again : tie.Need-loop-again Inv-loop μ-loop
-loop-again c = ⊎-elim (λ z. changing-true _ _ _ _ _ _ ((c .before .before .before .before .before .before .before .before .before .before .before .pre) .2) _ _ _ (c .before .before .before .before .before .before .before .loop .inv) (c .before .before .before .before .before .if1 .taken) _ _ (c .before .before .lower .ensures) (z .0 .taken) (z .1)) (λ z. changing-false _ _ _ _ _ _ ((c .before .before .before .before .before .before .before .before .before .before .before .pre) .2) _ _ _ (c .before .before .before .before .before .before .before .loop .inv) (c .before .before .before .before .before .if1 .taken) _ _ (c .before .before .lower .ensures) (z .0 .left) (z .1)) (c .before .if2 .came)
+loop-again c = sweep-falls ((c .before .before .before .before .before .before .before .loop) .inv) (((c .before .before .before .before .before .lowest) .ensures) .member (omega arith)) (((c .before .before .before .before .without-lowest) .ensures) .fits) (lowest-removed ((c .before .before .before .before .before .lowest) .ensures) ((c .before .before .before .before .without-lowest) .ensures) .members) (beside-one _ _ _ _ ((c .before .lower) .ensures)) ((c .if1) .taken) refl
 
--- src/row.rt:118:1
+-- src/row.rt:298:5
+loop-less-2 : tie.Need-loop-less-2 Inv-loop μ-loop
+loop-less-2 c = drop-lowest ((c .before .before .before .before .before .before .before .loop) .rest) ((c .before .before .before .before .before .lowest) .result) ((c .before .before .before .before .without-lowest) .result) (((c .before .before .before .before .before .before .before .loop) .inv) .fits) (omega arith) ((c .before .before .before .before .before .lowest) .ensures) (lowest-removed ((c .before .before .before .before .before .lowest) .ensures) ((c .before .before .before .before .without-lowest) .ensures) .value)
+
+-- src/row.rt:298:5
+loop-again-2 : tie.Need-loop-again-2 Inv-loop μ-loop
+loop-again-2 c = sweep-stays ((c .before .before .before .before .before .before .before .loop) .inv) (((c .before .before .before .before .before .lowest) .ensures) .member (omega arith)) (((c .before .before .before .before .without-lowest) .ensures) .fits) (lowest-removed ((c .before .before .before .before .before .lowest) .ensures) ((c .before .before .before .before .without-lowest) .ensures) .members) (beside-one _ _ _ _ ((c .before .lower) .ensures)) ((c .if1) .left) refl
+
+-- src/row.rt:293:1
 returns : tie.Need-returns Inv-loop μ-loop
-returns c = changing-end _ _ _ _ _ _ ((c .before .before .before .before .before .before .pre) .2) _ _ _ (c .before .before .loop .inv) (c .if1 .left)
+returns c = sweep-end (omega arith) ((c .before .loop) .inv)
 
 pub change-spec : {M : Type 1} → statement M
 change-spec =
@@ -84,18 +74,15 @@ change-spec =
     (tie.spec
     Inv-loop
     μ-loop
-    kind-head-requires
-    mul-q
-    shared-slice-read-q
-    cast-q
     loop-holds
-    mul-v
-    element-copy-out-v
+    lowest-requires
+    cast-q
+    without-lowest-requires
+    mul-lower
+    element-copy-out-lower
     lower-requires
-    add-q
-    mul-q-2
-    shared-slice-read-q-2
-    cast-q-2
     loop-less
     loop-again
+    loop-less-2
+    loop-again-2
     returns)

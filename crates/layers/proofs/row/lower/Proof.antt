@@ -20,7 +20,7 @@ lesser-requires c κs = search needs
 
 -- src/row.rt:56:9
 returns : tie.Need-returns
-returns c = lower-not _ _ _ _ (c .before .lesser .ensures) (c .if1 .taken)
+returns c = lower-not _ _ _ _ ((c .before .lesser .ensures) .0) ((c .before .lesser .ensures) .1) (c .if1 .taken)
 
 -- src/row.rt:58:5
 mul-row : tie.Need-mul-row
@@ -32,7 +32,7 @@ element-write-row c = search needs
 
 -- src/row.rt:49:1
 returns-2 : tie.Need-returns-2
-returns-2 c = lower-is _ _ _ _ (c .before .lesser .ensures) (c .if1 .left)
+returns-2 c = lower-is _ _ _ _ ((c .before .lesser .ensures) .0) ((c .before .lesser .ensures) .1) (c .if1 .left)
 
 pub lower-spec : {M : Type 1} → statement M
 lower-spec =

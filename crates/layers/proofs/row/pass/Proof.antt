@@ -1,74 +1,69 @@
-use Rattle.layers.specs.Ways.Laws.{key-in-below}
-use Rattle.fsbm.specs.Rules.{rules}
 use borrow.Author.Needs.{needs}
-use mathlib.Core.Logic.{⊎-elim}
-use Prim.Native.Nat.{_-_, _+_}
 use native.Mathlib.Omega.{arith}
-use Rattle.layers.proofs.RowCases.{Passing, passing-start, passing-end, passing-less, passing-true, passing-false, visit-fits}
+use mathlib.Core.Path.{refl}
+use lib.Count.{ones}
+use Rattle.stateset.specs.Set.Laws.{drop-lowest, lowest-removed}
+use Rattle.fsbm.specs.Rules.{rules}
+use Rattle.layers.specs.Rows.{Through}
+use Rattle.layers.specs.Rows.Laws.{Sweeping, sweep-start, sweep-falls, sweep-stays, sweep-end}
 use Rattle.layers.proofs.row.pass.Statement.{statement}
 use Rattle.layers.proofs.row.pass.Tie as tie
 use Rattle.layers.proofs.row.pass.Reads as reads
 use Rattle.layers.proofs.row.pass.Lts as lts
+use Rattle.layers.proofs.row.glance.Reads as glance-reads
 use Rattle.layers.proofs.row.visit.Reads as visit-reads
-use Rattle.layers.proofs.ways.key_in.Reads as key-in-reads
+use Rattle.stateset.proofs.lowest.Reads as lowest-reads
+use Rattle.stateset.proofs.without_lowest.Reads as without-lowest-reads
 
 abbrev Inv-loop : tie.InvT-loop
-Inv-loop list ways mode x next row₀ m fell₀ k₀ row fell k = Passing m list mode x next row₀ row fell k
+Inv-loop m list targets g h mode x set next row₀ s fell₀ rest₀ row fell rest = Sweeping (Through m list mode x next) set rest row₀ row fell
 
 abbrev μ-loop : tie.MeasureT-loop
-μ-loop list ways mode x next row₀ m fell₀ k₀ row fell k = m .transitions - k
+μ-loop m list targets g h mode x set next row₀ s fell₀ rest₀ row fell rest = ones rest
 
--- src/row.rt:89:22
-key-in-requires : tie.Need-key-in-requires Inv-loop μ-loop
-key-in-requires c κs = search needs
+-- src/row.rt:230:9
+glance-requires : tie.Need-glance-requires Inv-loop μ-loop
+glance-requires c κs = rules _ _ ((c .before .before .pre) .0 .good) .states-fit
 
--- src/row.rt:89:17
-mul-k : tie.Need-mul-k Inv-loop μ-loop
-mul-k c = omega (arith, (c .key-in .ensures), key-in-below (c .before .before .before .args .mode) (c .before .before .before .args .x) ((c .before .before .before .pre) .2))
-
--- src/row.rt:89:17
-shared-slice-read-k : tie.Need-shared-slice-read-k Inv-loop μ-loop
-shared-slice-read-k c = omega (arith, (c .before .key-in .ensures), key-in-below (c .before .before .before .before .args .mode) (c .before .before .before .before .args .x) ((c .before .before .before .before .pre) .2), (c .before .before .before .before .pre) .1 .size)
-
--- src/row.rt:89:17
-cast-k : tie.Need-cast-k Inv-loop μ-loop
-cast-k c = omega (arith, (c .shared-slice-known3 .given) (c .before .key-in .result))
-
--- src/row.rt:90:5
+-- src/row.rt:233:5
 loop-holds : tie.Need-loop-holds Inv-loop μ-loop
-loop-holds c = passing-start _ _ _ _ _ _ _ ((c .before .before .before .before .pre) .1) ((c .before .before .before .before .pre) .2) _ (c .before .key-in .ensures)
+loop-holds c = sweep-start _ (omega arith)
 
--- src/row.rt:91:12
+-- src/row.rt:234:17
+lowest-requires : tie.Need-lowest-requires Inv-loop μ-loop
+lowest-requires c κs = search needs
+
+-- src/row.rt:234:17
+cast-a : tie.Need-cast-a Inv-loop μ-loop
+cast-a c = search needs
+
+-- src/row.rt:235:9
+without-lowest-requires : tie.Need-without-lowest-requires Inv-loop μ-loop
+without-lowest-requires c κs = search needs
+
+-- src/row.rt:236:12
 visit-requires : tie.Need-visit-requires Inv-loop μ-loop
-visit-requires c κs = visit-fits _ _ _ ((c .before .before .before .before .before .before .before .before .before .pre) .0) (c .before .before .before .loop-test .taken)
+visit-requires c κs = ((c .before .before .before .before .before .before .before .before .pre) .0, (c .before .before .before .before .before .before .before .before .pre) .1, (c .before .before .before .before .before .before .before .before .pre) .2 _ (((c .before .before .before .before .loop) .inv) .inside _ (((c .before .before .lowest) .ensures) .member (omega arith))), (c .before .before .before .before .before .glance) .ensures)
 
--- src/row.rt:94:18
-add-k : tie.Need-add-k Inv-loop μ-loop
-add-k c = omega (arith, (c .before .before .before .before .before .loop-test .taken), rules _ _ ((c .before .before .before .before .before .before .before .before .before .before .before .pre) .0) .transitions-fit)
-
--- src/row.rt:94:13
-mul-k-2 : tie.Need-mul-k-2 Inv-loop μ-loop
-mul-k-2 c = omega (arith, (c .before .before .before .before .before .loop-test .taken), rules _ _ ((c .before .before .before .before .before .before .before .before .before .before .before .pre) .0) .transitions-fit)
-
--- src/row.rt:94:13
-shared-slice-read-k-2 : tie.Need-shared-slice-read-k-2 Inv-loop μ-loop
-shared-slice-read-k-2 c = omega (arith, (c .before .before .before .before .before .before .loop-test .taken), (c .before .before .before .before .before .before .before .before .before .before .before .before .pre) .1 .size)
-
--- src/row.rt:94:13
-cast-k-2 : tie.Need-cast-k-2 Inv-loop μ-loop
-cast-k-2 c = omega (arith, (c .shared-slice-known4 .given) (578 + (c .before .before .before .before .before .before .before .loop .k)))
-
--- src/row.rt:90:5
+-- src/row.rt:233:5
 loop-less : tie.Need-loop-less Inv-loop μ-loop
-loop-less c = omega (arith, (c .before .before .before .before .before .before .loop-test .taken), passing-less _ _ _ _ _ _ _ ((c .before .before .before .before .before .before .before .before .before .before .before .before .pre) .1) _ _ _ (c .before .before .before .before .before .before .before .loop .inv) (c .before .before .before .before .before .before .loop-test .taken))
+loop-less c = drop-lowest ((c .before .before .before .before .before .before .loop) .rest) ((c .before .before .before .before .lowest) .result) ((c .before .before .before .without-lowest) .result) (((c .before .before .before .before .before .before .loop) .inv) .fits) (omega arith) ((c .before .before .before .before .lowest) .ensures) (lowest-removed ((c .before .before .before .before .lowest) .ensures) ((c .before .before .before .without-lowest) .ensures) .value)
 
--- src/row.rt:90:5
+-- src/row.rt:233:5
 loop-again : tie.Need-loop-again Inv-loop μ-loop
-loop-again c = ⊎-elim (λ z. passing-true _ _ _ _ _ _ _ ((c .before .before .before .before .before .before .before .before .before .before .before .before .pre) .1) _ _ _ (c .before .before .before .before .before .before .before .loop .inv) (c .before .before .before .before .before .before .loop-test .taken) _ _ (c .before .before .visit .ensures) (z .0 .taken) (z .1)) (λ z. passing-false _ _ _ _ _ _ _ ((c .before .before .before .before .before .before .before .before .before .before .before .before .pre) .1) _ _ _ (c .before .before .before .before .before .before .before .loop .inv) (c .before .before .before .before .before .before .loop-test .taken) _ _ (c .before .before .visit .ensures) (z .0 .left) (z .1)) (c .before .if1 .came)
+loop-again c = sweep-falls ((c .before .before .before .before .before .before .loop) .inv) (((c .before .before .before .before .lowest) .ensures) .member (omega arith)) (((c .before .before .before .without-lowest) .ensures) .fits) (lowest-removed ((c .before .before .before .before .lowest) .ensures) ((c .before .before .before .without-lowest) .ensures) .members) ((c .before .visit) .ensures) ((c .if1) .taken) refl
 
--- src/row.rt:76:1
+-- src/row.rt:233:5
+loop-less-2 : tie.Need-loop-less-2 Inv-loop μ-loop
+loop-less-2 c = drop-lowest ((c .before .before .before .before .before .before .loop) .rest) ((c .before .before .before .before .lowest) .result) ((c .before .before .before .without-lowest) .result) (((c .before .before .before .before .before .before .loop) .inv) .fits) (omega arith) ((c .before .before .before .before .lowest) .ensures) (lowest-removed ((c .before .before .before .before .lowest) .ensures) ((c .before .before .before .without-lowest) .ensures) .value)
+
+-- src/row.rt:233:5
+loop-again-2 : tie.Need-loop-again-2 Inv-loop μ-loop
+loop-again-2 c = sweep-stays ((c .before .before .before .before .before .before .loop) .inv) (((c .before .before .before .before .lowest) .ensures) .member (omega arith)) (((c .before .before .before .without-lowest) .ensures) .fits) (lowest-removed ((c .before .before .before .before .lowest) .ensures) ((c .before .before .before .without-lowest) .ensures) .members) ((c .before .visit) .ensures) ((c .if1) .left) refl
+
+-- src/row.rt:215:1
 returns : tie.Need-returns Inv-loop μ-loop
-returns c = passing-end _ _ _ _ _ _ _ ((c .before .before .before .before .before .before .pre) .1) _ _ _ (c .before .loop .inv) (c .loop-test .left)
+returns c = sweep-end (omega arith) ((c .before .loop) .inv)
 
 pub pass-spec : {M : Type 1} → statement M
 pass-spec =
@@ -76,16 +71,14 @@ pass-spec =
     (tie.spec
     Inv-loop
     μ-loop
-    key-in-requires
-    mul-k
-    shared-slice-read-k
-    cast-k
+    glance-requires
     loop-holds
+    lowest-requires
+    cast-a
+    without-lowest-requires
     visit-requires
-    add-k
-    mul-k-2
-    shared-slice-read-k-2
-    cast-k-2
     loop-less
     loop-again
+    loop-less-2
+    loop-again-2
     returns)

@@ -1,89 +1,62 @@
-use borrow.Author.Tests.{not-true, not-false}
-use Rattle.layers.proofs.RowCases.{visit-shut, visit-lowers}
+use native.Mathlib.Omega.{arith}
+use Rattle.fsbm.specs.Rules.{rules}
+use Rattle.layers.specs.Rows.Laws.{visit-lowers}
+use Rattle.layers.proofs.RowCases.{visit-seen}
 use borrow.Author.Needs.{needs}
 use Rattle.layers.proofs.row.visit.Statement.{statement}
 use Rattle.layers.proofs.row.visit.Tie as tie
 use Rattle.layers.proofs.row.visit.Reads as reads
 use Rattle.layers.proofs.row.visit.Lts as lts
-use Rattle.layers.proofs.row.is_open.Reads as is-open-reads
+use Rattle.layers.proofs.row.cut.Reads as cut-reads
+use Rattle.layers.proofs.row.least_in.Reads as least-in-reads
 use Rattle.layers.proofs.row.lower.Reads as lower-reads
 
--- src/row.rt:65:18
-mul-a : tie.Need-mul-a
-mul-a c = search needs
+-- src/row.rt:208:27
+mul-set : tie.Need-mul-set
+mul-set c = omega (arith, (c .before .before .before .good), (c .before .before .before .pre) .1 .room, (c .before .before .before .pre) .2)
 
--- src/row.rt:65:13
-mul-a-2 : tie.Need-mul-a-2
-mul-a-2 c = search needs
+-- src/row.rt:208:23
+add-set : tie.Need-add-set
+add-set c = omega (arith, (c .before .before .before .good), (c .before .before .before .pre) .1 .room, (c .before .before .before .pre) .2)
 
--- src/row.rt:65:13
-shared-slice-read-a : tie.Need-shared-slice-read-a
-shared-slice-read-a c = search needs
+-- src/row.rt:208:23
+add-set-2 : tie.Need-add-set-2
+add-set-2 c = omega (arith, (c .before .before .before .good), (c .before .before .before .pre) .1 .room, (c .before .before .before .pre) .2)
 
--- src/row.rt:65:13
-cast-a : tie.Need-cast-a
-cast-a c = search needs
+-- src/row.rt:208:15
+mul-set-2 : tie.Need-mul-set-2
+mul-set-2 c = omega (arith, (c .before .before .before .good), (c .before .before .before .pre) .1 .room, (c .before .before .before .pre) .2)
 
--- src/row.rt:66:18
-mul-b : tie.Need-mul-b
-mul-b c = search needs
+-- src/row.rt:208:15
+shared-slice-read-set : tie.Need-shared-slice-read-set
+shared-slice-read-set c = omega (arith, (c .before .before .before .before .good), (c .before .before .before .before .pre) .1 .room, (c .before .before .before .before .pre) .2)
 
--- src/row.rt:66:18
-add-b : tie.Need-add-b
-add-b c = search needs
+-- src/row.rt:209:31
+cut-requires : tie.Need-cut-requires
+cut-requires c κs = search needs
 
--- src/row.rt:66:13
-mul-b-2 : tie.Need-mul-b-2
-mul-b-2 c = search needs
+-- src/row.rt:209:9
+least-in-requires : tie.Need-least-in-requires
+least-in-requires c κs = visit-seen _ _ _ _ _ ((c .before .before .before .before .before .pre) .0) ((c .before .before .before .before .before .args) .mode) _ _ _ ((c .before .before .before .before .before .pre) .2) ((c .before .before .before .before .before .pre) .1) ((c .cut) .ensures) _ _ ((c .before .before .before .before .before .pre) .3)
 
--- src/row.rt:66:13
-shared-slice-read-b : tie.Need-shared-slice-read-b
-shared-slice-read-b c = search needs
-
--- src/row.rt:66:13
-cast-b : tie.Need-cast-b
-cast-b c = search needs
-
--- src/row.rt:67:9
-is-open-requires : tie.Need-is-open-requires
-is-open-requires c κs = search needs
-
--- src/row.rt:68:9
-returns : tie.Need-returns
-returns c = visit-shut _ _ _ _ _ _ _ (c .before .is-open .ensures) (not-true _ (c .if1 .taken))
-
--- src/row.rt:70:13
-mul-v : tie.Need-mul-v
-mul-v c = search needs
-
--- src/row.rt:70:13
-element-copy-out-v : tie.Need-element-copy-out-v
-element-copy-out-v c = search needs
-
--- src/row.rt:71:5
+-- src/row.rt:210:5
 lower-requires : tie.Need-lower-requires
-lower-requires c κs = search needs
+lower-requires c κs = omega (arith, (c .before .before .before .before .before .before .before .pre) .2, rules _ _ ((c .before .before .before .before .before .before .before .pre) .0 .good) .states-fit)
 
--- src/row.rt:54:1
-returns-2 : tie.Need-returns-2
-returns-2 c = visit-lowers _ _ _ _ _ _ _ (c .before .before .before .before .is-open .ensures) (not-false _ (c .before .before .before .if1 .left)) _ _ (c .lower .ensures)
+-- src/row.rt:192:1
+returns : tie.Need-returns
+returns c = visit-lowers _ _ _ _ _ ((c .before .before .before .before .before .before .before .before .pre) .0) _ _ _ _ _ ((c .before .before .before .before .before .before .before .before .pre) .2) ((c .before .before .before .before .before .before .before .before .pre) .1) ((c .before .before .before .cut) .ensures) _ ((c .before .before .least-in) .ensures) _ _ _ ((c .lower) .ensures)
 
 pub visit-spec : {M : Type 1} → statement M
 visit-spec =
     tie.close
     (tie.spec
-    mul-a
-    mul-a-2
-    shared-slice-read-a
-    cast-a
-    mul-b
-    add-b
-    mul-b-2
-    shared-slice-read-b
-    cast-b
-    is-open-requires
-    returns
-    mul-v
-    element-copy-out-v
+    mul-set
+    add-set
+    add-set-2
+    mul-set-2
+    shared-slice-read-set
+    cut-requires
+    least-in-requires
     lower-requires
-    returns-2)
+    returns)

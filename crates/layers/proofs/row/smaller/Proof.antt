@@ -1,0 +1,18 @@
+use native.Mathlib.Omega.{arith}
+use mathlib.Core.Logic.{inl, inr}
+use mathlib.Core.Path.{refl}
+use Rattle.layers.proofs.row.smaller.Statement.{statement}
+use Rattle.layers.proofs.row.smaller.Tie as tie
+use Rattle.layers.proofs.row.smaller.Reads as reads
+use Rattle.layers.proofs.row.smaller.Lts as lts
+
+-- src/row.rt:129:9
+returns : tie.Need-returns
+returns c = (omega arith, omega (arith, (c .if1) .taken), inl refl)
+
+-- src/row.rt:125:1
+returns-2 : tie.Need-returns-2
+returns-2 c = (omega (arith, (c .if1) .left), omega arith, inr refl)
+
+pub smaller-spec : {M : Type 1} → statement M
+smaller-spec = tie.close (tie.spec returns returns-2)
