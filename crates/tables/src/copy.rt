@@ -5,12 +5,12 @@ ghost use mathlib.Core.Path.{_≡_};
 ghost use mathlib.Core.Bool.{Bool, true, false};
 ghost use mathlib.Core.List.{List, []};
 ghost use lib.ListN.{length, getD, set};
-ghost use Rattle.fsbm.specs.Machine.{wellFormed};
-ghost use Rattle.layers.specs.Ways.{Ways};
+ghost use Rattle.targets.specs.Prepared.{Row};
+ghost use Rattle.layers.specs.Rows.{Given};
 ghost use Rattle.layers.specs.Layers.{blankRow};
 ghost use Rattle.tables.specs.Halves.{SharedFrom};
 ghost use Rattle.fsbm.specs.declared.machine.Machine.{Machine};
-ghost use Rattle.tables.specs.Tables.{rowAt, PlaceRows, EmptyRow, EmptyingRows, BufferingRows, ChangeLayer, Wound, EndRow, Ends, Idle, Skipped, EndedRow, ChangedRow, StoredRow, StoringRow};
+ghost use Rattle.tables.specs.Tables.{Known, rowAt, PlaceRows, EmptyRow, EmptyingRows, BufferingRows, ChangeLayer, Wound, EndRow, Ends, Idle, Skipped, EndedRow, ChangedRow, StoredRow, StoringRow, StartingRow};
 use crate::halves;
 use fsbm::machine::Machine;
 use layers::layer;
@@ -19,20 +19,20 @@ use layers::layer::Layer;
 // The row of the copies that end at one position with so many letters left. Where it is not live, they are blank from so many
 // letters on.
 pub struct Tail {
-    pub row: [u16; 64],
+    pub row: [u32; 64],
     pub left: usize,
     pub live: bool,
 }
 
 // Row i of a table.
-pub fn load(t: &[[u16; 64]], i: usize) -> [u16; 64]
+pub fn load(t: &[[u32; 64]], i: usize) -> [u32; 64]
     requires { ⌜ i < length (now t) ⌝ }
     ensures { λ r. ⌜ r ≡ getD (now (t .entry)) i [] ⌝ }
 {
     t[i]
 }
 
-pub fn save(t: &mut [[u16; 64]], i: usize, row: [u16; 64])
+pub fn save(t: &mut [[u32; 64]], i: usize, row: [u32; 64])
     requires { ⌜ i < length (now t) ⌝ }
     ensures { λ r. ⌜ now (t .exit) ≡ set (now (t .entry)) i row ⌝ }
 {
@@ -59,15 +59,18 @@ fn dead() -> Layer
 pub fn emptying_rows(
     m: Machine,
     list: &[u16],
-    ways: &[u16],
+    targets: &[u64],
+    g: u64,
+    h: u64,
+    sets: &[u64; 256],
     word: &[u8],
-    last: [u16; 64],
+    last: [u32; 64],
     e: usize,
     d: usize,
-    rows: &mut [[u16; 64]],
+    rows: &mut [[u32; 64]],
 )
-    requires { ⌜ (wellFormed m (now list) ≡ true) × Ways m (now list) (now ways) × (d ≤ e) × (e ≤ length (now word)) × (d < length (now rows)) × EmptyRow m (now list) (now word) e 0 last ⌝ }
-    ensures { λ r. ⌜ EmptyingRows m (now (list .entry)) (now (word .entry)) e d (now (rows .entry)) (now (rows .exit)) ⌝ }
+    requires { ⌜ Known m (now list) (now targets) g h (now word) × (d ≤ e) × (e ≤ length (now word)) × (d < length (now rows)) × EmptyRow m (now list) (now sets) (now word) e 0 last ⌝ }
+    ensures { λ r. ⌜ EmptyingRows m (now (list .entry)) (now (sets .entry)) (now (word .entry)) e d (now (rows .entry)) (now (rows .exit)) ⌝ }
 {
     let mut row = last;
     save(rows, 0, row);
@@ -75,7 +78,7 @@ pub fn emptying_rows(
     while r < d {
         r += 1;
         let x = word[e - r] as u16;
-        let next = layer::emptying_layer(m, list, ways, x, &row);
+        let next = layer::emptying_layer(m, list, targets, g, h, x, &row);
         row = next.row;
         save(rows, r, row);
     }
@@ -85,22 +88,25 @@ pub fn emptying_rows(
 fn wind(
     m: Machine,
     list: &[u16],
-    ways: &[u16],
+    targets: &[u64],
+    g: u64,
+    h: u64,
+    sets: &[u64; 256],
     word: &[u8],
     e: usize,
     r: usize,
     d: usize,
-    row: [u16; 64],
+    row: [u32; 64],
 ) -> Tail
-    requires { ⌜ (wellFormed m (now list) ≡ true) × Ways m (now list) (now ways) × (r ≤ d) × (d ≤ e) × (e ≤ length (now word)) × EmptyRow m (now list) (now word) e r row ⌝ }
-    ensures { λ t. ⌜ Wound m (now (list .entry)) (now (word .entry)) e d t ⌝ }
+    requires { ⌜ Known m (now list) (now targets) g h (now word) × (r ≤ d) × (d ≤ e) × (e ≤ length (now word)) × EmptyRow m (now list) (now sets) (now word) e r row ⌝ }
+    ensures { λ t. ⌜ Wound m (now (list .entry)) (now (sets .entry)) (now (word .entry)) e d t ⌝ }
 {
     let mut last = row;
     let mut k = r;
     while k < d {
         k += 1;
         let x = word[e - k] as u16;
-        let next = layer::emptying_layer(m, list, ways, x, &last);
+        let next = layer::emptying_layer(m, list, targets, g, h, x, &last);
         last = next.row;
         if !next.live {
             return Tail {
@@ -118,9 +124,9 @@ fn wind(
 }
 
 // Keeps what was wound for the end e, and hands its row on.
-fn keep(tail: Tail, e: usize, ends: &mut [[u16; 64]], left: &mut [u16]) -> Layer
+fn keep(tail: Tail, e: usize, ends: &mut [[u32; 64]], left: &mut [u16]) -> Layer
     requires { ⌜ (e < length (now ends)) × (e < length (now left)) × (e ≤ 255) × (tail .left ≤ e) ⌝ }
-    ensures { λ r. ⌜ ((m : Machine) (list w : List ℕ) (d : ℕ) → d ≤ e → Wound m list w e d tail → EndedRow m list w e d (now (ends .entry)) (now (ends .exit)) (now (left .entry)) (now (left .exit)) r) ⌝ }
+    ensures { λ r. ⌜ ((m : Machine) (list sets w : List ℕ) (d : ℕ) → d ≤ e → Wound m list sets w e d tail → EndedRow m list sets w e d (now (ends .entry)) (now (ends .exit)) (now (left .entry)) (now (left .exit)) r) ⌝ }
 {
     let count = tail.left as u16;
     let row = tail.row;
@@ -137,22 +143,25 @@ fn keep(tail: Tail, e: usize, ends: &mut [[u16; 64]], left: &mut [u16]) -> Layer
 fn ended_row(
     m: Machine,
     list: &[u16],
-    ways: &[u16],
+    targets: &[u64],
+    g: u64,
+    h: u64,
+    sets: &[u64; 256],
     word: &[u8],
-    t: &[[u16; 64]],
+    t: &[[u32; 64]],
     e: usize,
     d: usize,
-    ends: &mut [[u16; 64]],
+    ends: &mut [[u32; 64]],
     left: &mut [u16],
 ) -> Layer
-    requires { ⌜ (wellFormed m (now list) ≡ true) × Ways m (now list) (now ways) × (d ≤ e) × (e ≤ length (now word)) × (length (now word) ≤ 255) × (length (now word) * 3 + 3 ≤ length (now t))
-        × PlaceRows m (now list) (now word) (now t) e × (e < length (now ends)) × (e < length (now left)) × EndRow m (now list) (now word) e (rowAt (now ends) e) (getD (now left) e 0) ⌝ }
-    ensures { λ r. ⌜ EndedRow m (now (list .entry)) (now (word .entry)) e d (now (ends .entry)) (now (ends .exit)) (now (left .entry)) (now (left .exit)) r ⌝ }
+    requires { ⌜ Known m (now list) (now targets) g h (now word) × (d ≤ e) × (e ≤ length (now word)) × (length (now word) ≤ 255) × (length (now word) * 3 + 3 ≤ length (now t))
+        × PlaceRows m (now list) (now sets) (now word) (now t) e × (e < length (now ends)) × (e < length (now left)) × EndRow m (now list) (now sets) (now word) e (rowAt (now ends) e) (getD (now left) e 0) ⌝ }
+    ensures { λ r. ⌜ EndedRow m (now (list .entry)) (now (sets .entry)) (now (word .entry)) e d (now (ends .entry)) (now (ends .exit)) (now (left .entry)) (now (left .exit)) r ⌝ }
 {
     let k = left[e] as usize;
     if k <= d {
         let row = load(ends, e);
-        let tail = wind(m, list, ways, word, e, k, d, row);
+        let tail = wind(m, list, targets, g, h, sets, word, e, k, d, row);
         return keep(tail, e, ends, left);
     }
     if 256 <= k {
@@ -161,7 +170,7 @@ fn ended_row(
         }
     }
     let row = load(t, e * 3 + 2);
-    let tail = wind(m, list, ways, word, e, 0, d, row);
+    let tail = wind(m, list, targets, g, h, sets, word, e, 0, d, row);
     keep(tail, e, ends, left)
 }
 
@@ -202,62 +211,103 @@ fn skip_idle(i: usize, d: usize, counts: &[u16; 128], left: &[u16]) -> usize
 fn change_row(
     m: Machine,
     list: &[u16],
-    ways: &[u16],
+    targets: &[u64],
+    g: u64,
+    h: u64,
+    sets: &[u64; 256],
     word: &[u8],
-    t: &[[u16; 64]],
+    t: &[[u32; 64]],
     i: usize,
     d: usize,
     counts: &[u16; 128],
-    ends: &mut [[u16; 64]],
+    ends: &mut [[u32; 64]],
     left: &mut [u16],
 ) -> Layer
-    requires { ⌜ (wellFormed m (now list) ≡ true) × Ways m (now list) (now ways) × (0 < d) × (i + d + d ≤ length (now word)) × (length (now word) ≤ 255) × (length (now word) * 3 + 3 ≤ length (now t))
-        × PlaceRows m (now list) (now word) (now t) (i + d + d) × SharedFrom (now word) i (now counts) × Ends m (now list) (now word) (i + 1) (now ends) (now left) ⌝ }
-    ensures { λ r. ⌜ ChangedRow m (now (list .entry)) (now (word .entry)) i d (now (ends .exit)) (now (left .exit)) r ⌝ }
+    requires { ⌜ Known m (now list) (now targets) g h (now word) × (0 < d) × (i + d + d ≤ length (now word)) × (length (now word) ≤ 255) × (length (now word) * 3 + 3 ≤ length (now t))
+        × PlaceRows m (now list) (now sets) (now word) (now t) (i + d + d) × SharedFrom (now word) i (now counts) × Ends m (now list) (now sets) (now word) (i + 1) (now ends) (now left) ⌝ }
+    ensures { λ r. ⌜ ChangedRow m (now (list .entry)) (now (sets .entry)) (now (word .entry)) i d (now (ends .exit)) (now (left .exit)) r ⌝ }
 {
     if wide(counts[d]) < d {
         return dead();
     }
-    ended_row(m, list, ways, word, t, i + d + d, d, ends, left)
+    ended_row(
+        m,
+        list,
+        targets,
+        g,
+        h,
+        sets,
+        word,
+        t,
+        i + d + d,
+        d,
+        ends,
+        left,
+    )
 }
 
 // The row of buffering mode where x is the first letter of the input, from the row after it is read and the row after the mode is
 // changed.
-fn stored_row(m: Machine, list: &[u16], ways: &[u16], x: u16, next: Layer, change: Layer) -> Layer
-    requires { ⌜ (wellFormed m (now list) ≡ true) × Ways m (now list) (now ways) × (x < 256) ⌝ }
+fn stored_row(
+    m: Machine,
+    list: &[u16],
+    targets: &[u64],
+    g: u64,
+    h: u64,
+    x: u16,
+    next: Layer,
+    change: Layer,
+) -> Layer
+    requires { ⌜ Given m (now list) (now targets) g h × Row m (now list) (now targets) x ⌝ }
     ensures { λ r. ⌜ StoredRow m (now (list .entry)) x next change r ⌝ }
 {
-    if change.live {
-        return layer::buffering_layer(m, list, ways, x, &next.row, &change.row);
+    if !change.live {
+        if !next.live {
+            return next;
+        }
     }
-    if next.live {
-        return layer::storing_layer(m, list, ways, x, &next.row);
-    }
-    next
+    layer::buffering_layer(m, list, targets, g, h, x, &next.row, &change.row)
 }
 
 // The row of buffering mode at i + 1 with the letter at i in the buffer, from all copies that begin at i.
-pub fn storing_row(
+fn storing_row(
     m: Machine,
     list: &[u16],
-    ways: &[u16],
+    targets: &[u64],
+    g: u64,
+    h: u64,
+    sets: &[u64; 256],
     word: &[u8],
-    t: &[[u16; 64]],
+    t: &[[u32; 64]],
     i: usize,
     counts: &[u16; 128],
-    ends: &mut [[u16; 64]],
+    ends: &mut [[u32; 64]],
     left: &mut [u16],
 ) -> Layer
-    requires { ⌜ (wellFormed m (now list) ≡ true) × Ways m (now list) (now ways) × (i < length (now word)) × (length (now word) ≤ 255) × (length (now word) * 3 + 3 ≤ length (now t))
-        × ((p : ℕ) → i < p → p ≤ length (now word) → PlaceRows m (now list) (now word) (now t) p) × SharedFrom (now word) i (now counts) × Ends m (now list) (now word) (i + 1) (now ends) (now left) ⌝ }
-    ensures { λ r. ⌜ StoringRow m (now (list .entry)) (now (word .entry)) i (now (ends .exit)) (now (left .exit)) r ⌝ }
+    requires { ⌜ Known m (now list) (now targets) g h (now word) × (i < length (now word)) × (length (now word) ≤ 255) × (length (now word) * 3 + 3 ≤ length (now t))
+        × ((p : ℕ) → i < p → p ≤ length (now word) → PlaceRows m (now list) (now sets) (now word) (now t) p) × SharedFrom (now word) i (now counts) × Ends m (now list) (now sets) (now word) (i + 1) (now ends) (now left) ⌝ }
+    ensures { λ r. ⌜ StoringRow m (now (list .entry)) (now (sets .entry)) (now (word .entry)) i (now (ends .exit)) (now (left .exit)) r ⌝ }
 {
     let mut next = dead();
     let mut d = skip_idle(i, (word.len() - i) / 2, counts, &*left);
     while 0 < d {
         let x = word[i + d] as u16;
-        let change = change_row(m, list, ways, word, t, i, d, counts, ends, left);
-        next = stored_row(m, list, ways, x, next, change);
+        let change = change_row(
+            m,
+            list,
+            targets,
+            g,
+            h,
+            sets,
+            word,
+            t,
+            i,
+            d,
+            counts,
+            ends,
+            left,
+        );
+        next = stored_row(m, list, targets, g, h, x, next, change);
         d -= 1;
         if !next.live {
             d = skip_idle(i, d, counts, &*left);
@@ -266,26 +316,55 @@ pub fn storing_row(
     next
 }
 
+// The same where copies begin at i in the states of starts; where there are none, nothing is said of the row.
+pub fn starting_row(
+    m: Machine,
+    list: &[u16],
+    targets: &[u64],
+    g: u64,
+    h: u64,
+    sets: &[u64; 256],
+    word: &[u8],
+    t: &[[u32; 64]],
+    i: usize,
+    starts: u64,
+    counts: &[u16; 128],
+    ends: &mut [[u32; 64]],
+    left: &mut [u16],
+) -> Layer
+    requires { ⌜ Known m (now list) (now targets) g h (now word) × (i < length (now word)) × (length (now word) ≤ 255) × (length (now word) * 3 + 3 ≤ length (now t))
+        × ((p : ℕ) → i < p → p ≤ length (now word) → PlaceRows m (now list) (now sets) (now word) (now t) p) × SharedFrom (now word) i (now counts) × Ends m (now list) (now sets) (now word) (i + 1) (now ends) (now left) ⌝ }
+    ensures { λ r. ⌜ StartingRow m (now (list .entry)) (now (sets .entry)) (now (word .entry)) i starts (now (ends .exit)) (now (left .exit)) r ⌝ }
+{
+    if starts == 0 {
+        return dead();
+    }
+    storing_row(m, list, targets, g, h, sets, word, t, i, counts, ends, left)
+}
+
 // The row after the change of mode at i + d, with the d letters from i on in the buffer, from the rows of the positions alone.
 fn fresh_change(
     m: Machine,
     list: &[u16],
-    ways: &[u16],
+    targets: &[u64],
+    g: u64,
+    h: u64,
+    sets: &[u64; 256],
     word: &[u8],
-    t: &[[u16; 64]],
+    t: &[[u32; 64]],
     i: usize,
     d: usize,
 ) -> Layer
-    requires { ⌜ (wellFormed m (now list) ≡ true) × Ways m (now list) (now ways) × (i + d + d ≤ length (now word)) × (length (now word) * 3 + 3 ≤ length (now t))
-        × PlaceRows m (now list) (now word) (now t) (i + d + d) ⌝ }
-    ensures { λ r. ⌜ ChangeLayer m (now (list .entry)) (now (word .entry)) i d r ⌝ }
+    requires { ⌜ Known m (now list) (now targets) g h (now word) × (i + d + d ≤ length (now word)) × (length (now word) * 3 + 3 ≤ length (now t))
+        × PlaceRows m (now list) (now sets) (now word) (now t) (i + d + d) ⌝ }
+    ensures { λ r. ⌜ ChangeLayer m (now (list .entry)) (now (sets .entry)) (now (word .entry)) i d r ⌝ }
 {
     if !halves::halves_match(word, i, d) {
         return dead();
     }
     let e = i + d + d;
     let row = load(t, e * 3 + 2);
-    let tail = wind(m, list, ways, word, e, 0, d, row);
+    let tail = wind(m, list, targets, g, h, sets, word, e, 0, d, row);
     let wound = tail.row;
     if tail.live {
         return Layer {
@@ -300,22 +379,25 @@ fn fresh_change(
 pub fn buffering_rows(
     m: Machine,
     list: &[u16],
-    ways: &[u16],
+    targets: &[u64],
+    g: u64,
+    h: u64,
+    sets: &[u64; 256],
     word: &[u8],
-    t: &[[u16; 64]],
+    t: &[[u32; 64]],
     i: usize,
-    stored: &mut [[u16; 64]],
+    stored: &mut [[u32; 64]],
 )
-    requires { ⌜ (wellFormed m (now list) ≡ true) × Ways m (now list) (now ways) × (i < length (now word)) × (length (now word) * 3 + 3 ≤ length (now t)) × (length (now word) / 2 < length (now stored))
-        × ((p : ℕ) → i < p → p ≤ length (now word) → PlaceRows m (now list) (now word) (now t) p) ⌝ }
-    ensures { λ r. ⌜ BufferingRows m (now (list .entry)) (now (word .entry)) i (now (stored .entry)) (now (stored .exit)) ⌝ }
+    requires { ⌜ Known m (now list) (now targets) g h (now word) × (i < length (now word)) × (length (now word) * 3 + 3 ≤ length (now t)) × (length (now word) / 2 < length (now stored))
+        × ((p : ℕ) → i < p → p ≤ length (now word) → PlaceRows m (now list) (now sets) (now word) (now t) p) ⌝ }
+    ensures { λ r. ⌜ BufferingRows m (now (list .entry)) (now (sets .entry)) (now (word .entry)) i (now (stored .entry)) (now (stored .exit)) ⌝ }
 {
     let mut next = dead();
     let mut d = (word.len() - i) / 2;
     while 0 < d {
         let x = word[i + d] as u16;
-        let change = fresh_change(m, list, ways, word, t, i, d);
-        next = stored_row(m, list, ways, x, next, change);
+        let change = fresh_change(m, list, targets, g, h, sets, word, t, i, d);
+        next = stored_row(m, list, targets, g, h, x, next, change);
         let row = next.row;
         save(stored, d, row);
         d -= 1;

@@ -4,11 +4,11 @@ ghost use mathlib.Core.Path.{_≡_};
 ghost use mathlib.Core.Bool.{Bool, true, false};
 ghost use mathlib.Core.List.{List, []};
 ghost use lib.ListN.{length, getD, set};
-ghost use Rattle.fsbm.specs.Machine.{wellFormed};
-ghost use Rattle.layers.specs.Ways.{Ways};
+ghost use lib.Bits.{bitAnd};
+ghost use Rattle.stateset.specs.Set.{In, below};
 ghost use Rattle.layers.specs.Layers.{blankRow};
 ghost use Rattle.tables.specs.Halves.{SharedFrom};
-ghost use Rattle.tables.specs.Tables.{PlaceRows, putPlace, Sizes, Filling, Filled};
+ghost use Rattle.tables.specs.Tables.{Known, PlaceRows, putPlace, Placed, Sizes, Filling, Filled};
 use crate::copy;
 use crate::halves;
 use fsbm::machine::Machine;
@@ -16,7 +16,7 @@ use layers::layer;
 use layers::layer::Place;
 
 // Puts the rows of position p into the table.
-fn put_place(t: &mut [[u16; 64]], p: usize, place: Place)
+fn put_place(t: &mut [[u32; 64]], p: usize, place: Place)
     requires { ⌜ p * 3 + 3 ≤ length (now t) ⌝ }
     ensures { λ r. ⌜ now (t .exit) ≡ putPlace (now (t .entry)) p place ⌝ }
 {
@@ -28,106 +28,156 @@ fn put_place(t: &mut [[u16; 64]], p: usize, place: Place)
     copy::save(t, p * 3 + 2, emptying);
 }
 
-// Puts the rows of position p into the table, and has the copies that end there begin with them. It hands back whether normal mode
-// goes on from there.
-fn place_rows(
-    p: usize,
-    place: Place,
-    t: &mut [[u16; 64]],
-    ends: &mut [[u16; 64]],
-    left: &mut [u16],
-) -> bool
+// Puts the rows of position p into the table, and has the copies that end there begin with them, or be blank where none goes on.
+fn place_rows(p: usize, place: Place, t: &mut [[u32; 64]], ends: &mut [[u32; 64]], left: &mut [u16])
     requires { ⌜ (p * 3 + 3 ≤ length (now t)) × (p < length (now ends)) × (p < length (now left)) ⌝ }
-    ensures { λ r. ⌜ (r ≡ place .live) × (now (t .exit) ≡ putPlace (now (t .entry)) p place) × (now (ends .exit) ≡ set (now (ends .entry)) p (place .emptying)) × (now (left .exit) ≡ set (now (left .entry)) p 0) ⌝ }
+    ensures { λ r. ⌜ Placed p place (now (t .entry)) (now (t .exit)) (now (ends .entry)) (now (ends .exit)) (now (left .entry)) (now (left .exit)) ⌝ }
 {
     put_place(t, p, place);
+    if !place.ends {
+        left[p] = 256;
+        return;
+    }
     let emptying = place.emptying;
     copy::save(ends, p, emptying);
     left[p] = 0;
-    place.live
 }
 
-// Puts blank rows for position p into the table, and has the copies that end there be blank.
-fn place_blank(p: usize, t: &mut [[u16; 64]], left: &mut [u16])
-    requires { ⌜ (p * 3 + 3 ≤ length (now t)) × (p < length (now left)) ⌝ }
-    ensures { λ r. ⌜ (now (t .exit) ≡ putPlace (now (t .entry)) p (record { live = false; normal = blankRow; buffering = blankRow; emptying = blankRow })) × (now (left .exit) ≡ set (now (left .entry)) p 256) ⌝ }
+// The rows of a position that no run reaches.
+fn unreached() -> Place
+    ensures { λ r. ⌜ r ≡ record { normal = blankRow; buffering = blankRow; emptying = blankRow; ends = false } ⌝ }
 {
-    let none = layer::blank();
-    copy::save(t, p * 3, none);
-    copy::save(t, p * 3 + 1, none);
-    copy::save(t, p * 3 + 2, none);
-    left[p] = 256;
+    Place {
+        normal: layer::blank(),
+        buffering: layer::blank(),
+        emptying: layer::blank(),
+        ends: false,
+    }
+}
+
+// The states that runs reach at position p in normal mode.
+fn near_at(m: Machine, sets: &[u64; 256], p: usize) -> u64
+    requires { ⌜ p ≤ 255 ⌝ }
+    ensures { λ r. ⌜ (r ≡ bitAnd (getD (now (sets .entry)) p 0) (below (m .states))) × ((q : ℕ) → In r q → q < m .states) ⌝ }
+{
+    stateset::intersection(sets[p], stateset::full(m.states))
 }
 
 // Fills the rows of the end of the word.
 fn fill_end(
     m: Machine,
     list: &[u16],
-    ways: &[u16],
+    targets: &[u64],
+    g: u64,
+    h: u64,
+    sets: &[u64; 256],
     word: &[u8],
-    t: &mut [[u16; 64]],
-    ends: &mut [[u16; 64]],
+    t: &mut [[u32; 64]],
+    ends: &mut [[u32; 64]],
     left: &mut [u16],
-) -> bool
-    requires { ⌜ (wellFormed m (now list) ≡ true) × Ways m (now list) (now ways) × Sizes (now word) (now t) (now ends) (now left) ⌝ }
+)
+    requires { ⌜ Known m (now list) (now targets) g h (now word) × (length (now word) ≤ 255) × Sizes (now word) (now t) (now ends) (now left) ⌝ }
     ensures { λ r. ⌜ ((counts : List ℕ) → SharedFrom (now (word .entry)) (length (now (word .entry))) counts
-        → Filling m (now (list .entry)) (now (word .entry)) (length (now (word .entry))) (now (t .exit)) (now (ends .exit)) (now (left .exit)) counts r) ⌝ }
+        → Filling m (now (list .entry)) (now (sets .entry)) (now (word .entry)) (length (now (word .entry))) (now (t .exit)) (now (ends .exit)) (now (left .exit)) counts) ⌝ }
 {
     let none = layer::blank();
-    let end = layer::place_layer(m, list, ways, true, 0, &none, &none);
-    place_rows(word.len(), end, t, ends, left)
+    let near = near_at(m, sets, word.len());
+    let end = layer::place_layer(m, list, targets, g, h, near, true, 0, &none, &none);
+    place_rows(word.len(), end, t, ends, left);
 }
 
-// Fills the rows of position p from those of the positions after it; live says whether normal mode goes on from p + 1. It hands
-// back whether it does from p.
+// Fills the rows of position p from those of the positions after it.
 fn fill_place(
     m: Machine,
     list: &[u16],
-    ways: &[u16],
+    targets: &[u64],
+    g: u64,
+    h: u64,
+    sets: &[u64; 256],
     word: &[u8],
     p: usize,
-    live: bool,
-    t: &mut [[u16; 64]],
-    ends: &mut [[u16; 64]],
+    t: &mut [[u32; 64]],
+    ends: &mut [[u32; 64]],
     left: &mut [u16],
     counts: &mut [u16; 128],
-) -> bool
-    requires { ⌜ (wellFormed m (now list) ≡ true) × Ways m (now list) (now ways) × (p < length (now word)) × (length (now word) ≤ 255)
-        × Filling m (now list) (now word) (p + 1) (now t) (now ends) (now left) (now counts) live ⌝ }
-    ensures { λ r. ⌜ Filling m (now (list .entry)) (now (word .entry)) p (now (t .exit)) (now (ends .exit)) (now (left .exit)) (now (counts .exit)) r ⌝ }
+)
+    requires { ⌜ Known m (now list) (now targets) g h (now word) × (p < length (now word)) × (length (now word) ≤ 255)
+        × Filling m (now list) (now sets) (now word) (p + 1) (now t) (now ends) (now left) (now counts) ⌝ }
+    ensures { λ r. ⌜ Filling m (now (list .entry)) (now (sets .entry)) (now (word .entry)) p (now (t .exit)) (now (ends .exit)) (now (left .exit)) (now (counts .exit)) ⌝ }
 {
     halves::count_shared(word, p, counts);
-    let storing = copy::storing_row(m, list, ways, word, &*t, p, &*counts, ends, left);
-    if !live {
-        if !storing.live {
-            place_blank(p, t, left);
-            return false;
-        }
+    let near = near_at(m, sets, p);
+    if near == 0 {
+        place_rows(p, unreached(), t, ends, left);
+        return;
     }
+    let starts = stateset::intersection(near, g);
+    let storing = copy::starting_row(
+        m,
+        list,
+        targets,
+        g,
+        h,
+        sets,
+        word,
+        &*t,
+        p,
+        starts,
+        &*counts,
+        ends,
+        left,
+    );
     let onward = copy::load(t, (p + 1) * 3);
     let x = word[p] as u16;
-    let place = layer::place_layer(m, list, ways, false, x, &onward, &storing.row);
-    place_rows(p, place, t, ends, left)
+    let place = layer::place_layer(
+        m,
+        list,
+        targets,
+        g,
+        h,
+        near,
+        false,
+        x,
+        &onward,
+        &storing.row,
+    );
+    place_rows(p, place, t, ends, left);
 }
 
-// Fills the rows of every position.
+// Fills the rows of every position. sets has for each the states that runs reach there in normal mode.
 pub fn fill(
     m: Machine,
     list: &[u16],
-    ways: &[u16],
+    targets: &[u64],
+    g: u64,
+    h: u64,
+    sets: &[u64; 256],
     word: &[u8],
-    t: &mut [[u16; 64]],
-    ends: &mut [[u16; 64]],
+    t: &mut [[u32; 64]],
+    ends: &mut [[u32; 64]],
     left: &mut [u16],
 )
-    requires { ⌜ (wellFormed m (now list) ≡ true) × Ways m (now list) (now ways) × (length (now word) ≤ 255) × Sizes (now word) (now t) (now ends) (now left) ⌝ }
-    ensures { λ r. ⌜ Filled m (now (list .entry)) (now (word .entry)) (now (t .exit)) ⌝ }
+    requires { ⌜ Known m (now list) (now targets) g h (now word) × (length (now word) ≤ 255) × Sizes (now word) (now t) (now ends) (now left) ⌝ }
+    ensures { λ r. ⌜ Filled m (now (list .entry)) (now (sets .entry)) (now (word .entry)) (now (t .exit)) ⌝ }
 {
     let mut counts: [u16; 128] = [0; 128];
-    let mut live = fill_end(m, list, ways, word, t, ends, left);
+    fill_end(m, list, targets, g, h, sets, word, t, ends, left);
     let mut p = word.len();
     while 0 < p {
         p -= 1;
-        live = fill_place(m, list, ways, word, p, live, t, ends, left, &mut counts);
+        fill_place(
+            m,
+            list,
+            targets,
+            g,
+            h,
+            sets,
+            word,
+            p,
+            t,
+            ends,
+            left,
+            &mut counts,
+        );
     }
 }

@@ -6,10 +6,11 @@
 -- blank-at, blank-size, blank-none == the numbers of a blank row
 -- none-best         == a row that says none is as good as a blank one
 -- blank-emptying, blank-buffering == where the rows after it are blank, so is a layer
+-- blank-place       == where no state is kept, the rows of a place are blank
 use Prim.Native.Nat.{ℕ, zero, suc, _+_, _≤_, _<_}
 use mathlib.Core.Path.{_≡_, refl, sym, ap, _∙_, subst}
 use mathlib.Core.Logic.{_⊎_, inl, inr, _↔_}
-use mathlib.Core.Bool.{true, false}
+use mathlib.Core.Bool.{true, false, false≢true}
 use mathlib.Core.List.{List, [], _∷_, _++_}
 use native.Mathlib.Omega.{arith}
 use native.Mathlib.Decide.{decLt}
@@ -24,7 +25,7 @@ use Rattle.fsbm.specs.declared.config.Mode.the-variants.{Normal, Buffering, Emp
 use Rattle.fsbm.specs.Rules.{Rules, buffering-below, matching-below}
 use Rattle.layers.specs.Costs.{none, Near, Go, Best, at, RowReal, RowBest, Leads, Bounded, Marked}
 use Rattle.layers.specs.Costs.Laws.{Cases, silent, normal-letter, buffer-letter, empty-letter, to-buffering, to-emptying, to-normal, layer-least}
-use Rattle.layers.specs.Layers.{headOf, tailOf, blankRow, NoneBelow, EmptyingLayer, BufferingLayer, Begins, Sets, Settled, PlaceReal, PlaceBest}
+use Rattle.layers.specs.Layers.{headOf, tailOf, blankRow, NoneBelow, EmptyingLayer, BufferingLayer, Begins, Sets, Settled, PlaceReal, PlaceBest, PlaceLayer}
 
 never-mode : {A : Type 0} (n : ℕ) → _≡_ {A = ℕ} 0 1 → A
 never-mode n z = absurd (omega arith)
@@ -319,3 +320,24 @@ module _ (m : Machine) (list : List ℕ) (r : Rules m list) where
             (λ l. blank-bounded (λ q. q < m .states) Buffering x blankRow blank-none)
             (blank-marked (λ q. matching (m .marks) q ≡ true) (matching-below m list r) blankRow blank-none) (blank-bounded (λ q. q < m .states) Buffering 0 blankRow blank-none);
       }
+
+  -- where no state is kept in normal mode, and the input is not empty
+  pub blank-place : (h : ℕ) → ((q : ℕ) → In h q ↔ (matching (m .marks) q ≡ true)) → (near : ℕ) → near ≡ 0 → (x : ℕ) (next-n next-b : List ℕ) → PlaceLayer m list near false x next-n next-b blankRow blankRow blankRow
+  blank-place h matches near z x next-n next-b =
+      record {
+        best = λ N u nears iff head best-n best-b. place-best m list r N x u next-n next-b blankRow blankRow blankRow near 0 h
+            (record { nears = nears; begins = λ q. (λ i. absurd (empty-in q i), λ i. absurd (nothing q (i .0))); matches = matches }) head best-n best-b
+            (record { normal = blank-real N u [] Normal; buffering = blank-real N u [] Buffering; emptying = blank-real N u [] Emptying })
+            (λ e. absurd (false≢true (iff .1 e))) (λ l k leads i. absurd (nothing (transitionAt list k .from) i)) (λ (l : 0 < 0). absurd (omega arith))
+            (record {
+              in-normal = λ k leads i. absurd (nothing (transitionAt list k .from) i);
+              in-buffering = λ (l : 0 < 0). absurd (omega arith);
+              in-emptying = blank-bounded (λ q. q < m .states) Emptying 0 blankRow blank-none;
+              begin-buffering = λ q i. absurd (empty-in q i);
+              begin-emptying = λ (l : 0 < 0). absurd (omega arith);
+              back-to-normal = blank-marked (In h) (λ q i. matching-below m list r q (matches q .0 i)) blankRow blank-none;
+            });
+      }
+    where
+      nothing : (q : ℕ) → In near q → ⊥
+      nothing q i = empty-in q (subst (λ (n : ℕ). In n q) z i)

@@ -15,66 +15,66 @@ use Rattle.tables.proofs.copy.save.Reads as save-reads
 use Rattle.tables.proofs.copy.stored_row.Reads as stored-row-reads
 
 abbrev Inv-loop : tie.InvT-loop
-Inv-loop m list ways word t i stored₀ next₀ d₀ stored next d = Buffered m list word i d stored₀ stored next
+Inv-loop m list targets g h sets word t i stored₀ next₀ d₀ stored next d = Buffered m list sets word i d stored₀ stored next
 
 abbrev μ-loop : tie.MeasureT-loop
-μ-loop m list ways word t i stored₀ next₀ d₀ stored next d = d
+μ-loop m list targets g h sets word t i stored₀ next₀ d₀ stored next d = d
 
--- src/copy.rt:311:9
+-- src/copy.rt:370:9
 dead-requires : tie.Need-dead-requires Inv-loop μ-loop
 dead-requires c κs = search needs
 
--- src/copy.rt:312:18
+-- src/copy.rt:371:18
 sub-d : tie.Need-sub-d Inv-loop μ-loop
-sub-d c = omega (arith, (c .before .before .before .before .pre) .2)
+sub-d c = omega (arith, ((c .before .before .before .before .pre)) .1)
 
--- src/copy.rt:313:5
+-- src/copy.rt:372:5
 loop-holds : tie.Need-loop-holds Inv-loop μ-loop
-loop-holds c = buffer-rows-start _ _ _ (rules _ _ ((c .before .before .before .before .pre) .0)) _ ((c .before .before .before .before .pre) .2) _ refl _ ((c .dead .ensures) .0) _
+loop-holds c = buffer-rows-start _ _ _ _ (rules _ _ (((c .before .before .before .before .pre)) .0 .given .good)) _ (((c .before .before .before .before .pre)) .1) _ refl _ (((c .dead) .ensures) .0) _
 
--- src/copy.rt:314:22
+-- src/copy.rt:373:22
 add-x : tie.Need-add-x Inv-loop μ-loop
-add-x c = omega (arith, (c .before .loop .inv) .inside, (c .before .before .before .before .before .before .good))
+add-x c = omega (arith, ((c .before .loop) .inv) .inside, ((c .before .before .before .before .before .before .good)))
 
--- src/copy.rt:314:17
+-- src/copy.rt:373:17
 shared-slice-read-x : tie.Need-shared-slice-read-x Inv-loop μ-loop
-shared-slice-read-x c = omega (arith, (c .before .before .loop .inv) .inside, (c .before .loop-test .taken))
+shared-slice-read-x c = omega (arith, ((c .before .before .loop) .inv) .inside, ((c .before .loop-test) .taken))
 
--- src/copy.rt:314:17
+-- src/copy.rt:373:17
 cast-x : tie.Need-cast-x Inv-loop μ-loop
-cast-x c = omega (arith, (c .shared-slice-known4 .given) ((c .before .before .before .before .before .before .before .args .i) + (c .before .before .loop .d)))
+cast-x c = omega (arith, ((c .shared-slice-known4) .given) (((c .before .before .before .before .before .before .before .args) .i) + ((c .before .before .loop) .d)))
 
--- src/copy.rt:315:13
+-- src/copy.rt:374:13
 fresh-change-requires : tie.Need-fresh-change-requires Inv-loop μ-loop
-fresh-change-requires c κs = ((c .before .before .before .before .before .before .before .pre) .0, (c .before .before .before .before .before .before .before .pre) .1, (c .before .before .loop .inv) .inside, (c .before .before .before .before .before .before .before .pre) .3, (c .before .before .before .before .before .before .before .pre) .5 ((c .before .before .before .before .before .before .before .args .i) + (c .before .before .loop .d) + (c .before .before .loop .d)) (omega (arith, (c .before .loop-test .taken))) ((c .before .before .loop .inv) .inside))
+fresh-change-requires c κs = (((c .before .before .before .before .before .before .before .pre)) .0, ((c .before .before .loop) .inv) .inside, ((c .before .before .before .before .before .before .before .pre)) .2, ((c .before .before .before .before .before .before .before .pre)) .4 (((c .before .before .before .before .before .before .before .args) .i) + ((c .before .before .loop) .d) + ((c .before .before .loop) .d)) (omega (arith, ((c .before .loop-test) .taken))) (((c .before .before .loop) .inv) .inside))
 
--- src/copy.rt:316:9
+-- src/copy.rt:375:9
 stored-row-requires : tie.Need-stored-row-requires Inv-loop μ-loop
-stored-row-requires c κs = ((c .before .before .before .before .before .before .before .before .pre) .0, (c .before .before .before .before .before .before .before .before .pre) .1, omega (arith, (c .before .shared-slice-known4 .given) ((c .before .before .before .before .before .before .before .before .args .i) + (c .before .before .before .loop .d))))
+stored-row-requires c κs = ((c .before .before .before .before .before .before .before .before .pre) .0 .given, (c .before .before .before .before .before .before .before .before .pre) .0 .letters _ (omega (arith, ((c .before .before .before .loop) .inv) .inside, ((c .before .before .loop-test) .taken))))
 
--- src/copy.rt:318:9
+-- src/copy.rt:377:9
 save-requires : tie.Need-save-requires Inv-loop μ-loop
-save-requires c κs = omega (arith, (c .before .before .before .before .before .before .loop .inv) .inside, (c .before .before .before .before .before .before .loop .inv) .size, (c .before .before .before .before .before .before .before .before .before .before .before .pre) .4)
+save-requires c κs = omega (arith, ((c .before .before .before .before .before .before .loop) .inv) .inside, ((c .before .before .before .before .before .before .loop) .inv) .size, ((c .before .before .before .before .before .before .before .before .before .before .before .pre)) .3)
 
--- src/copy.rt:319:9
+-- src/copy.rt:378:9
 sub-d-2 : tie.Need-sub-d-2 Inv-loop μ-loop
-sub-d-2 c = omega (arith, (c .before .before .before .before .before .before .before .loop-test .taken))
+sub-d-2 c = omega (arith, ((c .before .before .before .before .before .before .before .loop-test) .taken))
 
--- src/copy.rt:313:5
+-- src/copy.rt:372:5
 loop-less : tie.Need-loop-less Inv-loop μ-loop
-loop-less c = omega (arith, (c .before .before .before .before .before .before .before .loop-test .taken))
+loop-less c = omega (arith, ((c .before .before .before .before .before .before .before .loop-test) .taken))
 
--- src/copy.rt:313:5
+-- src/copy.rt:372:5
 loop-again : tie.Need-loop-again Inv-loop μ-loop
-loop-again c = buffer-rows-next _ _ _ (rules _ _ ((c .before .before .before .before .before .before .before .before .before .before .before .before .before .pre) .0)) _ _ _ _ _ _ _ _ _ (c .before .before .before .before .before .before .before .loop-test .taken) (omega (arith, (c .before .before .before .before .before .before .before .before .loop .inv) .inside, (c .before .before .before .before .before .before .before .before .before .before .before .before .before .pre) .4)) refl (c .before .before .before .before .before .before .before .before .loop .inv) (c .before .before .before .before .before .fresh-change .ensures) (c .before .before .before .before .stored-row .ensures) (c .before .save .ensures)
+loop-again c = buffer-rows-next _ _ _ _ (rules _ _ (((c .before .before .before .before .before .before .before .before .before .before .before .before .before .pre)) .0 .given .good)) _ _ _ _ _ _ _ _ _ ((c .before .before .before .before .before .before .before .loop-test) .taken) (omega (arith, ((c .before .before .before .before .before .before .before .before .loop) .inv) .inside, ((c .before .before .before .before .before .before .before .before .before .before .before .before .before .pre)) .3)) refl ((c .before .before .before .before .before .before .before .before .loop) .inv) ((c .before .before .before .before .before .fresh-change) .ensures) ((c .before .before .before .before .stored-row) .ensures) ((c .before .save) .ensures)
 
--- src/copy.rt:298:1
+-- src/copy.rt:354:1
 same-length : tie.Need-same-length Inv-loop μ-loop
-same-length c = (c .before .loop .inv) .size
+same-length c = ((c .before .loop) .inv) .size
 
--- src/copy.rt:298:1
+-- src/copy.rt:354:1
 returns : tie.Need-returns Inv-loop μ-loop
-returns c = buffer-rows-end _ _ _ (rules _ _ ((c .before .before .before .before .before .before .pre) .0)) _ _ _ _ _ (c .loop-test .left) (c .before .loop .inv)
+returns c = buffer-rows-end _ _ _ _ (rules _ _ (((c .before .before .before .before .before .before .pre)) .0 .given .good)) _ _ _ _ _ ((c .loop-test) .left) ((c .before .loop) .inv)
 
 pub buffering-rows-spec : {M : Type 1} → statement M
 buffering-rows-spec =

@@ -11,50 +11,50 @@ use Rattle.tables.proofs.copy.wind.Lts as lts
 use Rattle.layers.proofs.layer.emptying_layer.Reads as emptying-layer-reads
 
 abbrev Inv-loop : tie.InvT-loop
-Inv-loop m list ways word e r d last₀ k₀ last k = Winding m list word e d k last
+Inv-loop m list targets g h sets word e r d last₀ k₀ last k = Winding m list sets word e d k last
 
 abbrev μ-loop : tie.MeasureT-loop
-μ-loop m list ways word e r d last₀ k₀ last k = d - k
+μ-loop m list targets g h sets word e r d last₀ k₀ last k = d - k
 
--- src/copy.rt:94:5
+-- src/copy.rt:106:5
 loop-holds : tie.Need-loop-holds Inv-loop μ-loop
-loop-holds c = record { within = (c .before .before .before .pre) .2; best = (c .before .before .before .pre) .5 }
+loop-holds c = record { within = ((c .before .before .before .pre)) .1; best = ((c .before .before .before .pre)) .4 }
 
--- src/copy.rt:95:9
+-- src/copy.rt:107:9
 add-k : tie.Need-add-k Inv-loop μ-loop
-add-k c = omega (arith, (c .loop-test .taken), (c .before .before .before .before .before .pre) .3, (c .before .before .before .before .before .pre) .4)
+add-k c = omega (arith, ((c .loop-test) .taken), ((c .before .before .before .before .before .pre)) .2, ((c .before .before .before .before .before .pre)) .3)
 
--- src/copy.rt:96:22
+-- src/copy.rt:108:22
 sub-x : tie.Need-sub-x Inv-loop μ-loop
-sub-x c = omega (arith, (c .loop-test .taken), (c .before .before .before .before .before .pre) .3, (c .before .before .before .before .before .pre) .4)
+sub-x c = omega (arith, ((c .loop-test) .taken), ((c .before .before .before .before .before .pre)) .2, ((c .before .before .before .before .before .pre)) .3)
 
--- src/copy.rt:96:17
+-- src/copy.rt:108:17
 shared-slice-read-x : tie.Need-shared-slice-read-x Inv-loop μ-loop
-shared-slice-read-x c = omega (arith, (c .before .loop-test .taken), (c .before .before .before .before .before .before .pre) .3, (c .before .before .before .before .before .before .pre) .4)
+shared-slice-read-x c = omega (arith, ((c .before .loop-test) .taken), ((c .before .before .before .before .before .before .pre)) .2, ((c .before .before .before .before .before .before .pre)) .3)
 
--- src/copy.rt:96:17
+-- src/copy.rt:108:17
 cast-x : tie.Need-cast-x Inv-loop μ-loop
-cast-x c = omega (arith, (c .shared-slice-known4 .given) ((c .before .before .before .before .before .before .args .e) - ((c .before .before .loop .k) + 1)))
+cast-x c = omega (arith, ((c .shared-slice-known4) .given) (((c .before .before .before .before .before .before .args) .e) - (((c .before .before .loop) .k) + 1)))
 
--- src/copy.rt:97:13
+-- src/copy.rt:109:13
 emptying-layer-requires : tie.Need-emptying-layer-requires Inv-loop μ-loop
-emptying-layer-requires c κs = ((c .before .before .before .before .before .before .before .pre) .0, (c .before .before .before .before .before .before .before .pre) .1, omega (arith, (c .before .shared-slice-known4 .given) ((c .before .before .before .before .before .before .before .args .e) - ((c .before .before .before .loop .k) + 1))))
+emptying-layer-requires c κs = ((c .before .before .before .before .before .before .before .pre) .0 .given, (c .before .before .before .before .before .before .before .pre) .0 .letters _ (omega (arith, ((c .before .before .loop-test) .taken), ((c .before .before .before .before .before .before .before .pre)) .2, ((c .before .before .before .before .before .before .before .pre)) .3)))
 
--- src/copy.rt:100:13
+-- src/copy.rt:112:13
 returns : tie.Need-returns Inv-loop μ-loop
-returns c = wound-dead _ _ _ _ _ (rules _ _ ((c .before .before .before .before .before .before .before .before .before .before .before .pre) .0)) _ _ ((c .before .before .before .before .before .before .before .before .before .before .before .pre) .4) (wound-next _ _ _ _ _ _ _ _ _ (c .before .before .before .before .before .before .loop-test .taken) ((c .before .before .before .before .before .before .before .before .before .before .before .pre) .3) ((c .before .before .before .before .before .before .before .before .before .before .before .pre) .4) refl (c .before .before .before .before .before .before .before .loop .inv) ((c .before .before .before .emptying-layer .ensures) .0)) ((c .before .before .before .emptying-layer .ensures) .1 (not-true _ (c .if1 .taken)))
+returns c = wound-dead _ _ _ _ _ _ (rules _ _ (((c .before .before .before .before .before .before .before .before .before .before .before .pre)) .0 .given .good)) _ _ (((c .before .before .before .before .before .before .before .before .before .before .before .pre)) .3) (wound-next _ _ _ _ _ _ _ _ _ _ ((c .before .before .before .before .before .before .loop-test) .taken) (((c .before .before .before .before .before .before .before .before .before .before .before .pre)) .2) (((c .before .before .before .before .before .before .before .before .before .before .before .pre)) .3) refl ((c .before .before .before .before .before .before .before .loop) .inv) (((c .before .before .before .emptying-layer) .ensures) .0)) (((c .before .before .before .emptying-layer) .ensures) .1 (not-true _ ((c .if1) .taken)))
 
--- src/copy.rt:94:5
+-- src/copy.rt:106:5
 loop-less : tie.Need-loop-less Inv-loop μ-loop
-loop-less c = omega (arith, (c .before .before .before .before .before .before .loop-test .taken))
+loop-less c = omega (arith, ((c .before .before .before .before .before .before .loop-test) .taken))
 
--- src/copy.rt:94:5
+-- src/copy.rt:106:5
 loop-again : tie.Need-loop-again Inv-loop μ-loop
-loop-again c = wound-next _ _ _ _ _ _ _ _ _ (c .before .before .before .before .before .before .loop-test .taken) ((c .before .before .before .before .before .before .before .before .before .before .before .pre) .3) ((c .before .before .before .before .before .before .before .before .before .before .before .pre) .4) refl (c .before .before .before .before .before .before .before .loop .inv) ((c .before .before .before .emptying-layer .ensures) .0)
+loop-again c = wound-next _ _ _ _ _ _ _ _ _ _ ((c .before .before .before .before .before .before .loop-test) .taken) (((c .before .before .before .before .before .before .before .before .before .before .before .pre)) .2) (((c .before .before .before .before .before .before .before .before .before .before .before .pre)) .3) refl ((c .before .before .before .before .before .before .before .loop) .inv) (((c .before .before .before .emptying-layer) .ensures) .0)
 
--- src/copy.rt:79:1
+-- src/copy.rt:88:1
 returns-2 : tie.Need-returns-2 Inv-loop μ-loop
-returns-2 c = wound-whole _ _ _ _ _ _ _ (c .loop-test .left) (c .before .loop .inv)
+returns-2 c = wound-whole _ _ _ _ _ _ _ _ ((c .loop-test) .left) ((c .before .loop) .inv)
 
 pub wind-spec : {M : Type 1} → statement M
 wind-spec =

@@ -25,11 +25,11 @@ add-result c = search needs
 
 -- src/halves.rt:27:9
 returns : tie.Need-returns
-returns c = (omega arith, λ s. shared-more _ _ _ _ ((c .before .before .before .pre) .0) (c .if1 .taken) s)
+returns c = (omega arith, λ s. shared-more _ _ _ _ (((c .before .before .before .pre)) .0) ((c .if1) .taken) s)
 
 -- src/halves.rt:22:1
 returns-2 : tie.Need-returns-2
-returns-2 c = (omega arith, λ s. shared-none _ _ _ ((c .before .before .before .pre) .0) (c .if1 .left))
+returns-2 c = (omega arith, λ s. shared-none _ _ _ (((c .before .before .before .pre)) .0) ((c .if1) .left))
 
 pub longer-spec : {M : Type 1} → statement M
 longer-spec =
