@@ -10,37 +10,42 @@ ghost use Rattle.fsbm.specs.Accepted.{accepted, runBound};
 ghost use Rattle.language.specs.Agreement.{published};
 ghost use Rattle.layers.specs.Costs.{none, Best};
 ghost use Rattle.adjacency.specs.Index.{Index};
-ghost use Rattle.layers.specs.Ways.{Ways};
-ghost use Rattle.tables.specs.Tables.{rowAt, Sized, Sizes, PlaceRows};
+ghost use Rattle.targets.specs.Prepared.{Prepared};
+ghost use Rattle.images.specs.Graph.{KindsOf};
+ghost use Rattle.decide.specs.Covers.{Covers};
+ghost use Rattle.tables.specs.Tables.{nearOf, Known, rowAt, Sized, Sizes, PlaceRows};
 ghost use Rattle.runs.specs.Walk.{Ready, changeEntry, Tried, Scanned, Entered, Fresh, Refreshed, Started, Written};
+use decide::places::Reached;
 use fsbm::config::Config;
 use fsbm::config::Mode;
 use fsbm::machine;
 use fsbm::machine::Machine;
-use layers::ways;
+use images::Kinds;
+use layers::row::NONE;
 use tables::copy;
 use tables::table;
 
 // The number of state q in row i of a table.
-fn number(t: &[[u16; 64]], i: usize, q: usize) -> u16
+fn number(t: &[[u32; 64]], i: usize, q: usize) -> u32
     requires { ⌜ (i < length (now t)) × (q < 64) ⌝ }
     ensures { λ r. ⌜ r ≡ getD (getD (now (t .entry)) i []) q 0 ⌝ }
 {
     t[i][q]
 }
 
-// The fewest moves from a configuration to acceptance; 65535 says none.
+// The fewest moves from a configuration to acceptance, NONE where there is no way.
 fn cost(
     m: Machine,
     list: &[u16],
+    sets: &[u64; 256],
     word: &[u8],
     c: Config,
-    t: &[[u16; 64]],
-    emptied: &[[u16; 64]],
-    stored: &[[u16; 64]],
-) -> u16
-    requires { ⌜ (m .states ≤ 64) × (wellPlaced (m .states) (length (now word)) c ≡ true) × Ready m (now list) (now word) (now t) (now emptied) (now stored) c ⌝ }
-    ensures { λ r. ⌜ Best m (now (list .entry)) (published (now (word .entry)) c) r ⌝ }
+    t: &[[u32; 64]],
+    emptied: &[[u32; 64]],
+    stored: &[[u32; 64]],
+) -> u32
+    requires { ⌜ (m .states ≤ 64) × (wellPlaced (m .states) (length (now word)) c ≡ true) × Ready m (now list) (now sets) (now word) (now t) (now emptied) (now stored) c ⌝ }
+    ensures { λ r. ⌜ Best m (now (list .entry)) (nearOf m (now (word .entry)) (now (sets .entry))) (published (now (word .entry)) c) r ⌝ }
 {
     let p = c.position;
     let q = c.state;
@@ -55,7 +60,7 @@ fn cost(
                 return number(t, p * 3 + 1, q);
             }
             if word.len() < p + d {
-                return 65535;
+                return NONE;
             }
             number(stored, d, q)
         }
@@ -67,17 +72,18 @@ fn cost(
 fn leads(
     m: Machine,
     list: &[u16],
+    sets: &[u64; 256],
     word: &[u8],
     c: Config,
-    t: &[[u16; 64]],
-    emptied: &[[u16; 64]],
-    stored: &[[u16; 64]],
-    d: u16,
+    t: &[[u32; 64]],
+    emptied: &[[u32; 64]],
+    stored: &[[u32; 64]],
+    d: u32,
     k: usize,
 ) -> bool
-    requires { ⌜ (wellFormed m (now list) ≡ true) × (wellPlaced (m .states) (length (now word)) c ≡ true) × Ready m (now list) (now word) (now t) (now emptied) (now stored) c
+    requires { ⌜ (wellFormed m (now list) ≡ true) × (wellPlaced (m .states) (length (now word)) c ≡ true) × Ready m (now list) (now sets) (now word) (now t) (now emptied) (now stored) c
         × (k < m .transitions) ⌝ }
-    ensures { λ r. ⌜ Tried m (now (list .entry)) (now (word .entry)) c d k r ⌝ }
+    ensures { λ r. ⌜ Tried m (now (list .entry)) (now (sets .entry)) (now (word .entry)) c d k r ⌝ }
 {
     let s = machine::transition_at(list, k);
     let q = c.state;
@@ -89,7 +95,7 @@ fn leads(
         return false;
     }
     let next = v.config;
-    let g = cost(m, list, word, next, t, emptied, stored);
+    let g = cost(m, list, sets, word, next, t, emptied, stored);
     g == d
 }
 
@@ -105,22 +111,23 @@ fn scan(
     m: Machine,
     list: &[u16],
     first: &[u16; 65],
+    sets: &[u64; 256],
     word: &[u8],
     c: Config,
-    t: &[[u16; 64]],
-    emptied: &[[u16; 64]],
-    stored: &[[u16; 64]],
-    d: u16,
+    t: &[[u32; 64]],
+    emptied: &[[u32; 64]],
+    stored: &[[u32; 64]],
+    d: u32,
 ) -> usize
-    requires { ⌜ (wellFormed m (now list) ≡ true) × (wellPlaced (m .states) (length (now word)) c ≡ true) × Ready m (now list) (now word) (now t) (now emptied) (now stored) c
+    requires { ⌜ (wellFormed m (now list) ≡ true) × (wellPlaced (m .states) (length (now word)) c ≡ true) × Ready m (now list) (now sets) (now word) (now t) (now emptied) (now stored) c
         × Index m (now list) (now first) ⌝ }
-    ensures { λ r. ⌜ Scanned m (now (list .entry)) (now (word .entry)) c d r ⌝ }
+    ensures { λ r. ⌜ Scanned m (now (list .entry)) (now (sets .entry)) (now (word .entry)) c d r ⌝ }
 {
     let q = c.state;
     let end = wide(first[q + 1]);
     let mut k = wide(first[q]);
     while k < end {
-        if leads(m, list, word, c, t, emptied, stored, d, k) {
+        if leads(m, list, sets, word, c, t, emptied, stored, d, k) {
             return k;
         }
         k += 1;
@@ -144,18 +151,19 @@ fn entry(
     m: Machine,
     list: &[u16],
     first: &[u16; 65],
+    sets: &[u64; 256],
     word: &[u8],
     c: Config,
-    t: &[[u16; 64]],
-    emptied: &[[u16; 64]],
-    stored: &[[u16; 64]],
-    d: u16,
+    t: &[[u32; 64]],
+    emptied: &[[u32; 64]],
+    stored: &[[u32; 64]],
+    d: u32,
 ) -> u16
-    requires { ⌜ (wellFormed m (now list) ≡ true) × (wellPlaced (m .states) (length (now word)) c ≡ true) × Ready m (now list) (now word) (now t) (now emptied) (now stored) c
-        × Best m (now list) (published (now word) c) (d + 1) × (d + 1 < none) × Index m (now list) (now first) ⌝ }
-    ensures { λ r. ⌜ Entered m (now (list .entry)) (now (word .entry)) c d r ⌝ }
+    requires { ⌜ (wellFormed m (now list) ≡ true) × (wellPlaced (m .states) (length (now word)) c ≡ true) × Ready m (now list) (now sets) (now word) (now t) (now emptied) (now stored) c
+        × Best m (now list) (nearOf m (now word) (now sets)) (published (now word) c) (d + 1) × (d + 1 < none) × Index m (now list) (now first) ⌝ }
+    ensures { λ r. ⌜ Entered m (now (list .entry)) (now (sets .entry)) (now (word .entry)) c d r ⌝ }
 {
-    let k = scan(m, list, first, word, c, t, emptied, stored, d);
+    let k = scan(m, list, first, sets, word, c, t, emptied, stored, d);
     if k < m.transitions {
         return k as u16;
     }
@@ -167,16 +175,19 @@ fn entry(
 fn refresh(
     m: Machine,
     list: &[u16],
-    ways: &[u16],
+    targets: &[u64],
+    g: u64,
+    h: u64,
+    sets: &[u64; 256],
     word: &[u8],
     c: Config,
     e: u16,
-    t: &[[u16; 64]],
-    emptied: &mut [[u16; 64]],
-    stored: &mut [[u16; 64]],
+    t: &[[u32; 64]],
+    emptied: &mut [[u32; 64]],
+    stored: &mut [[u32; 64]],
 )
-    requires { ⌜ (wellFormed m (now list) ≡ true) × Ways m (now list) (now ways) × Fresh m (now list) (now word) (now t) (now emptied) (now stored) c e ⌝ }
-    ensures { λ r. ⌜ Refreshed m (now (list .entry)) (now (word .entry)) (now (t .entry)) (now (emptied .entry)) (now (emptied .exit)) (now (stored .entry)) (now (stored .exit)) c ⌝ }
+    requires { ⌜ Known m (now list) (now targets) g h (now word) × Fresh m (now list) (now sets) (now word) (now t) (now emptied) (now stored) c e ⌝ }
+    ensures { λ r. ⌜ Refreshed m (now (list .entry)) (now (sets .entry)) (now (word .entry)) (now (t .entry)) (now (emptied .entry)) (now (emptied .exit)) (now (stored .entry)) (now (stored .exit)) c ⌝ }
 {
     if e < 65533 {
         return;
@@ -186,14 +197,14 @@ fn refresh(
     let end = c.end;
     if e == 65533 {
         if start < word.len() {
-            copy::buffering_rows(m, list, ways, word, t, start, stored);
+            copy::buffering_rows(m, list, targets, g, h, sets, word, t, start, stored);
         }
         return;
     }
     if e == 65534 {
         let d = end - start;
         let last = copy::load(t, (p + d) * 3 + 2);
-        copy::emptying_rows(m, list, ways, word, last, p + d, d, emptied);
+        copy::emptying_rows(m, list, targets, g, h, sets, word, last, p + d, d, emptied);
     }
 }
 
@@ -201,19 +212,22 @@ fn refresh(
 fn walk(
     m: Machine,
     list: &[u16],
-    ways: &[u16],
+    targets: &[u64],
+    g: u64,
+    h: u64,
+    sets: &[u64; 256],
     first: &[u16; 65],
     word: &[u8],
     q: usize,
-    moves: u16,
-    t: &[[u16; 64]],
-    emptied: &mut [[u16; 64]],
-    stored: &mut [[u16; 64]],
+    moves: u32,
+    t: &[[u32; 64]],
+    emptied: &mut [[u32; 64]],
+    stored: &mut [[u32; 64]],
     run: &mut [u16],
 ) -> usize
     requires { ⌜ (wellFormed m (now list) ≡ true) × (q < m .states) × (initial (m .marks) q ≡ true) × Sized (now word) (now t) (now emptied) (now stored)
-        × ((p : ℕ) → p ≤ length (now word) → PlaceRows m (now list) (now word) (now t) p) × Best m (now list) (published (now word) (startAt q)) moves × (moves < none) × (1 + moves ≤ length (now run))
-        × ((other : List ℕ) → accepting m (now list) (now word) other ≡ true → 1 + moves ≤ length other) × Ways m (now list) (now ways) × Index m (now list) (now first) ⌝ }
+        × ((p : ℕ) → p ≤ length (now word) → PlaceRows m (now list) (now sets) (now word) (now t) p) × Best m (now list) (nearOf m (now word) (now sets)) (published (now word) (startAt q)) moves × (moves < none) × (1 + moves ≤ length (now run))
+        × ((other : List ℕ) → accepting m (now list) (now word) other ≡ true → 1 + moves ≤ length other) × Known m (now list) (now targets) g h (now word) × Index m (now list) (now first) ⌝ }
     ensures { λ r. ⌜ Written m (now (list .entry)) (now (word .entry)) r (now (run .entry)) (now (run .exit)) ⌝ }
 {
     run[0] = q as u16;
@@ -222,10 +236,23 @@ fn walk(
     let mut k: usize = 1;
     while 0 < d {
         d -= 1;
-        let e = entry(m, list, first, word, c, t, &*emptied, &*stored, d);
+        let e = entry(m, list, first, sets, word, c, t, &*emptied, &*stored, d);
         let v = c.moved(m.states, m.transitions, &m.marks, list, word, e);
         let next = v.config;
-        refresh(m, list, ways, word, next, e, t, emptied, stored);
+        refresh(
+            m,
+            list,
+            targets,
+            g,
+            h,
+            sets,
+            word,
+            next,
+            e,
+            t,
+            emptied,
+            stored,
+        );
         c = next;
         run[k] = e;
         k += 1;
@@ -234,7 +261,7 @@ fn walk(
 }
 
 // The better start of b (the number of states: none yet) and q.
-fn better(m: Machine, row: &[u16; 64], b: usize, q: usize) -> usize
+fn better(m: Machine, row: &[u32; 64], b: usize, q: usize) -> usize
     requires { ⌜ (m .states ≤ 64) × (q < m .states) × Started m (now row) q b ⌝ }
     ensures { λ r. ⌜ Started m (now (row .entry)) (q + 1) r ⌝ }
 {
@@ -251,7 +278,7 @@ fn better(m: Machine, row: &[u16; 64], b: usize, q: usize) -> usize
 }
 
 // The first initial state with the least number of a row; the number of states where no state is initial.
-fn start(m: Machine, row: &[u16; 64]) -> usize
+fn start(m: Machine, row: &[u32; 64]) -> usize
     requires { ⌜ m .states ≤ 64 ⌝ }
     ensures { λ r. ⌜ Started m (now (row .entry)) (m .states) r ⌝ }
 {
@@ -268,20 +295,24 @@ fn start(m: Machine, row: &[u16; 64]) -> usize
 fn write_with(
     m: Machine,
     list: &[u16],
-    ways: &[u16],
+    targets: &[u64],
+    g: u64,
+    h: u64,
+    sets: &[u64; 256],
     word: &[u8],
-    t: &mut [[u16; 64]],
-    ends: &mut [[u16; 64]],
+    t: &mut [[u32; 64]],
+    ends: &mut [[u32; 64]],
     left: &mut [u16],
-    emptied: &mut [[u16; 64]],
-    stored: &mut [[u16; 64]],
+    emptied: &mut [[u32; 64]],
+    stored: &mut [[u32; 64]],
     run: &mut [u16],
 ) -> usize
     requires { ⌜ (wellFormed m (now list) ≡ true) × (length (now word) ≤ 255) × (accepted m (now list) (now word) ≡ true) × (runBound m (length (now word)) ≤ length (now run))
-        × Ways m (now list) (now ways) × Sizes (now word) (now t) (now ends) (now left) × Sized (now word) (now t) (now emptied) (now stored) ⌝ }
+        × Known m (now list) (now targets) g h (now word) × Sizes (now word) (now t) (now ends) (now left) × Sized (now word) (now t) (now emptied) (now stored)
+        × Covers m (now list) (now word) (now sets) ⌝ }
     ensures { λ r. ⌜ Written m (now (list .entry)) (now (word .entry)) r (now (run .entry)) (now (run .exit)) ⌝ }
 {
-    table::fill(m, list, ways, word, t, ends, left);
+    table::fill(m, list, targets, g, h, sets, word, t, ends, left);
     let a = adjacency::index(m, list);
     let row = copy::load(t, 0);
     let q = start(m, &row);
@@ -289,7 +320,10 @@ fn write_with(
     walk(
         m,
         list,
-        ways,
+        targets,
+        g,
+        h,
+        sets,
         &a.first,
         word,
         q,
@@ -302,45 +336,55 @@ fn write_with(
 }
 
 // The tables of a word of at most 15 letters, of at most 63, and of at most 255.
-fn few_places() -> [[u16; 64]; 48] {
-    [[65535; 64]; 48]
+fn few_places() -> [[u32; 64]; 48] {
+    [[NONE; 64]; 48]
 }
 
-fn few_ends() -> [[u16; 64]; 16] {
-    [[65535; 64]; 16]
+fn few_ends() -> [[u32; 64]; 16] {
+    [[NONE; 64]; 16]
 }
 
-fn few_rows() -> [[u16; 64]; 8] {
-    [[65535; 64]; 8]
+fn few_rows() -> [[u32; 64]; 8] {
+    [[NONE; 64]; 8]
 }
 
-fn some_places() -> [[u16; 64]; 192] {
-    [[65535; 64]; 192]
+fn some_places() -> [[u32; 64]; 192] {
+    [[NONE; 64]; 192]
 }
 
-fn some_ends() -> [[u16; 64]; 64] {
-    [[65535; 64]; 64]
+fn some_ends() -> [[u32; 64]; 64] {
+    [[NONE; 64]; 64]
 }
 
-fn some_rows() -> [[u16; 64]; 32] {
-    [[65535; 64]; 32]
+fn some_rows() -> [[u32; 64]; 32] {
+    [[NONE; 64]; 32]
 }
 
-fn all_places() -> [[u16; 64]; 768] {
-    [[65535; 64]; 768]
+fn all_places() -> [[u32; 64]; 768] {
+    [[NONE; 64]; 768]
 }
 
-fn all_ends() -> [[u16; 64]; 256] {
-    [[65535; 64]; 256]
+fn all_ends() -> [[u32; 64]; 256] {
+    [[NONE; 64]; 256]
 }
 
-fn all_rows() -> [[u16; 64]; 128] {
-    [[65535; 64]; 128]
+fn all_rows() -> [[u32; 64]; 128] {
+    [[NONE; 64]; 128]
 }
 
 // write_run for a word of more than 63 letters.
-fn write_long(m: Machine, list: &[u16], ways: &[u16], word: &[u8], run: &mut [u16]) -> usize
-    requires { ⌜ (wellFormed m (now list) ≡ true) × (length (now word) ≤ 255) × (accepted m (now list) (now word) ≡ true) × (runBound m (length (now word)) ≤ length (now run)) × Ways m (now list) (now ways) ⌝ }
+fn write_long(
+    m: Machine,
+    list: &[u16],
+    targets: &[u64],
+    g: u64,
+    h: u64,
+    sets: &[u64; 256],
+    word: &[u8],
+    run: &mut [u16],
+) -> usize
+    requires { ⌜ (wellFormed m (now list) ≡ true) × (length (now word) ≤ 255) × (accepted m (now list) (now word) ≡ true) × (runBound m (length (now word)) ≤ length (now run)) × Known m (now list) (now targets) g h (now word)
+        × Covers m (now list) (now word) (now sets) ⌝ }
     ensures { λ r. ⌜ Written m (now (list .entry)) (now (word .entry)) r (now (run .entry)) (now (run .exit)) ⌝ }
 {
     let mut t = all_places();
@@ -351,7 +395,10 @@ fn write_long(m: Machine, list: &[u16], ways: &[u16], word: &[u8], run: &mut [u1
     write_with(
         m,
         list,
-        ways,
+        targets,
+        g,
+        h,
+        sets,
         word,
         &mut t,
         &mut ends,
@@ -363,8 +410,18 @@ fn write_long(m: Machine, list: &[u16], ways: &[u16], word: &[u8], run: &mut [u1
 }
 
 // write_run for a word of at most 63 letters.
-fn write_medium(m: Machine, list: &[u16], ways: &[u16], word: &[u8], run: &mut [u16]) -> usize
-    requires { ⌜ (wellFormed m (now list) ≡ true) × (length (now word) ≤ 63) × (accepted m (now list) (now word) ≡ true) × (runBound m (length (now word)) ≤ length (now run)) × Ways m (now list) (now ways) ⌝ }
+fn write_medium(
+    m: Machine,
+    list: &[u16],
+    targets: &[u64],
+    g: u64,
+    h: u64,
+    sets: &[u64; 256],
+    word: &[u8],
+    run: &mut [u16],
+) -> usize
+    requires { ⌜ (wellFormed m (now list) ≡ true) × (length (now word) ≤ 63) × (accepted m (now list) (now word) ≡ true) × (runBound m (length (now word)) ≤ length (now run)) × Known m (now list) (now targets) g h (now word)
+        × Covers m (now list) (now word) (now sets) ⌝ }
     ensures { λ r. ⌜ Written m (now (list .entry)) (now (word .entry)) r (now (run .entry)) (now (run .exit)) ⌝ }
 {
     let mut t = some_places();
@@ -375,7 +432,10 @@ fn write_medium(m: Machine, list: &[u16], ways: &[u16], word: &[u8], run: &mut [
     write_with(
         m,
         list,
-        ways,
+        targets,
+        g,
+        h,
+        sets,
         word,
         &mut t,
         &mut ends,
@@ -387,8 +447,18 @@ fn write_medium(m: Machine, list: &[u16], ways: &[u16], word: &[u8], run: &mut [
 }
 
 // write_run for a word of at most 15 letters.
-fn write_short(m: Machine, list: &[u16], ways: &[u16], word: &[u8], run: &mut [u16]) -> usize
-    requires { ⌜ (wellFormed m (now list) ≡ true) × (length (now word) ≤ 15) × (accepted m (now list) (now word) ≡ true) × (runBound m (length (now word)) ≤ length (now run)) × Ways m (now list) (now ways) ⌝ }
+fn write_short(
+    m: Machine,
+    list: &[u16],
+    targets: &[u64],
+    g: u64,
+    h: u64,
+    sets: &[u64; 256],
+    word: &[u8],
+    run: &mut [u16],
+) -> usize
+    requires { ⌜ (wellFormed m (now list) ≡ true) × (length (now word) ≤ 15) × (accepted m (now list) (now word) ≡ true) × (runBound m (length (now word)) ≤ length (now run)) × Known m (now list) (now targets) g h (now word)
+        × Covers m (now list) (now word) (now sets) ⌝ }
     ensures { λ r. ⌜ Written m (now (list .entry)) (now (word .entry)) r (now (run .entry)) (now (run .exit)) ⌝ }
 {
     let mut t = few_places();
@@ -399,7 +469,10 @@ fn write_short(m: Machine, list: &[u16], ways: &[u16], word: &[u8], run: &mut [u
     write_with(
         m,
         list,
-        ways,
+        targets,
+        g,
+        h,
+        sets,
         word,
         &mut t,
         &mut ends,
@@ -410,34 +483,57 @@ fn write_short(m: Machine, list: &[u16], ways: &[u16], word: &[u8], run: &mut [u
     )
 }
 
-// write_run with the index of the transitions lent, in tables that are no larger than the word needs.
-fn write_indexed(m: Machine, list: &[u16], ways: &mut [u16], word: &[u8], run: &mut [u16]) -> usize
-    requires { ⌜ (wellFormed m (now list) ≡ true) × (length (now word) ≤ 255) × (accepted m (now list) (now word) ≡ true) × (runBound m (length (now word)) ≤ length (now run))
-        × (578 + m .transitions ≤ length (now ways)) ⌝ }
+// write_run with the sets that are given lent, in tables that are no larger than the word needs.
+fn write_sized(
+    m: Machine,
+    list: &[u16],
+    targets: &[u64],
+    g: u64,
+    h: u64,
+    sets: &[u64; 256],
+    word: &[u8],
+    run: &mut [u16],
+) -> usize
+    requires { ⌜ (wellFormed m (now list) ≡ true) × (length (now word) ≤ 255) × (accepted m (now list) (now word) ≡ true) × (runBound m (length (now word)) ≤ length (now run)) × Known m (now list) (now targets) g h (now word)
+        × Covers m (now list) (now word) (now sets) ⌝ }
     ensures { λ r. ⌜ Written m (now (list .entry)) (now (word .entry)) r (now (run .entry)) (now (run .exit)) ⌝ }
 {
-    ways::index(m, list, ways);
     if word.len() < 16 {
-        return write_short(m, list, &*ways, word, run);
+        return write_short(m, list, targets, g, h, sets, word, run);
     }
     if word.len() < 64 {
-        return write_medium(m, list, &*ways, word, run);
+        return write_medium(m, list, targets, g, h, sets, word, run);
     }
-    write_long(m, list, &*ways, word, run)
+    write_long(m, list, targets, g, h, sets, word, run)
 }
 
 // Writes an accepting run of a word that the machine accepts to the front of the slice, and hands back the number of its entries.
 // No accepting run has fewer. What stands after it is as it was. Which of the runs with as few it is, the contract leaves open.
-// Time: the transitions of one letter for each position, and for each stretch that stands twice in a row or may lead to one. Memory:
-// by the sizes of its tables 180 KB of stack for a word of more than 63 letters, 52 KB for one of more than 15, else 20 KB.
-pub fn write_run(m: Machine, list: &[u16], word: &[u8], run: &mut [u16]) -> usize
-    requires { ⌜ (wellFormed m (now list) ≡ true) × (length (now word) ≤ 255) × (accepted m (now list) (now word) ≡ true) × (runBound m (length (now word)) ≤ length (now run)) ⌝ }
+// targets is the table of target sets prepared for the word, kinds the states by their marks, reached the states that runs reach.
+// Time: for each position that runs reach its states, and for each stretch that stands twice in a row from where a copy may begin to
+// where one may end, the states; for each state its targets, where none of them has the least number of all. Memory: by the sizes of
+// its tables 340 KB of stack for a word of more than 63 letters, 84 KB for one of more than 15, else 21 KB.
+pub fn write_run(
+    m: Machine,
+    list: &[u16],
+    targets: &[u64],
+    kinds: Kinds,
+    word: &[u8],
+    reached: Reached,
+    run: &mut [u16],
+) -> usize
+    requires { ⌜ (wellFormed m (now list) ≡ true) × (length (now word) ≤ 255) × (accepted m (now list) (now word) ≡ true) × (runBound m (length (now word)) ≤ length (now run))
+        × KindsOf (m .marks) (m .states) kinds × Prepared m (now list) (now word) (now targets) × Covers m (now list) (now word) (reached .sets) ⌝ }
     ensures { λ r. ⌜ Written m (now (list .entry)) (now (word .entry)) r (now (run .entry)) (now (run .exit)) ⌝ }
 {
-    if m.transitions <= 62 {
-        let mut ways: [u16; 640] = [0; 640];
-        return write_indexed(m, list, &mut ways, word, run);
-    }
-    let mut ways: [u16; 4578] = [0; 4578];
-    write_indexed(m, list, &mut ways, word, run)
+    write_sized(
+        m,
+        list,
+        targets,
+        kinds.buffering,
+        kinds.matching,
+        &reached.sets,
+        word,
+        run,
+    )
 }

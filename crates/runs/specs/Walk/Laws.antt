@@ -6,6 +6,7 @@
 -- change-is                    == an allowed entry that is no transition changes the mode
 -- go-first, change-must        == some entry has one move less to go: where no transition has, the change of mode
 -- go-second                    == a way to acceptance from emptying mode: the buffer stands at the front of the input
+-- go-kept, run-kept            == what has a way of moves, or is reached by a run, is kept
 -- accepts-go, go-accepts, entries-go == runs and ways
 use Prim.Native.Nat.{ℕ, zero, suc, _+_, _-_, _*_, _≤_, _<_}
 use mathlib.Core.Path.{_≡_, refl, sym, ap, _∙_, subst}
@@ -20,13 +21,16 @@ use lib.ListN.{length, getD, set, take, drop, length-set, length-drop, length-ap
 use lib.Seq.{slice, slice-cons, slice-empty, length-slice, ext-getD, drop-length, drop-set-lt, drop-drop, take-suc-set}
 use lib.Dec.{ltb, eqb}
 use borrow.Author.Tests.{ltb-true, ltb-false, eqb-true, eqb-false, eq-eqb, lt-ltb}
+use lib.Bits.{bitAnd}
+use Rattle.stateset.specs.Set.{width, In, below}
+use Rattle.stateset.specs.Set.Laws.{in-and, below-is}
 use Rattle.graphs.specs.Search.Laws.{and-true, and-both-true, true-or-false, not-both}
 use Rattle.graphs.specs.Paths.{Path, here, step}
 use Rattle.fsbm.specs.Machine.{wellFormed, transitionAt, buffering, matching, bothMatching, final, initial}
 use Rattle.fsbm.specs.Moves.{wellPlaced, bufferFits, readsLetter, advanced, goes, takes, changes, move, isNormal, accepts, acceptingFrom, accepting, startAt, beginBuffering, beginEmptying, backToNormal}
 use Rattle.fsbm.specs.Accepted.{accepted, runBound}
 use Rattle.fsbm.specs.Accepted.Laws.{accepted-true}
-use Rattle.fsbm.specs.Published.{fsbmOf, Configuration, config, Yields}
+use Rattle.fsbm.specs.Published.{fsbmOf, Configuration, config, Yields, Run, done, more}
 use Rattle.fsbm.specs.declared.machine.Machine.{Machine}
 use Rattle.fsbm.specs.declared.machine.Transition.{Transition}
 use Rattle.fsbm.specs.declared.config.Config.{Config}
@@ -40,18 +44,19 @@ use Rattle.language.specs.Strings.{slice-none}
 use Rattle.fsbm.specs.Entries.{entryOf}
 use Rattle.language.specs.Agreement.{published, move-yields, yields-move}
 use Rattle.language.specs.NoWord.{nextMode}
-use Rattle.layers.specs.Costs.{none, at, Go, Best, RowBest}
+use Rattle.layers.specs.Costs.{none, at, Near, Step, Go, Best, RowBest}
 use Rattle.layers.specs.Costs.Laws.{Fits, go-fit, go-step}
-use Rattle.layers.specs.Layers.{blankRow, PlaceBest}
+use Rattle.layers.specs.Layers.{blankRow, Begins, PlaceBest}
 use Rattle.layers.specs.Layers.Laws.{blank-at}
-use Rattle.tables.specs.Tables.{rowAt, PlaceRows, EmptyRow, BufferRow, Sized}
+use Rattle.tables.specs.Tables.{nearOf, Known, rowAt, PlaceRows, EmptyRow, BufferRow, Sized}
 use Rattle.tables.specs.Tables.Laws.{slice-at, front-letters, buffer-past}
+use Rattle.decide.specs.Covers.{Covers}
 use Rattle.runs.specs.Walk.{endOf, Second, Ready, changeEntry, Scanned, Entered, Fresh, Refreshed, Started, Written}
 
 -- Where the cost is read from
 
-module _ (m : Machine) (list w : List ℕ) (t emptied stored : List (List ℕ)) (c : Config) (ready : Ready m list w t emptied stored c) (pl : Placed m w c (c .mode)) where
-  same-published : (v : List ℕ) (s : Mode) (d : ℕ) → slice (c .start) (c .end) w ≡ v → c .mode ≡ s → Best m list (config (drop (c .position) w) (c .state) v s) d → Best m list (published w c) d
+module _ (m : Machine) (list sets w : List ℕ) (t emptied stored : List (List ℕ)) (c : Config) (ready : Ready m list sets w t emptied stored c) (pl : Placed m w c (c .mode)) where
+  same-published : (v : List ℕ) (s : Mode) (d : ℕ) → slice (c .start) (c .end) w ≡ v → c .mode ≡ s → Best m list (nearOf m w sets) (config (drop (c .position) w) (c .state) v s) d → Best m list (nearOf m w sets) (published w c) d
   same-published v s d a b best = rw (a, b) best
 
   empty-buffer : c .start ≡ c .end → slice (c .start) (c .end) w ≡ []
@@ -60,16 +65,18 @@ module _ (m : Machine) (list w : List ℕ) (t emptied stored : List (List ℕ)) 
   fits-as : (s : Mode) → c .mode ≡ s → bufferFits c s ≡ true
   fits-as s e = subst (λ (z : Mode). bufferFits c z ≡ true) e (pl .fits)
 
-  pub best-normal : c .mode ≡ Normal → Best m list (published w c) (at (rowAt t (c .position * 3)) (c .state))
+  pub best-normal : c .mode ≡ Normal → Best m list (nearOf m w sets) (published w c) (at (rowAt t (c .position * 3)) (c .state))
   unfolding PlaceRows
   best-normal e =
       same-published [] Normal _ (empty-buffer (eqb-true (c .start) (c .end) (fits-as Normal e))) e (ready .places (c .position) (pl .in-word) .normal (c .state) (pl .state-below))
 
-  pub best-begun : c .mode ≡ Buffering → c .position - c .start ≡ 0 → Best m list (published w c) (at (rowAt t (c .position * 3 + 1)) (c .state))
+  pub best-begun : c .mode ≡ Buffering → c .position - c .start ≡ 0 → Best m list (nearOf m w sets) (published w c) (at (rowAt t (c .position * 3 + 1)) (c .state))
   unfolding PlaceRows
   best-begun e z =
       let ends = eqb-true (c .end) (c .position) (fits-as Buffering e) in
-      same-published [] Buffering _ (empty-buffer (omega (arith, pl .forward))) e (ready .places (c .position) (pl .in-word) .buffering (c .state) (pl .state-below))
+      let here : c .start ≡ c .position = omega (arith, pl .forward) in
+      same-published [] Buffering _ (empty-buffer (omega (arith, pl .forward))) e
+      (ready .places (c .position) (pl .in-word) .buffering (subst (λ (k : ℕ). Begins m (nearOf m w sets) (drop k w)) here (ready .begun e)) (c .state) (pl .state-below))
 
   module _ (e : c .mode ≡ Buffering) where
     here-is : c .start + (c .position - c .start) ≡ c .position
@@ -80,22 +87,22 @@ module _ (m : Machine) (list w : List ℕ) (t emptied stored : List (List ℕ)) 
         let ends = eqb-true (c .end) (c .position) (fits-as Buffering e) in
         ap (λ (n : ℕ). slice (c .start) n w) (ends ∙ sym here-is)
 
-    buffered : (row : List ℕ) → BufferRow m list w (c .start) (c .position - c .start) row → Best m list (published w c) (at row (c .state))
+    buffered : (row : List ℕ) → BufferRow m list sets w (c .start) (c .position - c .start) row → Best m list (nearOf m w sets) (published w c) (at row (c .state))
     unfolding BufferRow
     buffered row best =
-        let b : Best m list (config (drop (c .start + (c .position - c .start)) w) (c .state) (slice (c .start) (c .start + (c .position - c .start)) w) Buffering) (at row (c .state)) = best (c .state) (pl .state-below) in
-        same-published _ Buffering _ stored-is e (subst (λ (n : ℕ). Best m list (config (drop n w) (c .state) (slice (c .start) (c .start + (c .position - c .start)) w) Buffering) (at row (c .state))) here-is b)
+        let b : Best m list (nearOf m w sets) (config (drop (c .start + (c .position - c .start)) w) (c .state) (slice (c .start) (c .start + (c .position - c .start)) w) Buffering) (at row (c .state)) = best (c .state) (pl .state-below) in
+        same-published _ Buffering _ stored-is e (subst (λ (n : ℕ). Best m list (nearOf m w sets) (config (drop n w) (c .state) (slice (c .start) (c .start + (c .position - c .start)) w) Buffering) (at row (c .state))) here-is b)
 
-    pub best-past : m .states ≤ 64 → length w < c .position + (c .position - c .start) → Best m list (published w c) none
+    pub best-past : m .states ≤ 64 → length w < c .position + (c .position - c .start) → Best m list (nearOf m w sets) (published w c) none
     best-past fit past =
         let z = blank-at (c .state) (omega (arith, pl .state-below)) in
-        subst (Best m list (published w c)) z
-        (buffered blankRow (buffer-past m list w (c .start) (c .position - c .start) fit (omega (arith, pl .in-word, pl .forward, pl .behind)) (omega (arith, pl .forward, pl .behind))))
+        subst (Best m list (nearOf m w sets) (published w c)) z
+        (buffered blankRow (buffer-past m list sets w (c .start) (c .position - c .start) fit (omega (arith, pl .in-word, pl .forward, pl .behind)) (omega (arith, pl .forward, pl .behind))))
 
-    pub best-buffering : 0 < c .position - c .start → c .position + (c .position - c .start) ≤ length w → Best m list (published w c) (at (rowAt stored (c .position - c .start)) (c .state))
+    pub best-buffering : 0 < c .position - c .start → c .position + (c .position - c .start) ≤ length w → Best m list (nearOf m w sets) (published w c) (at (rowAt stored (c .position - c .start)) (c .state))
     best-buffering pos le = buffered (rowAt stored (c .position - c .start)) (ready .storing e (c .position - c .start) pos (omega (arith, pl .forward, pl .behind)))
 
-  pub best-emptying : c .mode ≡ Emptying → Best m list (published w c) (at (rowAt emptied (c .end - c .start)) (c .state))
+  pub best-emptying : c .mode ≡ Emptying → Best m list (nearOf m w sets) (published w c) (at (rowAt emptied (c .end - c .start)) (c .state))
   unfolding EmptyRow
   best-emptying e =
       let s = ready .matching e in
@@ -118,7 +125,7 @@ pub record Kept (c : Config) (t : Mode) (c′ : Config) : Type 0 where
   pub second : t ≡ Emptying → (c′ .end ≡ c .end)
       × (((c′ .position ≡ c .position) × (c′ .start ≡ c .start)) ⊎ ((c′ .position ≡ c .position + 1) × (c′ .start ≡ c .start + 1) × (c .start < c .end)))
 
-module _ (m : Machine) (list w : List ℕ) where
+module _ (m : Machine) (list sets w : List ℕ) where
   goes-kept : (c : Config) (t : Mode) (ok : Bool) (next : Config) → (ok ≡ true → Kept c t next) → ok ≡ true → Kept c t (cond ok next c)
   goes-kept c t true next h e = h e
   goes-kept c t false next h e = absurd (false≢true e)
@@ -191,8 +198,8 @@ module _ (m : Machine) (list w : List ℕ) where
   tail-equal : {x y : ℕ} {u v : List ℕ} → x ∷ u ≡ y ∷ v → u ≡ v
   tail-equal e = cc
 
-  second-step : (emptied : List (List ℕ)) (c c′ : Config) → c .start ≤ c .end → c .end ≤ length w → Second m list w emptied c → c′ .end ≡ c .end
-      → (((c′ .position ≡ c .position) × (c′ .start ≡ c .start)) ⊎ ((c′ .position ≡ c .position + 1) × (c′ .start ≡ c .start + 1) × (c .start < c .end))) → Second m list w emptied c′
+  second-step : (emptied : List (List ℕ)) (c c′ : Config) → c .start ≤ c .end → c .end ≤ length w → Second m list sets w emptied c → c′ .end ≡ c .end
+      → (((c′ .position ≡ c .position) × (c′ .start ≡ c .start)) ⊎ ((c′ .position ≡ c .position + 1) × (c′ .start ≡ c .start + 1) × (c .start < c .end))) → Second m list sets w emptied c′
   second-step emptied c c′ le le-end s e (inl (p, q)) =
       record {
         inside = rw (e, p, q) (s .inside);
@@ -209,18 +216,19 @@ module _ (m : Machine) (list w : List ℕ) where
       record {
         inside = omega (arith, s .inside);
         equal = ap (λ (n : ℕ). slice (c′ .start) n w) e ∙ ap (λ (n : ℕ). slice n (c .end) w) (sym more) ∙ tails ∙ ap (λ (n : ℕ). slice n (endOf c) w) on ∙ ap (λ (n : ℕ). slice (c′ .position) n w) (sym same);
-        rows = λ r l. subst (λ (n : ℕ). EmptyRow m list w n r (rowAt emptied r)) (sym same) (s .rows r (omega arith));
+        rows = λ r l. subst (λ (n : ℕ). EmptyRow m list sets w n r (rowAt emptied r)) (sym same) (s .rows r (omega arith));
       }
 
-  pub ready-step : (t emptied stored : List (List ℕ)) (c : Config) (k : ℕ) → k < m .transitions → Ready m list w t emptied stored c → Placed m w c (c .mode) → move m list w c k .allowed ≡ true
-      → Ready m list w t emptied stored (move m list w c k .config)
+  pub ready-step : (t emptied stored : List (List ℕ)) (c : Config) (k : ℕ) → k < m .transitions → Ready m list sets w t emptied stored c → Placed m w c (c .mode) → move m list w c k .allowed ≡ true
+      → Ready m list sets w t emptied stored (move m list w c k .config)
   ready-step t emptied stored c k lt ready pl h =
       let kept = move-kept c k lt h in
       record {
         places = ready .places;
         sized = ready .sized;
+        begun = λ e. let b : c .mode ≡ Buffering = sym (kept .mode-same) ∙ e in subst (λ (k : ℕ). Begins m (nearOf m w sets) (drop k w)) (sym (kept .start-same b)) (ready .begun b);
         storing = λ e d pos le. let b : c .mode ≡ Buffering = sym (kept .mode-same) ∙ e in let s = kept .start-same b in
-            subst (λ (n : ℕ). BufferRow m list w n d (rowAt stored d)) (sym s) (ready .storing b d pos (omega arith));
+            subst (λ (n : ℕ). BufferRow m list sets w n d (rowAt stored d)) (sym s) (ready .storing b d pos (omega arith));
         matching = λ e. let b : c .mode ≡ Emptying = sym (kept .mode-same) ∙ e in let s = kept .second b in
             second-step emptied c (move m list w c k .config) (pl .forward) (omega (arith, pl .behind, pl .in-word)) (ready .matching b) (s .0) (s .1);
       }
@@ -228,25 +236,30 @@ module _ (m : Machine) (list w : List ℕ) where
 -- Changes of mode
 
 -- what a change of mode does
-pub record Changed (c : Config) (t : Mode) (e : ℕ) (c′ : Config) : Type 0 where
+pub record Changed (marks : List ℕ) (c : Config) (t : Mode) (e : ℕ) (c′ : Config) : Type 0 where
   pub entry : e ≡ changeEntry t
   pub mode-next : c′ .mode ≡ nextMode t
+  pub begins : t ≡ Normal → (c′ .start ≡ c .position) × (buffering marks (c .state) ≡ true)
 
-module _ (m : Machine) (list w : List ℕ) where
-  goes-changed : (c : Config) (t : Mode) (e : ℕ) (ok : Bool) (next : Config) → (ok ≡ true → Changed c t e next) → ok ≡ true → Changed c t e (cond ok next c)
+module _ (m : Machine) (list sets w : List ℕ) where
+  goes-changed : (c : Config) (t : Mode) (e : ℕ) (ok : Bool) (next : Config) → (ok ≡ true → Changed (m .marks) c t e next) → ok ≡ true → Changed (m .marks) c t e (cond ok next c)
   goes-changed c t e true next h z = h z
   goes-changed c t e false next h z = absurd (false≢true z)
 
-  changes-changed : (c : Config) (e : ℕ) (t : Mode) → changes (m .marks) c e t .allowed ≡ true → Changed c t e (changes (m .marks) c e t .config)
+  began : (c : Config) (e : ℕ) → (eqb e beginBuffering && (buffering (m .marks) (c .state) && eqb (c .start) (c .end))) ≡ true → buffering (m .marks) (c .state) ≡ true
+  began c e h =
+      and-true (buffering (m .marks) (c .state)) (eqb (c .start) (c .end)) (and-true (eqb e beginBuffering) (buffering (m .marks) (c .state) && eqb (c .start) (c .end)) h .1) .0
+
+  changes-changed : (c : Config) (e : ℕ) (t : Mode) → changes (m .marks) c e t .allowed ≡ true → Changed (m .marks) c t e (changes (m .marks) c e t .config)
   unfolding changes
   changes-changed c e Normal =
-      goes-changed c Normal e _ _ (λ h. record { entry = eqb-true e beginBuffering (and-true (eqb e beginBuffering) (buffering (m .marks) (c .state) && eqb (c .start) (c .end)) h .0); mode-next = refl })
+      goes-changed c Normal e _ _ (λ h. record { entry = eqb-true e beginBuffering (and-true (eqb e beginBuffering) (buffering (m .marks) (c .state) && eqb (c .start) (c .end)) h .0); mode-next = refl; begins = λ z. (refl, began c e h) })
   changes-changed c e Buffering =
-      goes-changed c Buffering e _ _ (λ h. record { entry = eqb-true e beginEmptying (and-true (eqb e beginEmptying) (matching (m .marks) (c .state)) h .0); mode-next = refl })
+      goes-changed c Buffering e _ _ (λ h. record { entry = eqb-true e beginEmptying (and-true (eqb e beginEmptying) (matching (m .marks) (c .state)) h .0); mode-next = refl; begins = λ z. let d : _≡_ {A = ℕ} 0 1 = cc in absurd (omega arith) })
   changes-changed c e Emptying =
-      goes-changed c Emptying e _ _ (λ h. record { entry = eqb-true e backToNormal (and-true (eqb e backToNormal) (matching (m .marks) (c .state) && eqb (c .start) (c .end)) h .0); mode-next = refl })
+      goes-changed c Emptying e _ _ (λ h. record { entry = eqb-true e backToNormal (and-true (eqb e backToNormal) (matching (m .marks) (c .state) && eqb (c .start) (c .end)) h .0); mode-next = refl; begins = λ z. let d : _≡_ {A = ℕ} 0 1 = cc in absurd (omega arith) })
 
-  pub change-is : (c : Config) (e : ℕ) → m .transitions ≤ e → move m list w c e .allowed ≡ true → Changed c (c .mode) e (move m list w c e .config)
+  pub change-is : (c : Config) (e : ℕ) → m .transitions ≤ e → move m list w c e .allowed ≡ true → Changed (m .marks) c (c .mode) e (move m list w c e .config)
   unfolding move
   change-is c e ge =
       cond-elim Good (wellPlaced (m .states) (length w) c) _ (goes false c c)
@@ -256,33 +269,41 @@ module _ (m : Machine) (list w : List ℕ) where
       (λ f h. absurd (false≢true h))
     where
       Good : Move → Type 0
-      Good v = v .allowed ≡ true → Changed c (c .mode) e (v .config)
+      Good v = v .allowed ≡ true → Changed (m .marks) c (c .mode) e (v .config)
 
   -- Some entry has one move less to go
 
-  path-first : {C E : Configuration} {n : ℕ} → Path Configuration (Yields (fsbmOf m list)) C E n → 0 < n → (q : ℕ) → final (m .marks) q ≡ true → E ≡ config [] q [] Normal
-      → (C′ : Configuration) × (n′ : ℕ) × (n ≡ suc n′) × Yields (fsbmOf m list) C C′ × Go m list C′ n′
+  path-first : {C E : Configuration} {n : ℕ} → Path Configuration (Step m list (nearOf m w sets)) C E n → 0 < n → (q : ℕ) → final (m .marks) q ≡ true → E ≡ config [] q [] Normal
+      → (C′ : Configuration) × (n′ : ℕ) × (n ≡ suc n′) × Step m list (nearOf m w sets) C C′ × Go m list (nearOf m w sets) C′ n′
   path-first here pos q f e = absurd (omega arith)
-  path-first (step {v = C′} {n = n} y p) pos q f e = (C′, n, refl, y, record { last = q; last-final = f; path = subst (λ (E : Configuration). Path Configuration (Yields (fsbmOf m list)) C′ E n) e p })
+  path-first (step {v = C′} {n = n} y p) pos q f e =
+      (C′, n, refl, y, record { last = q; last-final = f; path = subst (λ (E : Configuration). Path Configuration (Step m list (nearOf m w sets)) C′ E n) e p })
 
-  pub go-first : {C : Configuration} {n : ℕ} → Go m list C n → 0 < n → (C′ : Configuration) × (n′ : ℕ) × (n ≡ suc n′) × Yields (fsbmOf m list) C C′ × Go m list C′ n′
+  pub go-first : {C : Configuration} {n : ℕ} → Go m list (nearOf m w sets) C n → 0 < n
+      → (C′ : Configuration) × (n′ : ℕ) × (n ≡ suc n′) × Step m list (nearOf m w sets) C C′ × Go m list (nearOf m w sets) C′ n′
   go-first g pos = path-first (g .path) pos (g .last) (g .last-final) refl
 
-  module _ (good : wellFormed m list ≡ true) (c : Config) (p : wellPlaced (m .states) (length w) c ≡ true) (d : ℕ) (best : Best m list (published w c) (suc d)) (small : suc d < none) where
-    -- where an entry leads, there are at least d moves to go
-    pub next-least : (e n : ℕ) → move m list w c e .allowed ≡ true → Go m list (published w (move m list w c e .config)) n → d ≤ n
-    next-least e n h g = let l = best .least (suc n) (go-step m list (move-yields m list w c e h .0) g) in omega arith
+  -- what has a way to acceptance of at least one move is kept
+  pub go-kept : (c : Config) (n : ℕ) → 0 < n → Go m list (nearOf m w sets) (published w c) n → c .mode ≡ Normal → Near (nearOf m w sets) (drop (c .position) w) (c .state)
+  go-kept c n pos g = go-first g pos .3 .kept
 
-    pub change-must : ((k : ℕ) → k < m .transitions → move m list w c k .allowed ≡ true → (g : ℕ) × Best m list (published w (move m list w c k .config)) g × (g ≡ d → ⊥))
-        → Entered m list w c d (changeEntry (c .mode))
+  module _ (good : wellFormed m list ≡ true) (c : Config) (p : wellPlaced (m .states) (length w) c ≡ true) (d : ℕ) (best : Best m list (nearOf m w sets) (published w c) (suc d)) (small : suc d < none) where
+    -- where an entry leads, there are at least d moves to go
+    pub next-least : (e n : ℕ) → move m list w c e .allowed ≡ true → Go m list (nearOf m w sets) (published w (move m list w c e .config)) n → d ≤ n
+    next-least e n h g =
+        let l = best .least (suc n) (go-step m list (move-yields m list w c e h .0) (go-kept c (suc d) (omega arith) (best .realised small)) g) in
+        omega arith
+
+    pub change-must : ((k : ℕ) → k < m .transitions → move m list w c k .allowed ≡ true → (g : ℕ) × Best m list (nearOf m w sets) (published w (move m list w c k .config)) g × (g ≡ d → ⊥))
+        → Entered m list sets w c d (changeEntry (c .mode))
     change-must bad =
         let (C′, n, n-is, y, go) = go-first (best .realised small) (omega arith) in
-        let e = entryOf m list y in
-        let v = yields-move m list w good y c p refl in
-        let go′ : Go m list (published w (move m list w c e .config)) n = rw (v .lands) go in
-        on e (v .allowed) (subst (Go m list (published w (move m list w c e .config))) (omega arith) go′) (decLt e (m .transitions))
+        let e = entryOf m list (y .move) in
+        let v = yields-move m list w good (y .move) c p refl in
+        let go′ : Go m list (nearOf m w sets) (published w (move m list w c e .config)) n = rw (v .lands) go in
+        on e (v .allowed) (subst (Go m list (nearOf m w sets) (published w (move m list w c e .config))) (omega arith) go′) (decLt e (m .transitions))
       where
-        on : (e : ℕ) → move m list w c e .allowed ≡ true → Go m list (published w (move m list w c e .config)) d → Dec (e < m .transitions) → Entered m list w c d (changeEntry (c .mode))
+        on : (e : ℕ) → move m list w c e .allowed ≡ true → Go m list (nearOf m w sets) (published w (move m list w c e .config)) d → Dec (e < m .transitions) → Entered m list sets w c d (changeEntry (c .mode))
         on e a go (yes lt) =
             let (g, b, differs) = bad e lt a in
             let least = b .least d go in
@@ -290,10 +311,10 @@ module _ (m : Machine) (list w : List ℕ) where
             absurd (differs (omega arith))
         on e a go (no ge) =
             let is = change-is c e (omega arith) a .entry in
-            subst (Entered m list w c d) is (record { allowed = a; best = record { realised = λ l. go; least = λ n g. next-least e n a g } })
+            subst (Entered m list sets w c d) is (record { allowed = a; best = record { realised = λ l. go; least = λ n g. next-least e n a g } })
 
   -- the buffer of a configuration with a way to acceptance, in emptying mode
-  pub go-second : (c : Config) (n : ℕ) → Placed m w c (c .mode) → c .mode ≡ Emptying → Go m list (published w c) n → (endOf c ≤ length w) × (slice (c .start) (c .end) w ≡ slice (c .position) (endOf c) w)
+  pub go-second : (c : Config) (n : ℕ) → Placed m w c (c .mode) → c .mode ≡ Emptying → Go m list (nearOf m w sets) (published w c) n → (endOf c ≤ length w) × (slice (c .start) (c .end) w ≡ slice (c .position) (endOf c) w)
   unfolding Fits
   go-second c n pl e g =
       let f : Fits (drop (c .position) w) (slice (c .start) (c .end) w) Emptying = subst (Fits (drop (c .position) w) (slice (c .start) (c .end) w)) e (go-fit m list g) in
@@ -305,7 +326,7 @@ module _ (m : Machine) (list w : List ℕ) where
       let a₂ = length-slice (c .position) (endOf c) w inside in (
         inside,
         ext-getD 0 (slice (c .start) (c .end) w) (slice (c .position) (endOf c) w) (omega arith)
-            (λ k (l : k < length (slice (c .start) (c .end) w)). front-letters m list w (c .position) (slice (c .start) (c .end) w) (f .0) (f .1) k l ∙ sym (slice-at m list w (c .position) (endOf c) k (omega arith))),
+            (λ k (l : k < length (slice (c .start) (c .end) w)). front-letters m list sets w (c .position) (slice (c .start) (c .end) w) (f .0) (f .1) k l ∙ sym (slice-at m list sets w (c .position) (endOf c) k (omega arith))),
       )
 
   -- Runs and ways
@@ -315,7 +336,7 @@ module _ (m : Machine) (list w : List ℕ) where
   is-normal Buffering h = absurd (false≢true h)
   is-normal Emptying h = absurd (false≢true h)
 
-  accepts-go : (c : Config) → accepts (m .marks) (length w) c ≡ true → Go m list (published w c) 0
+  accepts-go : (c : Config) → accepts (m .marks) (length w) c ≡ true → Go m list (nearOf m w sets) (published w c) 0
   unfolding accepts
   accepts-go c h =
       let (f, r₁) = and-true (final (m .marks) (c .state)) (isNormal (c .mode) && (eqb (c .start) (c .end) && eqb (c .position) (length w))) h in
@@ -325,18 +346,41 @@ module _ (m : Machine) (list w : List ℕ) where
       let stored : slice (c .start) (c .end) w ≡ [] = ap (λ (n : ℕ). slice n (c .end) w) (eqb-true (c .start) (c .end) s) ∙ slice-empty (c .end) w in
       rw (input, stored, is-normal (c .mode) n) (record { last = c .state; last-final = f; path = here })
 
-  pub entries-go : (c : Config) (es : List ℕ) → acceptingFrom m list w c es ≡ true → Go m list (published w c) (length es)
-  unfolding acceptingFrom
-  entries-go c [] h = accepts-go c h
-  entries-go c (e ∷ es) h =
-      let (a, rest) = and-true (move m list w c e .allowed) (acceptingFrom m list w (move m list w c e .config) es) h in
-      go-step m list (move-yields m list w c e a .0) (entries-go (move m list w c e .config) es rest)
+  -- a run and one move more
+  run-more : {C D E : Configuration} → Run (fsbmOf m list) C D → Yields (fsbmOf m list) D E → Run (fsbmOf m list) C E
+  run-more done y = more y done
+  run-more (more x r) y = more x (run-more r y)
 
-  path-none : {C E : Configuration} {n : ℕ} → Path Configuration (Yields (fsbmOf m list)) C E n → n ≡ 0 → C ≡ E
+  -- what a run leads to is kept
+  run-kept : m .states ≤ 64 → Covers m list w sets → (o : ℕ) → fsbmOf m list .I o → (c : Config) → Placed m w c (c .mode) → Run (fsbmOf m list) (config w o [] Normal) (published w c) → c .mode ≡ Normal
+      → Near (nearOf m w sets) (drop (c .position) w) (c .state)
+  run-kept small covers o first c pl run e =
+      let empty : c .start ≡ c .end = eqb-true (c .start) (c .end) (subst (λ (t : Mode). bufferFits c t ≡ true) e (pl .fits)) in
+      let stored : slice (c .start) (c .end) w ≡ [] = ap (λ (n : ℕ). slice n (c .end) w) empty ∙ slice-empty (c .end) w in
+      let run′ : Run (fsbmOf m list) (config w o [] Normal) (config (drop (c .position) w) (c .state) [] Normal) =
+      subst (λ (v : List ℕ). Run (fsbmOf m list) (config w o [] Normal) (config (drop (c .position) w) (c .state) v Normal)) stored
+      (subst (λ (t : Mode). Run (fsbmOf m list) (config w o [] Normal) (config (drop (c .position) w) (c .state) (slice (c .start) (c .end) w) t)) e run) in
+      in-and (getD sets (length w - length (drop (c .position) w)) 0) (below (m .states)) (c .state) .1
+      (covers o (c .state) (drop (c .position) w) first run′, below-is (m .states) .members (c .state) .1 (pl .state-below, fits))
+    where
+      fits : c .state < width
+      fits = omega (arith, pl .state-below, small)
+
+  pub entries-go : wellFormed m list ≡ true → Covers m list w sets → (o : ℕ) → fsbmOf m list .I o → (c : Config) → wellPlaced (m .states) (length w) c ≡ true
+      → Run (fsbmOf m list) (config w o [] Normal) (published w c) → (es : List ℕ) → acceptingFrom m list w c es ≡ true → Go m list (nearOf m w sets) (published w c) (length es)
+  unfolding acceptingFrom
+  entries-go good covers o first c p run [] h = accepts-go c h
+  entries-go good covers o first c p run (e ∷ es) h =
+      let (a, rest) = and-true (move m list w c e .allowed) (acceptingFrom m list w (move m list w c e .config) es) h in
+      let y = move-yields m list w c e a .0 in
+      go-step m list y (run-kept (rules m list good .states-fit) covers o first c (placed m w c p) run)
+      (entries-go good covers o first (move m list w c e .config) (move-placed m list w good c e a) (run-more run y) es rest)
+
+  path-none : {C E : Configuration} {n : ℕ} → Path Configuration (Step m list (nearOf m w sets)) C E n → n ≡ 0 → C ≡ E
   path-none here e = refl
   path-none (step y p) e = absurd (omega arith)
 
-  pub go-accepts : (c : Config) → Placed m w c (c .mode) → Go m list (published w c) 0 → accepts (m .marks) (length w) c ≡ true
+  pub go-accepts : (c : Config) → Placed m w c (c .mode) → Go m list (nearOf m w sets) (published w c) 0 → accepts (m .marks) (length w) c ≡ true
   unfolding accepts
   go-accepts c pl g =
       let e = path-none (g .path) refl in
@@ -357,6 +401,11 @@ change-buffering Normal e = refl
 change-buffering Buffering e = absurd (omega arith)
 change-buffering Emptying e = absurd (omega arith)
 
+change-from : (t : Mode) → changeEntry t ≡ beginBuffering → t ≡ Normal
+change-from Normal e = refl
+change-from Buffering e = absurd (omega arith)
+change-from Emptying e = absurd (omega arith)
+
 change-emptying : (t : Mode) → changeEntry t ≡ beginEmptying → nextMode t ≡ Emptying
 change-emptying Normal e = absurd (omega arith)
 change-emptying Buffering e = refl
@@ -372,23 +421,28 @@ change-large Normal = omega arith
 change-large Buffering = omega arith
 change-large Emptying = omega arith
 
-module _ (m : Machine) (list w : List ℕ) (good : wellFormed m list ≡ true) (t emptied stored : List (List ℕ)) where
-  pub walk-fresh : (c : Config) (d e : ℕ) → wellPlaced (m .states) (length w) c ≡ true → Ready m list w t emptied stored c → d < none → Entered m list w c d e
-      → Fresh m list w t emptied stored (move m list w c e .config) e
-  walk-fresh c d e p ready small entered =
+module _ (m : Machine) (list sets w : List ℕ) (good : wellFormed m list ≡ true) (t emptied stored : List (List ℕ)) where
+  pub walk-fresh : (c : Config) (d e : ℕ) → wellPlaced (m .states) (length w) c ≡ true → Ready m list sets w t emptied stored c → d < none → (c .mode ≡ Normal → Near (nearOf m w sets) (drop (c .position) w) (c .state)) → Entered m list sets w c d e
+      → Fresh m list sets w t emptied stored (move m list w c e .config) e
+  walk-fresh c d e p ready small near entered =
       let h = entered .allowed in
       let next = move m list w c e .config in
       let pl = placed m w next (move-placed m list w good c e h) in
       record {
         places = ready .places;
         sized = ready .sized;
-        kept = λ l. ready-step m list w t emptied stored c e (listed l h) ready (placed m w c p) h;
-        storing = λ z. let g = change-is m list w c e (omega (arith, r .transitions-fit)) h in g .mode-next ∙ change-buffering (c .mode) (sym (g .entry) ∙ z);
-        matching = λ z. let g = change-is m list w c e (omega (arith, r .transitions-fit)) h in
+        kept = λ l. ready-step m list sets w t emptied stored c e (listed l h) ready (placed m w c p) h;
+        storing = λ z. let g = change-is m list sets w c e (omega (arith, r .transitions-fit)) h in
+            let from = change-from (c .mode) (sym (g .entry) ∙ z) in
+            let (start, is) = g .begins from in (
+              g .mode-next ∙ change-buffering (c .mode) (sym (g .entry) ∙ z),
+              subst (λ (k : ℕ). Begins m (nearOf m w sets) (drop k w)) (sym start) (record { state = c .state; kept = near from; is = is }),
+            );
+        matching = λ z. let g = change-is m list sets w c e (omega (arith, r .transitions-fit)) h in
             let is = g .mode-next ∙ change-emptying (c .mode) (sym (g .entry) ∙ z) in
-            let s = go-second m list w next d pl is (entered .best .realised small) in
+            let s = go-second m list sets w next d pl is (entered .best .realised small) in
             (is, s .0, s .1);
-        normal = λ z. let g = change-is m list w c e (omega (arith, r .transitions-fit)) h in g .mode-next ∙ change-normal (c .mode) (sym (g .entry) ∙ z);
+        normal = λ z. let g = change-is m list sets w c e (omega (arith, r .transitions-fit)) h in g .mode-next ∙ change-normal (c .mode) (sym (g .entry) ∙ z);
         placed = (pl .forward, pl .behind, pl .in-word);
       }
     where
@@ -400,14 +454,14 @@ module _ (m : Machine) (list w : List ℕ) (good : wellFormed m list ≡ true) (
         where
           on : Dec (e < m .transitions) → e < m .transitions
           on (yes z) = z
-          on (no z) = let g = change-is m list w c e (omega arith) h .entry in let b = change-large (c .mode) in absurd (omega arith)
+          on (no z) = let g = change-is m list sets w c e (omega arith) h .entry in let b = change-large (c .mode) in absurd (omega arith)
 
 -- what the walk has done once k entries are written
-pub record Walking (m : Machine) (list w : List ℕ) (t emptied stored : List (List ℕ)) (run₀ run : List ℕ) (c : Config) (d k : ℕ) : Type 0 where
+pub record Walking (m : Machine) (list sets w : List ℕ) (t emptied stored : List (List ℕ)) (run₀ run : List ℕ) (c : Config) (d k : ℕ) : Type 0 where
   pub placed-there : wellPlaced (m .states) (length w) c ≡ true
-  pub best : Best m list (published w c) d
+  pub best : Best m list (nearOf m w sets) (published w c) d
   pub small : d < none
-  pub ready : Ready m list w t emptied stored c
+  pub ready : Ready m list sets w t emptied stored c
   pub room : k + d ≤ length run₀
   pub size : length run ≡ length run₀
   pub frame : drop k run ≡ drop k run₀
@@ -415,9 +469,9 @@ pub record Walking (m : Machine) (list w : List ℕ) (t emptied stored : List (L
   pub some : 1 ≤ k
   pub fewest : (other : List ℕ) → accepting m list w other ≡ true → k + d ≤ length other
 
-module _ (m : Machine) (list w : List ℕ) (t : List (List ℕ)) where
-  pub walk-start : (emptied stored : List (List ℕ)) (run : List ℕ) (q d : ℕ) → q < m .states → initial (m .marks) q ≡ true → Sized w t emptied stored → ((p : ℕ) → p ≤ length w → PlaceRows m list w t p)
-      → Best m list (published w (startAt q)) d → d < none → 1 + d ≤ length run → ((other : List ℕ) → accepting m list w other ≡ true → 1 + d ≤ length other) → (c : Config) → c ≡ startAt q → Walking m list w t emptied stored (set run 0 q) (set run 0 q) c d 1
+module _ (m : Machine) (list sets w : List ℕ) (t : List (List ℕ)) where
+  pub walk-start : (emptied stored : List (List ℕ)) (run : List ℕ) (q d : ℕ) → q < m .states → initial (m .marks) q ≡ true → Sized w t emptied stored → ((p : ℕ) → p ≤ length w → PlaceRows m list sets w t p)
+      → Best m list (nearOf m w sets) (published w (startAt q)) d → d < none → 1 + d ≤ length run → ((other : List ℕ) → accepting m list w other ≡ true → 1 + d ≤ length other) → (c : Config) → c ≡ startAt q → Walking m list sets w t emptied stored (set run 0 q) (set run 0 q) c d 1
   unfolding accepting
   walk-start emptied stored run q d lt is sized places best small room fewest c e =
       let same = length-set run 0 q in
@@ -429,6 +483,7 @@ module _ (m : Machine) (list w : List ℕ) (t : List (List ℕ)) where
         ready = record {
           places = places;
           sized = sized;
+          begun = λ z. let b : _≡_ {A = ℕ} 0 1 = cc in absurd (omega arith);
           storing = λ z. let b : _≡_ {A = ℕ} 0 1 = cc in absurd (omega arith);
           matching = λ z. let b : _≡_ {A = ℕ} 0 1 = cc in absurd (omega arith);
         };
@@ -442,9 +497,9 @@ module _ (m : Machine) (list w : List ℕ) (t : List (List ℕ)) where
             (and-both-true (initial (m .marks) q) (acceptingFrom m list w (startAt q) es) is h));
       })
 
-  pub walk-next : (emptied emptied′ stored stored′ : List (List ℕ)) (run₀ run : List ℕ) (c : Config) (d k e : ℕ) → wellFormed m list ≡ true → 0 < d → Walking m list w t emptied stored run₀ run c d k
-      → Entered m list w c (d - 1) e → (c′ : Config) → c′ ≡ move m list w c e .config → Refreshed m list w t emptied emptied′ stored stored′ c′
-      → Walking m list w t emptied′ stored′ run₀ (set run k e) c′ (d - 1) (k + 1)
+  pub walk-next : (emptied emptied′ stored stored′ : List (List ℕ)) (run₀ run : List ℕ) (c : Config) (d k e : ℕ) → wellFormed m list ≡ true → 0 < d → Walking m list sets w t emptied stored run₀ run c d k
+      → Entered m list sets w c (d - 1) e → (c′ : Config) → c′ ≡ move m list w c e .config → Refreshed m list sets w t emptied emptied′ stored stored′ c′
+      → Walking m list sets w t emptied′ stored′ run₀ (set run k e) c′ (d - 1) (k + 1)
   unfolding acceptingFrom
   walk-next emptied emptied′ stored stored′ run₀ run c d k e good pos f entered c′ is fresh =
       let on = add-one k in
@@ -465,17 +520,17 @@ module _ (m : Machine) (list w : List ℕ) (t : List (List ℕ)) where
       }
 
   -- run₀ is the slice with the start state written
-  pub walk-end : (emptied stored : List (List ℕ)) (first run₀ run : List ℕ) (c : Config) (d k q : ℕ) → run₀ ≡ set first 0 q → d ≤ 0 → Walking m list w t emptied stored run₀ run c d k → Written m list w k first run
+  pub walk-end : (emptied stored : List (List ℕ)) (first run₀ run : List ℕ) (c : Config) (d k q : ℕ) → run₀ ≡ set first 0 q → d ≤ 0 → Walking m list sets w t emptied stored run₀ run c d k → Written m list w k first run
   unfolding acceptingFrom
   walk-end emptied stored first run₀ run c d k q is z f =
-      let go : Go m list (published w c) 0 = subst (Go m list (published w c)) (omega arith) (f .best .realised (f .small)) in
+      let go : Go m list (nearOf m w sets) (published w c) 0 = subst (Go m list (nearOf m w sets) (published w c)) (omega arith) (f .best .realised (f .small)) in
       let long : length run₀ ≡ length first = ap length is ∙ length-set first 0 q in
       let rest : drop k run ≡ drop k first = f .frame ∙ ap (drop k) is ∙ drop-set-lt k first 0 q (omega (arith, f .some)) in
       record {
         fits = omega (arith, f .room);
         front = sym (take-append-drop k run) ∙ ap (λ (s : List ℕ). take k run ++ s) rest;
         fewest = λ other h. omega (arith, f .fewest other h);
-        accepts = rw append-nil at (f .prefix [] (go-accepts m list w c (placed m w c (f .placed-there)) go));
+        accepts = rw append-nil at (f .prefix [] (go-accepts m list sets w c (placed m w c (f .placed-there)) go));
       }
 
 -- The start
@@ -483,38 +538,41 @@ module _ (m : Machine) (list w : List ℕ) (t : List (List ℕ)) where
 bound-small : (a b : ℕ) → a ≤ 64 → b ≤ 256 → 3 * a * b ≤ 49152
 bound-small a b la lb = let h = mul-le-mul-left (3 * a) lb in omega arith
 
-pub record Begun (m : Machine) (list w : List ℕ) (run : ℕ) (q d : ℕ) : Type 0 where
+pub record Begun (m : Machine) (list sets w : List ℕ) (run : ℕ) (q d : ℕ) : Type 0 where
   pub below : q < m .states
   pub is-initial : initial (m .marks) q ≡ true
-  pub best : Best m list (published w (startAt q)) d
+  pub best : Best m list (nearOf m w sets) (published w (startAt q)) d
   pub small : d < none
   pub room : 1 + d ≤ run
   pub fewest : (other : List ℕ) → accepting m list w other ≡ true → 1 + d ≤ length other
 
-module _ (m : Machine) (list w : List ℕ) where
-  start-best : (t : List (List ℕ)) (row : List ℕ) → PlaceRows m list w t 0 → row ≡ rowAt t 0 → (q : ℕ) → q < m .states → Best m list (published w (startAt q)) (at row q)
+module _ (m : Machine) (list sets w : List ℕ) where
+  start-best : (t : List (List ℕ)) (row : List ℕ) → PlaceRows m list sets w t 0 → row ≡ rowAt t 0 → (q : ℕ) → q < m .states → Best m list (nearOf m w sets) (published w (startAt q)) (at row q)
   unfolding PlaceRows
   start-best t row h e q lt = rw e (h .normal q lt)
 
   -- an accepting run has at least as many entries
-  least-run : (t : List (List ℕ)) (row : List ℕ) (q : ℕ) → PlaceRows m list w t 0 → row ≡ rowAt t 0 → Started m row (m .states) q → (run : List ℕ) → accepting m list w run ≡ true
+  least-run : wellFormed m list ≡ true → Covers m list w sets → (t : List (List ℕ)) (row : List ℕ) (q : ℕ) → PlaceRows m list sets w t 0 → row ≡ rowAt t 0 → Started m row (m .states) q → (run : List ℕ) → accepting m list w run ≡ true
       → (q < m .states) × (1 + at row q ≤ length run)
   unfolding accepting
-  least-run t row q rows e s [] a = absurd (false≢true a)
-  least-run t row q rows e s (p ∷ es) a =
+  least-run good covers t row q rows e s [] a = absurd (false≢true a)
+  least-run good covers t row q rows e s (p ∷ es) a =
       let (lt, r) = and-true (ltb p (m .states)) (initial (m .marks) p && acceptingFrom m list w (startAt p) es) a in
       let (i, h) = and-true (initial (m .marks) p) (acceptingFrom m list w (startAt p) es) r in
       let below = ltb-true p (m .states) lt in
-      let least = start-best t row rows e p below .least (length es) (entries-go m list w (startAt p) es h) in
+      let least = start-best t row rows e p below .least (length es) (entries-go m list sets w good covers p (below, i) (startAt p) (start-placed p below) done es h) in
       let (q-below, q-least) = s .least p below i in
       (q-below, omega arith)
+    where
+      start-placed : (p : ℕ) → p < m .states → wellPlaced (m .states) (length w) (startAt p) ≡ true
+      start-placed p lt = unplaced m w (startAt p) (record { in-word = omega arith; state-below = lt; forward = omega arith; behind = omega arith; fits = refl })
 
-  pub begun : (t : List (List ℕ)) (row : List ℕ) (q size : ℕ) → wellFormed m list ≡ true → length w ≤ 255 → accepted m list w ≡ true → runBound m (length w) ≤ size → PlaceRows m list w t 0 → row ≡ rowAt t 0
-      → Started m row (m .states) q → Begun m list w size q (at row q)
+  pub begun : (t : List (List ℕ)) (row : List ℕ) (q size : ℕ) → wellFormed m list ≡ true → Covers m list w sets → length w ≤ 255 → accepted m list w ≡ true → runBound m (length w) ≤ size → PlaceRows m list sets w t 0 → row ≡ rowAt t 0
+      → Started m row (m .states) q → Begun m list sets w size q (at row q)
   unfolding runBound
-  begun t row q size good short ok room rows e s =
+  begun t row q size good covers short ok room rows e s =
       let (run, len, below, a) = accepted-true m list w .0 ok in
-      let (q-below, long) = least-run t row q rows e s run a in
+      let (q-below, long) = least-run good covers t row q rows e s run a in
       let limit : runBound m (length w) ≤ 49152 = bound-small (m .states) (length w + 1) (rules m list good .states-fit) (omega arith) in
       record {
         below = q-below;
@@ -522,5 +580,5 @@ module _ (m : Machine) (list w : List ℕ) where
         best = start-best t row rows e q q-below;
         small = omega arith;
         room = omega arith;
-        fewest = λ other h. least-run t row q rows e s other h .1;
+        fewest = λ other h. least-run good covers t row q rows e s other h .1;
       }
