@@ -39,7 +39,7 @@ fn answer_with(
     if !reached.accepted {
         return Recognized::No;
     }
-    let entries = walk::write_run(m, list, word, run);
+    let entries = walk::write_run(m, list, &*targets, kinds, word, reached, run);
     Recognized::Yes(entries)
 }
 

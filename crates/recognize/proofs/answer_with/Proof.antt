@@ -36,7 +36,7 @@ returns c = says-no ((c .before .before .before .before .before .before .before 
 
 -- src/lib.rt:42:9
 write-run-requires : tie.Need-write-run-requires
-write-run-requires c κs = (table-good 255 ((c .before .before .before .before .before .before .before .before .before .before .before .before .before .before .before .before) .args .t1) (((c .before .before .before .before .before .before .before .before .before .before .before .before .before .before .before .before) .args .list) .now) (((c .before .before .before .before .before .before .before .before .before .before .before .before .before .before .before .before) .args .word) .now) (((c .before .before .before .before .before .before .before .before .before .before .before .before .before .before .before .before) .pre) .0) .0, table-good 255 ((c .before .before .before .before .before .before .before .before .before .before .before .before .before .before .before .before) .args .t1) (((c .before .before .before .before .before .before .before .before .before .before .before .before .before .before .before .before) .args .list) .now) (((c .before .before .before .before .before .before .before .before .before .before .before .before .before .before .before .before) .args .word) .now) (((c .before .before .before .before .before .before .before .before .before .before .before .before .before .before .before .before) .pre) .0) .1, sym (((c .before .before .before) .decide .ensures) .0) ∙ not-false _ ((c .before) .if1 .left), omega (arith, ((c .before .before .before .before .before .before .before .before .before .before .before .before .before .before .before .before) .pre) .1, ((c .before .before .before .before .before .before .before .before .before .before .before .before .before .before .before .before) .pre) .2))
+write-run-requires c κs = (table-good 255 ((c .before .before .before .before .before .before .before .before .before .before .before .before .before .before .before .before .before) .args .t1) (((c .before .before .before .before .before .before .before .before .before .before .before .before .before .before .before .before .before) .args .list) .now) (((c .before .before .before .before .before .before .before .before .before .before .before .before .before .before .before .before .before) .args .word) .now) (((c .before .before .before .before .before .before .before .before .before .before .before .before .before .before .before .before .before) .pre) .0) .0, table-good 255 ((c .before .before .before .before .before .before .before .before .before .before .before .before .before .before .before .before .before) .args .t1) (((c .before .before .before .before .before .before .before .before .before .before .before .before .before .before .before .before .before) .args .list) .now) (((c .before .before .before .before .before .before .before .before .before .before .before .before .before .before .before .before .before) .args .word) .now) (((c .before .before .before .before .before .before .before .before .before .before .before .before .before .before .before .before .before) .pre) .0) .1, sym (((c .before .before .before .before) .decide .ensures) .0) ∙ not-false _ ((c .before .before) .if1 .left), omega (arith, ((c .before .before .before .before .before .before .before .before .before .before .before .before .before .before .before .before .before) .pre) .1, ((c .before .before .before .before .before .before .before .before .before .before .before .before .before .before .before .before .before) .pre) .2), ((c .before .before .before .before .before .before) .kinds-of .ensures), ((c .before .before .before .before .before .before .before .before .before .before .before) .prepare-for .ensures), ((c .before .before .before .before) .decide .ensures) .1)
 
 -- src/lib.rt:24:1
 same-length-2 : tie.Need-same-length-2
@@ -48,7 +48,7 @@ same-length-3 c = search needs
 
 -- src/lib.rt:24:1
 returns-2 : tie.Need-returns-2
-returns-2 c = let written = fewest-front ((c .before .before .before .before .before .before .before .before .before .before .before .before .before .before .before .before .before .before .before) .args .t1) (((c .before .before .before .before .before .before .before .before .before .before .before .before .before .before .before .before .before .before .before) .args .list) .now) (((c .before .before .before .before .before .before .before .before .before .before .before .before .before .before .before .before .before .before .before) .args .word) .now) (((c .before .before .before .before .before .before .before .before .before .before .before .before .before .before .before .before .before .before .before) .args .run) .now) _ _ (sym (((c .before .before .before .before .before .before) .decide .ensures) .0) ∙ not-false _ ((c .before .before .before .before) .if1 .left)) ((c .before .before) .write-run .ensures) in says-yes ((c .before .before .before .before .before .before .before .before .before .before .before .before .before .before .before .before .before .before .before) .args .t1) (((c .before .before .before .before .before .before .before .before .before .before .before .before .before .before .before .before .before .before .before) .args .list) .now) (((c .before .before .before .before .before .before .before .before .before .before .before .before .before .before .before .before .before .before .before) .args .word) .now) (((c .before .before .before .before .before .before .before .before .before .before .before .before .before .before .before .before .before .before .before) .args .run) .now) _ refl (((c .before .before .before .before .before .before .before .before .before .before .before .before .before .before .before .before .before .before .before) .pre) .0) (omega (arith, ((c .before .before .before .before .before .before .before .before .before .before .before .before .before .before .before .before .before .before .before) .pre) .1, ((c .before .before .before .before .before .before .before .before .before .before .before .before .before .before .before .before .before .before .before) .pre) .2)) (sym (not-false _ ((c .before .before .before .before) .if1 .left)) ∙ ((c .before .before .before .before .before .before) .decide .ensures) .0) _ ((c .before .before) .write-run .result) (written .fits) (written .bounded) (written .front) (written .accepts)
+returns-2 c = let written = fewest-front ((c .before .before .before .before .before .before .before .before .before .before .before .before .before .before .before .before .before .before .before .before) .args .t1) (((c .before .before .before .before .before .before .before .before .before .before .before .before .before .before .before .before .before .before .before .before) .args .list) .now) (((c .before .before .before .before .before .before .before .before .before .before .before .before .before .before .before .before .before .before .before .before) .args .word) .now) (((c .before .before .before .before .before .before .before .before .before .before .before .before .before .before .before .before .before .before .before .before) .args .run) .now) _ _ (sym (((c .before .before .before .before .before .before .before) .decide .ensures) .0) ∙ not-false _ ((c .before .before .before .before .before) .if1 .left)) ((c .before .before) .write-run .ensures) in says-yes ((c .before .before .before .before .before .before .before .before .before .before .before .before .before .before .before .before .before .before .before .before) .args .t1) (((c .before .before .before .before .before .before .before .before .before .before .before .before .before .before .before .before .before .before .before .before) .args .list) .now) (((c .before .before .before .before .before .before .before .before .before .before .before .before .before .before .before .before .before .before .before .before) .args .word) .now) (((c .before .before .before .before .before .before .before .before .before .before .before .before .before .before .before .before .before .before .before .before) .args .run) .now) _ refl (((c .before .before .before .before .before .before .before .before .before .before .before .before .before .before .before .before .before .before .before .before) .pre) .0) (omega (arith, ((c .before .before .before .before .before .before .before .before .before .before .before .before .before .before .before .before .before .before .before .before) .pre) .1, ((c .before .before .before .before .before .before .before .before .before .before .before .before .before .before .before .before .before .before .before .before) .pre) .2)) (sym (not-false _ ((c .before .before .before .before .before) .if1 .left)) ∙ ((c .before .before .before .before .before .before .before) .decide .ensures) .0) _ ((c .before .before) .write-run .result) (written .fits) (written .bounded) (written .front) (written .accepts)
 
 pub answer-with-spec : {M : Type 1} → statement M
 answer-with-spec =
