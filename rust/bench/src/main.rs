@@ -1,14 +1,19 @@
 //! Times of the proved calls beside plain Rust, on the same input in the same run.
 //!
 //! Each section prints its own table. With names after `--`, only the sections named run: `checking`, `sheet`,
-//! `recognize`, `survey`, `common`. A further call is measured by a function like [`checking::section`] and one more line
-//! in `main`.
+//! `recognize` (with a run, one call a word), `listing` (yes or no for many words over a table that is prepared once, the
+//! listing program as a process), `survey`, `common`. A further call is measured by a function like
+//! [`checking::section`] and one more line in `main`.
 
 mod checking;
 mod common;
+mod listing;
 mod measure;
 mod plain;
 mod plain_common;
+mod plain_decide;
+mod plain_listing;
+mod plain_moves;
 mod plain_recognize;
 mod plain_sheet;
 mod recognize;
@@ -16,10 +21,11 @@ mod sheet;
 mod survey;
 
 fn main() {
-    let sections: [(&str, fn()); 5] = [
+    let sections: [(&str, fn()); 6] = [
         ("checking", checking::section),
         ("sheet", sheet::section),
         ("recognize", recognize::section),
+        ("listing", listing::section),
         ("survey", survey::section),
         ("common", common::section),
     ];

@@ -5,12 +5,8 @@
 //! position t empties along one row of sets, whatever position it began at. The run is found backwards from the sets.
 
 use crate::plain::keeps_rules;
+use crate::plain_moves::{states_of, Moves, EMPTYING, NORMAL, STORING};
 use zagvirk::{Machine, BACK_TO_NORMAL, BEGIN_BUFFERING, BEGIN_EMPTYING};
-use zagvirk::{BUFFERING, FINAL, INITIAL, MATCHING};
-
-const NORMAL: usize = 0;
-const STORING: usize = 1;
-const EMPTYING: usize = 2;
 
 /// With so many rows or fewer the halves of a copy are compared letter by letter, each time anew.
 const FEW: usize = 8;
@@ -31,21 +27,12 @@ struct Row {
 }
 
 struct Search<'a> {
-    states: usize,
     list: &'a [u16],
     word: &'a [u8],
-    initial: u64,
-    ends: u64,
-    buffering: u64,
-    matching: u64,
     /// For each letter of the word a number from 1; 0 is epsilon.
     letters: [u8; 256],
-    /// `moves[number of the letter * states + from]` is the set of states that the transitions lead to.
-    moves: Vec<u64>,
-    /// For each mode and state the states that a transition may lead to.
-    allowed: [[u64; 64]; 3],
-    /// The states with an epsilon transition.
-    epsilon: u64,
+    /// The moves by the letters of the word.
+    moves: &'a Moves,
     reached: Vec<Reached>,
     rows: Vec<Row>,
     sets: Vec<u64>,
@@ -78,9 +65,12 @@ pub fn recognize(
     if run.len() < needed {
         return Err((17, needed));
     }
-    let mut search = Search::new(machine, &list[..3 * machine.transitions], word);
+    let list = &list[..3 * machine.transitions];
+    let (letters, count) = numbers(word);
+    let moves = Moves::new(machine, list, &letters, count);
+    let mut search = Search::new(list, word, letters, &moves);
     search.forward();
-    let ends = search.reached[word.len()].normal & search.ends;
+    let ends = search.reached[word.len()].normal & search.moves.ends;
     if ends == 0 {
         return Ok(None);
     }
@@ -92,66 +82,26 @@ pub fn recognize(
     Ok(Some(entries.len()))
 }
 
-fn states_of(mut set: u64) -> impl Iterator<Item = usize> {
-    std::iter::from_fn(move || {
-        if set == 0 {
-            return None;
+/// A number from 1 for each letter of the word, 0 for the others; the greatest.
+fn numbers(word: &[u8]) -> ([u8; 256], usize) {
+    let mut letters = [0; 256];
+    let mut count = 0;
+    for &letter in word {
+        if letters[usize::from(letter)] == 0 {
+            count += 1;
+            letters[usize::from(letter)] = count;
         }
-        let state = set.trailing_zeros() as usize;
-        set &= set - 1;
-        Some(state)
-    })
+    }
+    (letters, usize::from(count))
 }
 
 impl<'a> Search<'a> {
-    fn new(machine: &Machine, list: &'a [u16], word: &'a [u8]) -> Search<'a> {
-        let states = machine.states;
-        let (mut initial, mut ends, mut buffering, mut matching) = (0u64, 0u64, 0u64, 0u64);
-        for (state, &mark) in machine.marks[..states].iter().enumerate() {
-            initial |= u64::from(mark & INITIAL != 0) << state;
-            ends |= u64::from(mark & FINAL != 0) << state;
-            buffering |= u64::from(mark & BUFFERING != 0) << state;
-            matching |= u64::from(mark & MATCHING != 0) << state;
-        }
-        let mut letters = [0; 256];
-        let mut count = 0;
-        for &letter in word {
-            if letters[usize::from(letter)] == 0 {
-                count += 1;
-                letters[usize::from(letter)] = count;
-            }
-        }
-        let mut moves = vec![0; (usize::from(count) + 1) * states];
-        let mut epsilon = 0;
-        for triple in list.chunks_exact(3) {
-            let (from, letter, to) = (usize::from(triple[0]), triple[1], triple[2]);
-            let number = usize::from(letters[usize::from(letter)]);
-            if letter == 0 {
-                epsilon |= 1 << from;
-            } else if number == 0 {
-                continue;
-            }
-            moves[number * states + from] |= 1 << to;
-        }
-        let mut allowed = [[0; 64]; 3];
-        for (state, &mark) in machine.marks[..states].iter().enumerate() {
-            let apart = if mark & MATCHING != 0 { !matching } else { !0 };
-            allowed[NORMAL][state] = if mark & BUFFERING != 0 { 0 } else { apart };
-            allowed[STORING][state] = apart & !buffering;
-            allowed[EMPTYING][state] = if mark & MATCHING != 0 { matching } else { 0 };
-        }
+    fn new(list: &'a [u16], word: &'a [u8], letters: [u8; 256], moves: &'a Moves) -> Search<'a> {
         Search {
-            states,
             list,
             word,
-            initial,
-            ends,
-            buffering,
-            matching,
             letters,
             moves,
-            allowed,
-            epsilon,
             reached: Vec::with_capacity(word.len() + 1),
             rows: Vec::with_capacity(4),
             sets: Vec::with_capacity(word.len() + 2),
@@ -161,42 +111,10 @@ impl<'a> Search<'a> {
         }
     }
 
-    /// The states that a transition with the letter's number leads to from the set.
-    fn step(&self, mode: usize, set: u64, number: usize) -> u64 {
-        let moves = &self.moves[number * self.states..(number + 1) * self.states];
-        states_of(set).fold(0, |all, from| all | moves[from] & self.allowed[mode][from])
-    }
-
     /// The set after the letter at the position.
     fn read(&self, mode: usize, set: u64, position: usize) -> u64 {
         let number = self.letters[usize::from(self.word[position])];
-        self.step(mode, set, usize::from(number))
-    }
-
-    /// The set closed under epsilon moves.
-    fn close(&self, mode: usize, set: u64) -> u64 {
-        let (mut all, mut new) = (set, set);
-        while new & self.epsilon != 0 {
-            new = self.step(mode, new & self.epsilon, 0) & !all;
-            all |= new;
-        }
-        all
-    }
-
-    /// The set in normal mode closed under epsilon moves and empty copies.
-    fn close_normal(&self, seed: u64) -> u64 {
-        let mut all = self.close(NORMAL, seed);
-        let mut copied = 0;
-        loop {
-            let begin = all & self.buffering & !copied;
-            if begin == 0 {
-                return all;
-            }
-            copied |= begin;
-            let stored = self.close(STORING, begin) & self.matching;
-            let emptied = self.close(EMPTYING, stored) & !all;
-            all |= self.close(NORMAL, emptied);
-        }
+        self.moves.step(mode, set, usize::from(number))
     }
 
     /// The set that begins to empty at the position in a copy that ends at `end` and began in the row, if the halves are
@@ -206,7 +124,7 @@ impl<'a> Search<'a> {
         if half == 0 || half >= row.length {
             return 0;
         }
-        let set = self.sets[row.at + half] & self.matching;
+        let set = self.sets[row.at + half] & self.moves.matching;
         if set == 0 || !self.same_halves(row.start, half, end) {
             return 0;
         }
@@ -233,7 +151,7 @@ impl<'a> Search<'a> {
                 let from = (end + row.start) / 2;
                 set = self.emptied(set, position, from);
                 position = from;
-                set |= self.close(EMPTYING, begin);
+                set |= self.moves.close(EMPTYING, begin);
             }
         }
         self.emptied(set, position, end)
@@ -245,7 +163,9 @@ impl<'a> Search<'a> {
             if set == 0 {
                 break;
             }
-            set = self.close(EMPTYING, self.read(EMPTYING, set, position));
+            set = self
+                .moves
+                .close(EMPTYING, self.read(EMPTYING, set, position));
         }
         set
     }
@@ -255,7 +175,7 @@ impl<'a> Search<'a> {
         let n = self.word.len();
         for position in 0..=n {
             let by_letter = match position {
-                0 => self.initial,
+                0 => self.moves.initial,
                 _ => self.read(NORMAL, self.reached[position - 1].normal, position - 1),
             };
             if self.rows.len() > FEW {
@@ -266,20 +186,20 @@ impl<'a> Search<'a> {
             let by_copy = self.copies_to(position);
             let normal = match by_letter | by_copy {
                 0 => 0,
-                seed => self.close_normal(seed),
+                seed => self.moves.close_normal(seed),
             };
             self.reached.push(Reached {
                 by_letter,
                 by_copy,
                 normal,
             });
-            let begin = normal & self.buffering;
+            let begin = normal & self.moves.buffering;
             if begin != 0 && position < n {
                 let at = self.sets.len();
-                let mut set = self.close(STORING, begin);
+                let mut set = self.moves.close(STORING, begin);
                 self.sets.push(set);
                 for next in position..(n + position) / 2 {
-                    set = self.close(STORING, self.read(STORING, set, next));
+                    set = self.moves.close(STORING, self.read(STORING, set, next));
                     if set == 0 {
                         break;
                     }
@@ -323,10 +243,7 @@ impl<'a> Search<'a> {
     /// A state of the set from which a transition with the letter leads to the state.
     fn before(&self, mode: usize, set: u64, letter: u8, to: usize) -> Option<usize> {
         let number = usize::from(self.letters[usize::from(letter)]);
-        states_of(set).find(|&from| {
-            let to_set = self.moves[number * self.states + from] & self.allowed[mode][from];
-            to_set >> to & 1 != 0
-        })
+        states_of(set).find(|&from| self.moves.step_from(mode, from, number) >> to & 1 != 0)
     }
 
     /// Entries at one position from the sets of the three modes to the state, the last entry first. Mode changes are
@@ -348,11 +265,11 @@ impl<'a> Search<'a> {
         let mut seen = seeds;
         while seen[mode] >> state & 1 == 0 {
             let last = layers[layers.len() - 1];
-            let mut next = [NORMAL, STORING, EMPTYING].map(|m| self.step(m, last[m], 0));
+            let mut next = [NORMAL, STORING, EMPTYING].map(|m| self.moves.step(m, last[m], 0));
             if change {
-                next[STORING] |= last[NORMAL] & self.buffering;
-                next[EMPTYING] |= last[STORING] & self.matching;
-                next[NORMAL] |= last[EMPTYING] & self.matching;
+                next[STORING] |= last[NORMAL] & self.moves.buffering;
+                next[EMPTYING] |= last[STORING] & self.moves.matching;
+                next[NORMAL] |= last[EMPTYING] & self.moves.matching;
             }
             for m in 0..3 {
                 next[m] &= !seen[m];
@@ -417,7 +334,9 @@ impl<'a> Search<'a> {
         }
         let mut comes = vec![0; end + 1 - half];
         for position in half..end {
-            let set = self.close(EMPTYING, begins[position - half] | comes[position - half]);
+            let set = self
+                .moves
+                .close(EMPTYING, begins[position - half] | comes[position - half]);
             comes[position + 1 - half] = self.read(EMPTYING, set, position);
         }
         run.push(BACK_TO_NORMAL);
@@ -430,7 +349,9 @@ impl<'a> Search<'a> {
             }
             position -= 1;
             let letter = self.word[position];
-            let set = self.close(EMPTYING, begins[position - half] | comes[position - half]);
+            let set = self
+                .moves
+                .close(EMPTYING, begins[position - half] | comes[position - half]);
             let from = self
                 .before(EMPTYING, set, letter, state)
                 .expect("a state before");
@@ -453,7 +374,7 @@ impl<'a> Search<'a> {
             state = from;
             position -= 1;
         }
-        let begin = self.reached[start].normal & self.buffering;
+        let begin = self.reached[start].normal & self.moves.buffering;
         state = self.path([0, begin, 0], (STORING, state), false, run);
         run.push(BEGIN_BUFFERING);
         (start, state)

@@ -4,7 +4,7 @@ use crate::plain::keeps_rules;
 use zagvirk::Machine;
 
 /// The number in a column.
-fn column(bytes: &[u8; 5]) -> Option<u32> {
+pub fn column(bytes: &[u8; 5]) -> Option<u32> {
     let blanks = bytes.iter().take_while(|&&byte| byte == b' ').count();
     let digits = &bytes[blanks..];
     if digits.is_empty() || (digits[0] == b'0' && digits.len() > 1) {

@@ -1,4 +1,4 @@
-//! Recognition of words.
+//! Recognition of words with a run, one call a word.
 
 use crate::measure::{least_within, REPETITIONS};
 use crate::plain_recognize;
@@ -31,7 +31,7 @@ impl Numbers {
 
 /// A machine and the number of letters its words are made of.
 pub struct Table {
-    name: &'static str,
+    pub name: &'static str,
     pub machine: Machine,
     pub list: Vec<u16>,
     pub letters: usize,
@@ -52,7 +52,7 @@ impl Table {
 }
 
 /// Doubled words over two letters.
-fn table_t() -> Table {
+pub fn table_t() -> Table {
     let moves = [
         [0, 0, 1],
         [1, 0, 2],
@@ -65,7 +65,7 @@ fn table_t() -> Table {
 }
 
 /// Doubled words over two letters one after another.
-fn repeated() -> Table {
+pub fn repeated() -> Table {
     let moves = [
         [0, 0, 1],
         [1, 0, 2],
@@ -116,7 +116,7 @@ pub fn zones() -> Table {
 
 /// Pairs of copy zones in turn over one letter, the first of a pair for one letter and the second for two: copies of every
 /// length begin at many places, and most lead nowhere.
-fn in_turn(name: &'static str, pairs: u16) -> Table {
+pub fn in_turn(name: &'static str, pairs: u16) -> Table {
     let (mut marks, mut moves) = (Vec::new(), Vec::new());
     for pair in 0..pairs {
         let first = 9 * pair;
@@ -143,7 +143,7 @@ fn in_turn(name: &'static str, pairs: u16) -> Table {
 }
 
 /// 64 states, 4,000 transitions, one letter.
-fn dense() -> Table {
+pub fn dense() -> Table {
     let marks: Vec<u8> = (0..64).map(|state| [5, 0, 8, 10][state % 4]).collect();
     let moves: Vec<[u16; 3]> = (0..4000)
         .map(|number| [number / 64, 1, number % 64])
@@ -151,9 +151,23 @@ fn dense() -> Table {
     Table::new("dense", 1, &marks, &moves)
 }
 
+/// The kinds of words over so many letters. Over one letter all words of a length are the same.
+pub fn kinds(letters: usize) -> &'static [&'static str] {
+    match letters {
+        1 => &["one letter"],
+        _ => &[
+            "mixed",
+            "one letter",
+            "two in turn",
+            "Fibonacci",
+            "nearly square",
+        ],
+    }
+}
+
 /// Words of the kind: sixteen, or of one letter, of two in turn and of two as in a Fibonacci word as many as there are
 /// letters, up to sixteen.
-fn words(kind: &str, letters: usize, length: usize) -> Vec<Vec<u8>> {
+pub fn words(kind: &str, letters: usize, length: usize) -> Vec<Vec<u8>> {
     if kind == "one letter" {
         let letters = letters.min(16) as u8;
         return (1..=letters).map(|letter| vec![letter; length]).collect();
@@ -222,17 +236,18 @@ struct Single {
     plain: f64,
 }
 
-/// Prints the times of recognition.
+/// Prints the times of recognition with a run.
 pub fn section() {
     println!(
-        "Recognition with a run. Words per second, best of up to {REPETITIONS} samples after a first pass, as many as"
+        "Recognition with a run, one call a word: each call checks the machine and the word and prepares the machine anew."
     );
     println!(
-        "fit into {BUDGET} s for the row; a call checks the machine and the word too. Yes: of the words of the row,"
+        "(Yes or no for many words over a table that is prepared once: section listing.) Words per second, best of up to"
     );
     println!(
-        "as many as the first pass came to. Ratio: time of the proved call / time of plain Rust."
+        "{REPETITIONS} samples after a first pass, as many as fit into {BUDGET} s for the row. Yes: of the words of the row, as many as"
     );
+    println!("the first pass came to. Ratio: time of the proved call / time of plain Rust.");
     println!();
     println!(
         "{:10} {:>7} {:14} {:>5} {:>11} {:>11} {:>7}",
@@ -250,18 +265,7 @@ pub fn section() {
     for table in &tables {
         let mut singles = Vec::new();
         for length in [8, 32, 254, 255] {
-            // Over one letter all words of a length are the same.
-            let kinds: &[&'static str] = match table.letters {
-                1 => &["one letter"],
-                _ => &[
-                    "mixed",
-                    "one letter",
-                    "two in turn",
-                    "Fibonacci",
-                    "nearly square",
-                ],
-            };
-            for kind in kinds {
+            for kind in kinds(table.letters) {
                 let row = row(table, length, kind);
                 singles.extend(row.into_iter().filter(|single| single.length >= 254));
             }
@@ -404,7 +408,7 @@ fn row(table: &Table, length: usize, kind: &'static str) -> Vec<Single> {
 }
 
 /// The number with three digits or more.
-fn rate(number: f64) -> String {
+pub fn rate(number: f64) -> String {
     match number {
         100.0.. => format!("{number:.0}"),
         10.0.. => format!("{number:.1}"),
