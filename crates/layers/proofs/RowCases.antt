@@ -2,8 +2,8 @@
 --
 -- apart-both, apart-one          == the returns of apart
 -- normal-shut, normal-open, buffering-open, emptying-open, emptying-shut == the returns of the functions that cut a set
--- seen-none .. seen-same         == the returns of seen
--- glance-start, glance-end       == the loop of glance
+-- below-turn                     == one turn of least_below
+-- Glancing, glancing-start, glancing-turn, glance-end == the loop of glance
 -- Least, least-start, least-turn, least-end == the loop of least_of
 -- least-none, least-low, least-some == the returns of least_in
 -- visit-seen                     == what visit asks of the row it lowers into
@@ -30,7 +30,7 @@ use Rattle.fsbm.specs.declared.machine.Machine.{Machine}
 use Rattle.fsbm.specs.Rules.{rules}
 use Rattle.images.specs.Graph.{setOf}
 use Rattle.targets.specs.Prepared.{Row}
-use Rattle.images.specs.Graph.{May}
+use Rattle.images.specs.Graph.{Members, May}
 use Rattle.layers.specs.declared.row.Sum.{Sum}
 use Rattle.layers.specs.Costs.{none, at}
 use Rattle.layers.specs.Rows.{Given, lesserOf, lowered, Lowered, Apart, Cut, Glance, Seen, LeastOf}
@@ -71,55 +71,36 @@ cut-as g h a b r t s e c = subst (λ (z : Mode). Cut g h z a b r) (sym e) c
 
 -- A row at a glance
 
-pub glance-start : (row : List ℕ) → Glance row 0 (record { live = 0; least = none; lows = 0 })
-glance-start row = record { live = λ q (l : q < 0). absurd (omega arith); least = λ q (l : q < 0). absurd (omega arith); lows = λ q i. absurd (empty-in q i) }
+pub below-turn : (row : List ℕ) (q v least r : ℕ) → at row q ≡ v → r ≤ v → r ≤ least → ((p : ℕ) → p < q → least ≤ at row p) → (p : ℕ) → p < q + 1 → r ≤ at row p
+below-turn row q v least r is a b so-far p l = on (ℕ-discrete p q)
+  where
+    on : Dec (p ≡ q) → r ≤ at row p
+    on (yes e) = let f : at row p ≡ at row q = ap (at row) e in omega arith
+    on (no n) = let z = so-far p (omega arith) in omega arith
 
-pub glance-end : (row : List ℕ) (k n : ℕ) (s : Sum) → n ≤ k → Glance row k s → Glance row n s
-glance-end row k n s le g = record { live = λ q l. g .live q (omega arith); least = λ q l. g .least q (omega arith); lows = g .lows }
+-- what is seen of the states below k
+pub record Glancing (row : List ℕ) (k least live lows : ℕ) : Type 0 where
+  pub lives : (q : ℕ) → q < k → at row q < none → In live q
+  pub lowest : (q : ℕ) → In lows q → at row q ≡ least
 
-module _ (s : Sum) (q v : ℕ) (small : q < 64) (row : List ℕ) (is : at row q ≡ v) (g : Glance row q s) where
-  -- one state more: those below q, and q
-  upto : (P : ℕ → Type 0) → ((p : ℕ) → p < q → P p) → P q → (p : ℕ) → p < q + 1 → P p
-  upto P before here p l = on (ℕ-discrete p q)
-    where
-      on : Dec (p ≡ q) → P p
-      on (yes e) = subst P (sym e) here
-      on (no n) = before p (omega arith)
+pub glancing-start : (row : List ℕ) (least live lows : ℕ) → ((q : ℕ) → In lows q → ⊥) → Glancing row 0 least live lows
+glancing-start row least live lows none-low = record { lives = λ q (l : q < 0). absurd (omega arith); lowest = λ q i. absurd (none-low q i) }
 
-  pub seen-none : v ≡ none → s .least ≤ none → Glance row (q + 1) s
-  seen-none e le =
-      record {
-        live = upto (λ p. at row p < none → In (s .live) p) (g .live) (λ l. absurd (omega arith));
-        least = upto (λ p. s .least ≤ at row p) (g .least) (omega arith);
-        lows = g .lows;
-      }
+pub glancing-turn : (row : List ℕ) (q v least live lows live′ lows′ : ℕ) → q < 64 → at row q ≡ v → Glancing row q least live lows
+    → Members live′ (λ p. In live p ⊎ ((p ≡ q) × (p < width) × (ltb v none ≡ true))) → Members lows′ (λ p. In lows p ⊎ ((p ≡ q) × (p < width) × (eqb v least ≡ true)))
+    → Glancing row (q + 1) least live′ lows′
+glancing-turn row q v least live lows live′ lows′ small is g a b = record { lives = λ p l n. lives p l n (ℕ-discrete p q); lowest = λ p i. low p (b .members p .0 i) }
+  where
+    lives : (p : ℕ) → p < q + 1 → at row p < none → Dec (p ≡ q) → In live′ p
+    lives p l n (yes e) = let f : at row p ≡ at row q = ap (at row) e in a .members p .1 (inr (e, omega arith, lt-ltb v none (omega arith)))
+    lives p l n (no d) = a .members p .1 (inl (g .lives p (omega arith) n))
 
-  module _ (live : ℕ) {w : ℕ} (added : SetIs live w (λ p. In (s .live) p ⊎ ((p ≡ q) × (p < width)))) where
-    lives : (p : ℕ) → p < q + 1 → at row p < none → In live p
-    lives = upto (λ p. at row p < none → In live p) (λ p l h. added .members p .1 (inl (g .live p l h))) (λ h. added .members q .1 (inr (refl, small)))
+    low : (p : ℕ) → In lows p ⊎ ((p ≡ q) × (p < width) × (eqb v least ≡ true)) → at row p ≡ least
+    low p (inl i) = g .lowest p i
+    low p (inr (e, l, t)) = ap (at row) e ∙ (is ∙ eqb-true v least t)
 
-    pub seen-less : v < s .least → (lows : ℕ) {w : ℕ} → SetIs lows w (λ p. (p ≡ q) × (p < width)) → Glance row (q + 1) (record { live = live; least = v; lows = lows })
-    seen-less l lows one =
-        record {
-          live = lives;
-          least = upto (λ p. v ≤ at row p) (λ p h. omega (arith, g .least p h)) (omega arith);
-          lows = λ p i. ap (at row) (one .members p .0 i .0) ∙ is;
-        }
-
-    pub seen-more : s .least < v → Glance row (q + 1) (record { live = live; least = s .least; lows = s .lows })
-    seen-more l = record { live = lives; least = upto (λ p. s .least ≤ at row p) (g .least) (omega arith); lows = g .lows }
-
-    pub seen-same : v ≡ s .least → (lows : ℕ) {w : ℕ} → SetIs lows w (λ p. In (s .lows) p ⊎ ((p ≡ q) × (p < width))) → Glance row (q + 1) (record { live = live; least = v; lows = lows })
-    seen-same e lows one =
-        record {
-          live = lives;
-          least = upto (λ p. v ≤ at row p) (λ p h. omega (arith, g .least p h)) (omega arith);
-          lows = λ p i. low p (one .members p .0 i);
-        }
-      where
-        low : (p : ℕ) → In (s .lows) p ⊎ ((p ≡ q) × (p < width)) → at row p ≡ v
-        low p (inl i) = g .lows p i ∙ sym e
-        low p (inr z) = ap (at row) (z .0) ∙ is
+pub glance-end : (row : List ℕ) (k n least live lows : ℕ) → n ≤ k → ((q : ℕ) → q < n → least ≤ at row q) → Glancing row k least live lows → Glance row n (record { live = live; least = least; lows = lows })
+glance-end row k n least live lows le below g = record { live = λ q l. g .lives q (omega arith); least = below; lows = g .lowest }
 
 -- The least number of a set: the rest is still to do
 

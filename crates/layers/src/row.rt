@@ -74,54 +74,6 @@ fn cut(g: u64, h: u64, mode: Mode, a: usize, set: u64) -> u64
     }
 }
 
-// What is seen of a row once the number v of state q is seen too.
-fn seen(s: Sum, q: usize, v: u32) -> Sum
-    requires { ⌜ q < 64 ⌝ }
-    ensures { λ r. ⌜ ((row : List ℕ) → at row q ≡ v → Glance row q s → Glance row (q + 1) r) ⌝ }
-{
-    if v == NONE {
-        return s;
-    }
-    let live = stateset::add(s.live, q);
-    if v < s.least {
-        return Sum {
-            live,
-            least: v,
-            lows: stateset::single(q),
-        };
-    }
-    if s.least < v {
-        return Sum {
-            live,
-            least: s.least,
-            lows: s.lows,
-        };
-    }
-    Sum {
-        live,
-        least: v,
-        lows: stateset::add(s.lows, q),
-    }
-}
-
-// The row at a glance.
-fn glance(row: &[u32; 64], states: usize) -> Sum
-    requires { ⌜ states ≤ 64 ⌝ }
-    ensures { λ r. ⌜ Glance (now (row .entry)) states r ⌝ }
-{
-    let mut s = Sum {
-        live: 0,
-        least: NONE,
-        lows: 0,
-    };
-    let mut q: usize = 0;
-    while q < states {
-        s = seen(s, q, row[q]);
-        q += 1;
-    }
-    s
-}
-
 // The lesser of two numbers.
 fn smaller(a: u32, b: u32) -> u32
     ensures { λ r. ⌜ (r ≤ a) × (r ≤ b) × ((r ≡ a) ⊎ (r ≡ b)) ⌝ }
@@ -130,6 +82,38 @@ fn smaller(a: u32, b: u32) -> u32
         return a;
     }
     b
+}
+
+// The least number of the states below a number.
+fn least_below(row: &[u32; 64], states: usize) -> u32
+    requires { ⌜ states ≤ 64 ⌝ }
+    ensures { λ r. ⌜ ((q : ℕ) → q < states → r ≤ at (now (row .entry)) q) ⌝ }
+{
+    let mut least = NONE;
+    let mut q: usize = 0;
+    while q < states {
+        least = smaller(row[q], least);
+        q += 1;
+    }
+    least
+}
+
+// The row at a glance. Two loops with no branches in them: which states have a number is hard to foresee.
+fn glance(row: &[u32; 64], states: usize) -> Sum
+    requires { ⌜ states ≤ 64 ⌝ }
+    ensures { λ r. ⌜ Glance (now (row .entry)) states r ⌝ }
+{
+    let least = least_below(row, states);
+    let mut live = stateset::empty();
+    let mut lows = stateset::empty();
+    let mut q: usize = 0;
+    while q < states {
+        let v = row[q];
+        live = images::add_if(live, q, v < NONE);
+        lows = images::add_if(lows, q, v == least);
+        q += 1;
+    }
+    Sum { live, least, lows }
 }
 
 // The least number of the states of a set. Time: the members of the set, each once.

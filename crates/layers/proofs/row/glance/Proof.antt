@@ -1,52 +1,69 @@
-use borrow.Author.Needs.{needs}
 use native.Mathlib.Omega.{arith}
 use mathlib.Core.Path.{refl}
-use Prim.Native.Nat.{_≤_, _-_}
-use Rattle.layers.specs.Rows.{Glance}
-use Rattle.layers.proofs.RowCases.{glance-start, glance-end}
+use Prim.Native.Nat.{ℕ, _≤_, _<_, _-_}
+use Rattle.layers.proofs.RowCases.{Glancing, glancing-start, glancing-turn, glance-end}
+use borrow.Author.Needs.{needs}
 use Rattle.layers.proofs.row.glance.Statement.{statement}
 use Rattle.layers.proofs.row.glance.Tie as tie
 use Rattle.layers.proofs.row.glance.Reads as reads
 use Rattle.layers.proofs.row.glance.Lts as lts
-use Rattle.layers.proofs.row.seen.Reads as seen-reads
+use Rattle.images.proofs.add_if.Reads as add-if-reads
+use Rattle.layers.proofs.row.least_below.Reads as least-below-reads
+use Rattle.stateset.proofs.empty.Reads as empty-reads
 
 abbrev Inv-loop : tie.InvT-loop
-Inv-loop row states s₀ q₀ s q = (q ≤ states) × Glance row q s
+Inv-loop row states least live₀ lows₀ q₀ live lows q = Glancing row q least live lows
 
 abbrev μ-loop : tie.MeasureT-loop
-μ-loop row states s₀ q₀ s q = states - q
+μ-loop row states least live₀ lows₀ q₀ live lows q = states - q
 
--- src/row.rt:117:5
+-- src/row.rt:106:9
+least-below-requires : tie.Need-least-below-requires Inv-loop μ-loop
+least-below-requires c κs = (c) .pre
+
+-- src/row.rt:107:9
+empty-requires : tie.Need-empty-requires Inv-loop μ-loop
+empty-requires c κs = search needs
+
+-- src/row.rt:108:9
+empty-requires-2 : tie.Need-empty-requires-2 Inv-loop μ-loop
+empty-requires-2 c κs = search needs
+
+-- src/row.rt:110:5
 loop-holds : tie.Need-loop-holds Inv-loop μ-loop
-loop-holds c = (omega arith, glance-start _)
+loop-holds c = glancing-start _ _ _ _ (λ q i. ((c) .empty2 .ensures) .members q .0 i)
 
--- src/row.rt:118:24
-mul-seen : tie.Need-mul-seen Inv-loop μ-loop
-mul-seen c = omega (arith, (c .loop-test) .taken, (c .before .before .pre))
+-- src/row.rt:111:17
+mul-v : tie.Need-mul-v Inv-loop μ-loop
+mul-v c = omega (arith, (c) .loop-test .taken, (c .before .before .before .before .before) .pre)
 
--- src/row.rt:118:24
-element-copy-out-seen : tie.Need-element-copy-out-seen Inv-loop μ-loop
-element-copy-out-seen c = omega (arith, (c .loop-test) .taken, (c .before .before .pre))
+-- src/row.rt:111:17
+element-copy-out-v : tie.Need-element-copy-out-v Inv-loop μ-loop
+element-copy-out-v c = omega (arith, (c) .loop-test .taken, (c .before .before .before .before .before) .pre)
 
--- src/row.rt:118:9
-seen-requires : tie.Need-seen-requires Inv-loop μ-loop
-seen-requires c κs = omega (arith, (c .before .loop-test) .taken, (c .before .before .before .pre))
+-- src/row.rt:112:9
+add-if-requires : tie.Need-add-if-requires Inv-loop μ-loop
+add-if-requires c κs = search needs
 
--- src/row.rt:119:9
+-- src/row.rt:113:9
+add-if-requires-2 : tie.Need-add-if-requires-2 Inv-loop μ-loop
+add-if-requires-2 c κs = search needs
+
+-- src/row.rt:114:9
 add-q : tie.Need-add-q Inv-loop μ-loop
-add-q c = omega (arith, (c .before .before .loop-test) .taken, (c .before .before .before .before .pre))
+add-q c = omega (arith, (c .before .before .before) .loop-test .taken, (c .before .before .before .before .before .before .before .before) .pre)
 
--- src/row.rt:117:5
+-- src/row.rt:110:5
 loop-less : tie.Need-loop-less Inv-loop μ-loop
-loop-less c = omega (arith, (c .before .before .loop-test) .taken)
+loop-less c = omega (arith, (c .before .before .before) .loop-test .taken)
 
--- src/row.rt:117:5
+-- src/row.rt:110:5
 loop-again : tie.Need-loop-again Inv-loop μ-loop
-loop-again c = (omega (arith, (c .before .before .loop-test) .taken), ((c .seen) .ensures) _ refl (((c .before .before .before .loop) .inv) .1))
+loop-again c = glancing-turn (((c .before .before .before .before .before .before .before .before) .args .row) .now) ((c .before .before .before .before) .loop .q) _ _ _ _ _ _ (omega (arith, (c .before .before .before) .loop-test .taken, (c .before .before .before .before .before .before .before .before) .pre)) refl ((c .before .before .before .before) .loop .inv) ((c .before) .add-if .ensures) ((c) .add-if2 .ensures)
 
--- src/row.rt:107:1
+-- src/row.rt:102:1
 returns : tie.Need-returns Inv-loop μ-loop
-returns c = glance-end _ _ _ _ ((c .loop-test) .left) (((c .before .loop) .inv) .1)
+returns c = glance-end _ _ _ _ _ _ ((c) .loop-test .left) ((c .before .before .before .before) .least-below .ensures) ((c .before) .loop .inv)
 
 pub glance-spec : {M : Type 1} → statement M
 glance-spec =
@@ -54,10 +71,14 @@ glance-spec =
     (tie.spec
     Inv-loop
     μ-loop
+    least-below-requires
+    empty-requires
+    empty-requires-2
     loop-holds
-    mul-seen
-    element-copy-out-seen
-    seen-requires
+    mul-v
+    element-copy-out-v
+    add-if-requires
+    add-if-requires-2
     add-q
     loop-less
     loop-again
