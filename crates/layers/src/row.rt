@@ -78,28 +78,30 @@ fn seen(s: Sum, q: usize, v: u32) -> Sum
     requires { ⌜ q < 64 ⌝ }
     ensures { λ r. ⌜ ((row : List ℕ) → at row q ≡ v → Glance row q s → Glance row (q + 1) r) ⌝ }
 {
+    let least = s.least;
+    let lows = s.lows;
     if v == NONE {
-        return s;
+        return Sum {
+            live: s.live,
+            least,
+            lows,
+        };
     }
     let live = stateset::add(s.live, q);
-    if v < s.least {
+    if v < least {
         return Sum {
             live,
             least: v,
             lows: stateset::single(q),
         };
     }
-    if s.least < v {
-        return Sum {
-            live,
-            least: s.least,
-            lows: s.lows,
-        };
+    if least < v {
+        return Sum { live, least, lows };
     }
     Sum {
         live,
         least: v,
-        lows: stateset::add(s.lows, q),
+        lows: stateset::add(lows, q),
     }
 }
 

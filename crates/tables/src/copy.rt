@@ -247,7 +247,7 @@ fn change_row(
 }
 
 // The row of buffering mode where x is the first letter of the input, from the row after it is read and the row after the mode is
-// changed.
+// changed; goes and turns say whether these are live.
 fn stored_row(
     m: Machine,
     list: &[u16],
@@ -255,18 +255,23 @@ fn stored_row(
     g: u64,
     h: u64,
     x: u16,
-    next: Layer,
-    change: Layer,
+    next: &[u32; 64],
+    goes: bool,
+    change: &[u32; 64],
+    turns: bool,
 ) -> Layer
     requires { ⌜ Given m (now list) (now targets) g h × Row m (now list) (now targets) x ⌝ }
-    ensures { λ r. ⌜ StoredRow m (now (list .entry)) x next change r ⌝ }
+    ensures { λ r. ⌜ StoredRow m (now (list .entry)) x (record { row = now (next .entry); live = goes }) (record { row = now (change .entry); live = turns }) r ⌝ }
 {
-    if !change.live {
-        if !next.live {
-            return next;
+    if !turns {
+        if !goes {
+            return Layer {
+                row: *next,
+                live: false,
+            };
         }
     }
-    layer::buffering_layer(m, list, targets, g, h, x, &next.row, &change.row)
+    layer::buffering_layer(m, list, targets, g, h, x, next, change)
 }
 
 // The row of buffering mode at i + 1 with the letter at i in the buffer, from all copies that begin at i.
@@ -307,7 +312,18 @@ fn storing_row(
             ends,
             left,
         );
-        next = stored_row(m, list, targets, g, h, x, next, change);
+        next = stored_row(
+            m,
+            list,
+            targets,
+            g,
+            h,
+            x,
+            &next.row,
+            next.live,
+            &change.row,
+            change.live,
+        );
         d -= 1;
         if !next.live {
             d = skip_idle(i, d, counts, &*left);
@@ -397,7 +413,18 @@ pub fn buffering_rows(
     while 0 < d {
         let x = word[i + d] as u16;
         let change = fresh_change(m, list, targets, g, h, sets, word, t, i, d);
-        next = stored_row(m, list, targets, g, h, x, next, change);
+        next = stored_row(
+            m,
+            list,
+            targets,
+            g,
+            h,
+            x,
+            &next.row,
+            next.live,
+            &change.row,
+            change.live,
+        );
         let row = next.row;
         save(stored, d, row);
         d -= 1;
