@@ -77,7 +77,8 @@ fn close_emptying(m: Machine, list: &[u16], targets: &[u64], g: u64, h: u64, row
     row::close(m, list, targets, g, h, Mode::Emptying, h, row);
 }
 
-// The row of emptying mode where x is the first letter of both the input and the buffer, from the row after it is read.
+// Lowers a blank row to the row of emptying mode where x is the first letter of both the input and the buffer, from the row after it
+// is read. It says whether any number fell.
 pub fn emptying_layer(
     m: Machine,
     list: &[u16],
@@ -86,16 +87,16 @@ pub fn emptying_layer(
     h: u64,
     x: u16,
     next: &[u32; 64],
-) -> Layer
-    requires { ⌜ Given m (now list) (now targets) g h × Row m (now list) (now targets) x ⌝ }
-    ensures { λ r. ⌜ EmptyingLayer m (now (list .entry)) x (now (next .entry)) (r .row) × (r .live ≡ false → r .row ≡ blankRow) ⌝ }
+    row: &mut [u32; 64],
+) -> bool
+    requires { ⌜ Given m (now list) (now targets) g h × Row m (now list) (now targets) x × (now row ≡ blankRow) ⌝ }
+    ensures { λ r. ⌜ EmptyingLayer m (now (list .entry)) x (now (next .entry)) (now (row .exit)) × (r ≡ false → now (row .exit) ≡ blankRow) ⌝ }
 {
-    let mut row = blank();
-    if !row::read(m, list, targets, g, h, Mode::Emptying, x, h, next, &mut row) {
-        return Layer { row, live: false };
+    if !row::read(m, list, targets, g, h, Mode::Emptying, x, h, next, row) {
+        return false;
     }
-    close_emptying(m, list, targets, g, h, &mut row);
-    Layer { row, live: true }
+    close_emptying(m, list, targets, g, h, row);
+    true
 }
 
 // The row of buffering mode where x is the first letter of the input (0: there is none), from the row after it is read and the row

@@ -16,10 +16,9 @@ use fsbm::machine::Machine;
 use layers::layer;
 use layers::layer::Layer;
 
-// The row of the copies that end at one position with so many letters left. Where it is not live, they are blank from so many
+// How many letters are left of the copies that end at one position. Where they are not live, their rows are blank from so many
 // letters on.
 pub struct Tail {
-    pub row: [u32; 64],
     pub left: usize,
     pub live: bool,
 }
@@ -78,13 +77,14 @@ pub fn emptying_rows(
     while r < d {
         r += 1;
         let x = word[e - r] as u16;
-        let next = layer::emptying_layer(m, list, targets, g, h, x, &row);
-        row = next.row;
+        let mut next = layer::blank();
+        layer::emptying_layer(m, list, targets, g, h, x, &row, &mut next);
+        row = next;
         save(rows, r, row);
     }
 }
 
-// The row of the copies that end at e with d letters left, from that with r letters left.
+// Winds the row of the copies that end at e from r letters left to d letters left.
 fn wind(
     m: Machine,
     list: &[u16],
@@ -96,44 +96,43 @@ fn wind(
     e: usize,
     r: usize,
     d: usize,
-    row: [u32; 64],
+    row: &mut [u32; 64],
 ) -> Tail
-    requires { ⌜ Known m (now list) (now targets) g h (now word) × (r ≤ d) × (d ≤ e) × (e ≤ length (now word)) × EmptyRow m (now list) (now sets) (now word) e r row ⌝ }
-    ensures { λ t. ⌜ Wound m (now (list .entry)) (now (sets .entry)) (now (word .entry)) e d t ⌝ }
+    requires { ⌜ Known m (now list) (now targets) g h (now word) × (r ≤ d) × (d ≤ e) × (e ≤ length (now word)) × EmptyRow m (now list) (now sets) (now word) e r (now row) ⌝ }
+    ensures { λ t. ⌜ Wound m (now (list .entry)) (now (sets .entry)) (now (word .entry)) e d t (now (row .exit)) ⌝ }
 {
-    let mut last = row;
     let mut k = r;
     while k < d {
         k += 1;
         let x = word[e - k] as u16;
-        let next = layer::emptying_layer(m, list, targets, g, h, x, &last);
-        last = next.row;
-        if !next.live {
+        let mut next = layer::blank();
+        if !layer::emptying_layer(m, list, targets, g, h, x, &*row, &mut next) {
             return Tail {
-                row: last,
                 left: k,
                 live: false,
             };
         }
+        *row = next;
     }
     Tail {
-        row: last,
         left: d,
         live: true,
     }
 }
 
 // Keeps what was wound for the end e, and hands its row on.
-fn keep(tail: Tail, e: usize, ends: &mut [[u32; 64]], left: &mut [u16]) -> Layer
+fn keep(tail: Tail, row: &[u32; 64], e: usize, ends: &mut [[u32; 64]], left: &mut [u16]) -> Layer
     requires { ⌜ (e < length (now ends)) × (e < length (now left)) × (e ≤ 255) × (tail .left ≤ e) ⌝ }
-    ensures { λ r. ⌜ ((m : Machine) (list sets w : List ℕ) (d : ℕ) → d ≤ e → Wound m list sets w e d tail → EndedRow m list sets w e d (now (ends .entry)) (now (ends .exit)) (now (left .entry)) (now (left .exit)) r) ⌝ }
+    ensures { λ r. ⌜ ((m : Machine) (list sets w : List ℕ) (d : ℕ) → d ≤ e → Wound m list sets w e d tail (now (row .entry)) → EndedRow m list sets w e d (now (ends .entry)) (now (ends .exit)) (now (left .entry)) (now (left .exit)) r) ⌝ }
 {
     let count = tail.left as u16;
-    let row = tail.row;
     if tail.live {
         left[e] = count;
-        save(ends, e, row);
-        return Layer { row, live: true };
+        save(ends, e, *row);
+        return Layer {
+            row: *row,
+            live: true,
+        };
     }
     left[e] = 256 + count;
     dead()
@@ -160,18 +159,18 @@ fn ended_row(
 {
     let k = left[e] as usize;
     if k <= d {
-        let row = load(ends, e);
-        let tail = wind(m, list, targets, g, h, sets, word, e, k, d, row);
-        return keep(tail, e, ends, left);
+        let mut row = load(ends, e);
+        let tail = wind(m, list, targets, g, h, sets, word, e, k, d, &mut row);
+        return keep(tail, &row, e, ends, left);
     }
     if 256 <= k {
         if k <= 256 + d {
             return dead();
         }
     }
-    let row = load(t, e * 3 + 2);
-    let tail = wind(m, list, targets, g, h, sets, word, e, 0, d, row);
-    keep(tail, e, ends, left)
+    let mut row = load(t, e * 3 + 2);
+    let tail = wind(m, list, targets, g, h, sets, word, e, 0, d, &mut row);
+    keep(tail, &row, e, ends, left)
 }
 
 // Whether no copy of the k letters from i on goes on: they do not stand there twice, or the end is known to be blank.
@@ -379,14 +378,10 @@ fn fresh_change(
         return dead();
     }
     let e = i + d + d;
-    let row = load(t, e * 3 + 2);
-    let tail = wind(m, list, targets, g, h, sets, word, e, 0, d, row);
-    let wound = tail.row;
+    let mut row = load(t, e * 3 + 2);
+    let tail = wind(m, list, targets, g, h, sets, word, e, 0, d, &mut row);
     if tail.live {
-        return Layer {
-            row: wound,
-            live: true,
-        };
+        return Layer { row, live: true };
     }
     dead()
 }
