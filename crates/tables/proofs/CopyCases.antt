@@ -25,7 +25,7 @@ use Rattle.fsbm.specs.Rules.{Rules}
 use Rattle.layers.specs.Costs.{RowBest}
 use Rattle.layers.specs.Layers.Laws.{blank-buffering}
 use Rattle.layers.specs.Layers.{blankRow, EmptyingLayer, BufferingLayer}
-use Rattle.layers.specs.declared.layer.Layer.{Layer}
+use Rattle.tables.specs.declared.copy.Layer.{Layer}
 use Rattle.tables.specs.declared.copy.Tail.{Tail}
 use Rattle.tables.specs.Halves.{Halves, Matched, SharedFrom}
 use Rattle.tables.specs.Halves.Laws.{shared-halves, shared-unequal}
@@ -186,14 +186,14 @@ module _ (m : Machine) (list : List ℕ) (x : ℕ) (next change layer : Layer) w
   pub stored-both : BufferingLayer m list x (next .row) (change .row) (layer .row) → Told layer → StoredRow m list x next change layer
   stored-both f told = record { best = λ a b. f; told = λ a. told }
 
-pub stored-none : (m : Machine) (list : List ℕ) (x : ℕ) (next change layer : Layer) → Rules m list → next .live ≡ false → change .live ≡ false → layer .row ≡ next .row → StoredRow m list x next change layer
+pub stored-none : (m : Machine) (list : List ℕ) (x : ℕ) (next change layer : Layer) → Rules m list → next .live ≡ false → change .live ≡ false → layer .row ≡ blankRow → StoredRow m list x next change layer
 stored-none m list x next change layer rules a b e =
     record {
       best = λ f g.
           subst (λ (z : List ℕ). BufferingLayer m list x (next .row) (change .row) z) (sym e)
-          (subst (λ (z : List ℕ). BufferingLayer m list x z (change .row) z) (sym (f a))
+          (subst (λ (z : List ℕ). BufferingLayer m list x z (change .row) blankRow) (sym (f a))
           (subst (λ (z : List ℕ). BufferingLayer m list x blankRow z blankRow) (sym (g b)) (blank-buffering m list rules x)));
-      told = λ f l. e ∙ f a;
+      told = λ f l. e;
     }
 
 -- copies that are idle

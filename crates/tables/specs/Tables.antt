@@ -40,7 +40,7 @@ use Rattle.fsbm.specs.declared.config.Mode.the-variants.{Normal, Buffering, Emp
 use Rattle.layers.specs.Costs.{RowBest}
 use Rattle.layers.specs.Rows.{Given}
 use Rattle.layers.specs.Layers.{blankRow, Begins, BufferingLayer, PlaceBest}
-use Rattle.layers.specs.declared.layer.Layer.{Layer}
+use Rattle.tables.specs.declared.copy.Layer.{Layer}
 use Rattle.layers.specs.declared.layer.Place.{Place}
 use Rattle.tables.specs.Halves.{Halves, SharedFrom}
 use Rattle.tables.specs.declared.copy.Tail.{Tail}

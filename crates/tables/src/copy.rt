@@ -14,7 +14,12 @@ ghost use Rattle.tables.specs.Tables.{Known, rowAt, PlaceRows, EmptyRow,
 use crate::halves;
 use fsbm::machine::Machine;
 use layers::layer;
-use layers::layer::Layer;
+
+// A row. Where it is not live, it is blank.
+pub struct Layer {
+    pub row: [u32; 64],
+    pub live: bool,
+}
 
 // How many letters are left of the copies that end at one position. Where they are not live, their rows are blank from so many
 // letters on.
@@ -245,8 +250,8 @@ fn change_row(
     )
 }
 
-// The row of buffering mode where x is the first letter of the input, from the row after it is read and the row after the mode is
-// changed; goes and turns say whether these are live.
+// Lowers a blank row to the row of buffering mode where x is the first letter of the input, from the row after it is read and the row
+// after the mode is changed; goes and turns say whether these are live. It says whether any number fell.
 fn stored_row(
     m: Machine,
     list: &[u16],
@@ -258,19 +263,17 @@ fn stored_row(
     goes: bool,
     change: &[u32; 64],
     turns: bool,
-) -> Layer
-    requires { ⌜ Given m (now list) (now targets) g h × Row m (now list) (now targets) x ⌝ }
-    ensures { λ r. ⌜ StoredRow m (now (list .entry)) x (record { row = now (next .entry); live = goes }) (record { row = now (change .entry); live = turns }) r ⌝ }
+    row: &mut [u32; 64],
+) -> bool
+    requires { ⌜ Given m (now list) (now targets) g h × Row m (now list) (now targets) x × (now row ≡ blankRow) ⌝ }
+    ensures { λ r. ⌜ StoredRow m (now (list .entry)) x (record { row = now (next .entry); live = goes }) (record { row = now (change .entry); live = turns }) (record { row = now (row .exit); live = r }) ⌝ }
 {
     if !turns {
         if !goes {
-            return Layer {
-                row: *next,
-                live: false,
-            };
+            return false;
         }
     }
-    layer::buffering_layer(m, list, targets, g, h, x, next, change)
+    layer::buffering_layer(m, list, targets, g, h, x, next, change, row)
 }
 
 // The row of buffering mode at i + 1 with the letter at i in the buffer, from all copies that begin at i.
@@ -311,7 +314,8 @@ fn storing_row(
             ends,
             left,
         );
-        next = stored_row(
+        let mut row = layer::blank();
+        let live = stored_row(
             m,
             list,
             targets,
@@ -322,7 +326,9 @@ fn storing_row(
             next.live,
             &change.row,
             change.live,
+            &mut row,
         );
+        next = Layer { row, live };
         d -= 1;
         if !next.live {
             d = skip_idle(i, d, counts, &*left);
@@ -408,7 +414,8 @@ pub fn buffering_rows(
     while 0 < d {
         let x = word[i + d] as u16;
         let change = fresh_change(m, list, targets, g, h, sets, word, t, i, d);
-        next = stored_row(
+        let mut row = layer::blank();
+        let live = stored_row(
             m,
             list,
             targets,
@@ -419,8 +426,9 @@ pub fn buffering_rows(
             next.live,
             &change.row,
             change.live,
+            &mut row,
         );
-        let row = next.row;
+        next = Layer { row, live };
         save(stored, d, row);
         d -= 1;
     }
