@@ -5,8 +5,8 @@
 -- below-turn                     == one turn of least_below
 -- Glancing, glancing-start, glancing-turn, glance-end == the loop of glance
 -- Least, least-start, least-turn, least-end == the loop of least_of
--- least-none, least-low, least-some == the returns of least_in
--- visit-seen                     == what visit asks of the row it lowers into
+-- least-low                      == a return of least_in
+-- visit-seen, visit-live, visit-none == what visit asks of the row it lowers into, and its returns
 -- blank-said                     == the return of is_blank
 -- lesser-is, lesser-not          == the returns of lesser
 -- lower-not, lower-is            == the returns of lower
@@ -33,7 +33,8 @@ use Rattle.targets.specs.Prepared.{Row}
 use Rattle.images.specs.Graph.{Members, May}
 use Rattle.layers.specs.declared.row.Sum.{Sum}
 use Rattle.layers.specs.Costs.{none, at}
-use Rattle.layers.specs.Rows.{Given, lesserOf, lowered, Lowered, Apart, Cut, Glance, Seen, LeastOf}
+use Rattle.layers.specs.Rows.Laws.{visit-lowers, target-below}
+use Rattle.layers.specs.Rows.{Given, lesserOf, lowered, Lowered, Lowering, Through, Only, Apart, Cut, Glance, Seen, LeastOf}
 
 -- Cut sets
 
@@ -138,45 +139,36 @@ module _ (row : List ℕ) (set : ℕ) where
   pub least-end : {rest least : ℕ} → Least row set rest least → rest ≡ 0 → LeastOf row set least
   least-end s e = record { small = s .small; below = λ q i. s .below q i (λ h. empty-in q (subst (λ (n : ℕ). In n q) e h)); real = s .real }
 
-module _ (row : List ℕ) (s : Sum) (set some : ℕ) {w : ℕ} (both : SetIs some w (λ q. In set q × In (s .live) q)) (seen : Seen row set s) where
-  other : (q : ℕ) → In set q → (In some q → ⊥) → none ≤ at row q
-  other q i n = on (decLt (at row q) none)
+pub least-low : (row : List ℕ) (s : Sum) (set low : ℕ) {v : ℕ} → Seen row set s → SetIs low v (λ q. In set q × In (s .lows) q) → (low ≡ 0 → ⊥) → LeastOf row set (s .least)
+least-low row s set low seen sh n =
+    let i = lowest-in width low (omega arith) (sh .fits) in
+    let (a, b) = sh .members _ .0 i in
+    record { small = seen .small; below = λ q h. seen .least q h; real = λ l. (_, a, sym (seen .lows _ b)) }
+
+-- The transitions of one state: live has those of its targets that have a number
+
+module _ (m : Machine) (list targets : List ℕ) (g h : ℕ) (given : Given m list targets g h) (t : Mode) (x a : ℕ) (below : a < m .states) (row-of : Row m list targets x)
+    (next : List ℕ) (s : Sum) (glance : Glance next (m .states) s) (live : ℕ) {w : ℕ} (both : SetIs live w (λ q. In (getD targets (setOf (m .states) x a) 0) q × In (s .live) q)) where
+  live-below : (q : ℕ) → In live q → q < m .states
+  live-below q i = target-below m list targets g h given x a below row-of q (both .members q .0 i .0)
+
+  pub visit-seen : (r : ℕ) → Cut g h t a live r → s .least ≤ none → Seen next r s
+  visit-seen r cut small = record { small = small; least = λ q i. glance .least q (live-below q (cut q .0 i .0)); lows = glance .lows }
+
+  pub visit-live : (r v : ℕ) → Cut g h t a live r → LeastOf next r v → (row row′ : List ℕ) (b : Bool) → Lowered row a v row′ b → Lowering (Only (Through m list t x next) a) row row′ b
+  visit-live r v cut least =
+      visit-lowers m list targets g h given t x a next below row-of v (least .small)
+      (λ l. let (q, i, e) = least .real l in let z = cut q .0 i in (q, both .members q .0 (z .0) .0, z .1, e))
+      (λ q i may. on q i may (decLt (at next q) none))
     where
-      on : Dec (at row q < none) → none ≤ at row q
-      on (yes l) = absurd (n (both .members q .1 (i, seen .live q i l)))
-      on (no l) = omega arith
+      on : (q : ℕ) → In (getD targets (setOf (m .states) x a) 0) q → May g h t a q → Dec (at next q < none) → v ≤ at next q
+      on q i may (yes l) = least .below q (cut q .1 (both .members q .1 (i, glance .live q (target-below m list targets g h given x a below row-of q i) l), may))
+      on q i may (no l) = omega (arith, least .small)
 
-  pub least-none : some ≡ 0 → LeastOf row set none
-  least-none e =
-      record { small = omega arith; below = λ q i. other q i (λ h. empty-in q (subst (λ (n : ℕ). In n q) e h)); real = λ (l : none < none). absurd (omega arith) }
-
-  pub least-low : (low : ℕ) {v : ℕ} → SetIs low v (λ q. In some q × In (s .lows) q) → (low ≡ 0 → ⊥) → s .least ≤ none → LeastOf row set (s .least)
-  least-low low sh n le =
-      let i = lowest-in width low (omega arith) (sh .fits) in
-      let (a, b) = sh .members _ .0 i in
-      record { small = le; below = λ q h. seen .least q h; real = λ l. (_, both .members _ .0 a .0, sym (seen .lows _ b)) }
-
-  pub least-some : (r : ℕ) → LeastOf row some r → LeastOf row set r
-  least-some r f =
-      record { small = f .small; below = λ q i. on q i (in? some q); real = λ l. let (q, i, e) = f .real l in (q, both .members q .0 i .0, e) }
-    where
-      on : (q : ℕ) → In set q → Dec (In some q) → r ≤ at row q
-      on q i (yes h) = f .below q h
-      on q i (no n) = omega (arith, other q i n, f .small)
-
--- the states that a transition leads to are the machine's
-glance-seen : (row : List ℕ) (k t : ℕ) (s : Sum) → ((q : ℕ) → In t q → q < k) → Glance row k s → Seen row t s
-glance-seen row k t s below g = record { live = λ q i l. g .live q (below q i) l; least = λ q i. g .least q (below q i); lows = g .lows }
-
-module _ (m : Machine) (list targets : List ℕ) (g h : ℕ) (given : Given m list targets g h) (t : Mode) (x a r : ℕ) (below : a < m .states) (row-of : Row m list targets x)
-    (cut : Cut g h t a (getD targets (setOf (m .states) x a) 0) r) where
-  cut-below : (q : ℕ) → In r q → q < m .states
-  cut-below q i =
-      let δ = row-of .listed a q below .0 (cut q .0 i .0) in
-      subst (λ (p : ℕ). p < m .states) (δ .to) (rules m list (given .good) .to-below (δ .number) (δ .listed))
-
-  pub visit-seen : (next : List ℕ) (s : Sum) → Glance next (m .states) s → Seen next r s
-  visit-seen next s g = glance-seen next (m .states) r s cut-below g
+  pub visit-none : live ≡ 0 → (row row′ : List ℕ) (b : Bool) → Lowered row a none row′ b → Lowering (Only (Through m list t x next) a) row row′ b
+  visit-none z =
+      visit-live 0 none (λ q. (λ i. absurd (empty-in q i), λ i. absurd (empty-in q (subst (λ (n : ℕ). In n q) z (i .0)))))
+      (record { small = omega arith; below = λ q i. absurd (empty-in q i); real = λ (l : none < none). absurd (omega arith) })
 
 pub blank-said : (row : List ℕ) (k : ℕ) (s : Sum) → Glance row k s → eqb (s .least) none ≡ true → (q : ℕ) → q < k → none ≤ at row q
 blank-said row k s g t q l = let e = eqb-true (s .least) none t in omega (arith, g .least q l)

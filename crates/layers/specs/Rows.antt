@@ -15,7 +15,7 @@
 -- Apart h a b r              == r has those states of b that are not matching where a is
 -- Cut g h t a b r            == r has those states of b that mode t lets a transition from a lead to
 -- Glance row k s             == s says of the states below k which have a number in the row, the least number, and which have it
--- Seen row t s               == s says this of the states of t
+-- Seen row t s               == s says of the states of t the least number, and which have it
 -- LeastOf row t r            == r is the least number of the states of t in the row
 -- Closed m list S t row row′ == row′ is row, lowered along transitions that read nothing, from states of which S holds, until none of them
 --                               would lower it further
@@ -109,7 +109,7 @@ pub record Glance (row : List ℕ) (k : ℕ) (s : Sum) : Type 0 where
   pub lows : (q : ℕ) → In (s .lows) q → at row q ≡ s .least
 
 pub record Seen (row : List ℕ) (t : ℕ) (s : Sum) : Type 0 where
-  pub live : (q : ℕ) → In t q → at row q < none → In (s .live) q
+  pub small : s .least ≤ none
   pub least : (q : ℕ) → In t q → s .least ≤ at row q
   pub lows : (q : ℕ) → In (s .lows) q → at row q ≡ s .least
 

@@ -15,12 +15,6 @@ use fsbm::config::Mode;
 use fsbm::machine;
 use fsbm::machine::Machine;
 
-// The row of a layer. Where it is not live, it is blank.
-pub struct Layer {
-    pub row: [u32; 64],
-    pub live: bool,
-}
-
 // The three rows of a place, the buffer empty. Where no copy ends there, that of emptying mode says none.
 pub struct Place {
     pub normal: [u32; 64],
@@ -77,7 +71,8 @@ fn close_emptying(m: Machine, list: &[u16], targets: &[u64], g: u64, h: u64, row
     row::close(m, list, targets, g, h, Mode::Emptying, h, row);
 }
 
-// The row of emptying mode where x is the first letter of both the input and the buffer, from the row after it is read.
+// Lowers a blank row to the row of emptying mode where x is the first letter of both the input and the buffer, from the row after it
+// is read. It says whether any number fell.
 pub fn emptying_layer(
     m: Machine,
     list: &[u16],
@@ -86,20 +81,20 @@ pub fn emptying_layer(
     h: u64,
     x: u16,
     next: &[u32; 64],
-) -> Layer
-    requires { ⌜ Given m (now list) (now targets) g h × Row m (now list) (now targets) x ⌝ }
-    ensures { λ r. ⌜ EmptyingLayer m (now (list .entry)) x (now (next .entry)) (r .row) × (r .live ≡ false → r .row ≡ blankRow) ⌝ }
+    row: &mut [u32; 64],
+) -> bool
+    requires { ⌜ Given m (now list) (now targets) g h × Row m (now list) (now targets) x × (now row ≡ blankRow) ⌝ }
+    ensures { λ r. ⌜ EmptyingLayer m (now (list .entry)) x (now (next .entry)) (now (row .exit)) × (r ≡ false → now (row .exit) ≡ blankRow) ⌝ }
 {
-    let mut row = blank();
-    if !row::read(m, list, targets, g, h, Mode::Emptying, x, h, next, &mut row) {
-        return Layer { row, live: false };
+    if !row::read(m, list, targets, g, h, Mode::Emptying, x, h, next, row) {
+        return false;
     }
-    close_emptying(m, list, targets, g, h, &mut row);
-    Layer { row, live: true }
+    close_emptying(m, list, targets, g, h, row);
+    true
 }
 
-// The row of buffering mode where x is the first letter of the input (0: there is none), from the row after it is read and the row
-// after the mode is changed.
+// Lowers a blank row to the row of buffering mode where x is the first letter of the input (0: there is none), from the row after it
+// is read and the row after the mode is changed. It says whether any number fell.
 pub fn buffering_layer(
     m: Machine,
     list: &[u16],
@@ -109,32 +104,21 @@ pub fn buffering_layer(
     x: u16,
     next: &[u32; 64],
     emptied: &[u32; 64],
-) -> Layer
-    requires { ⌜ Given m (now list) (now targets) g h × Row m (now list) (now targets) x ⌝ }
-    ensures { λ r. ⌜ BufferingLayer m (now (list .entry)) x (now (next .entry)) (now (emptied .entry)) (r .row) × (r .live ≡ false → r .row ≡ blankRow) ⌝ }
+    row: &mut [u32; 64],
+) -> bool
+    requires { ⌜ Given m (now list) (now targets) g h × Row m (now list) (now targets) x × (now row ≡ blankRow) ⌝ }
+    ensures { λ r. ⌜ BufferingLayer m (now (list .entry)) x (now (next .entry)) (now (emptied .entry)) (now (row .exit)) × (r ≡ false → now (row .exit) ≡ blankRow) ⌝ }
 {
-    let mut row = blank();
     let all = stateset::full(m.states);
-    let changed = row::change(h, emptied, &mut row);
-    let passed = row::read(
-        m,
-        list,
-        targets,
-        g,
-        h,
-        Mode::Buffering,
-        x,
-        all,
-        next,
-        &mut row,
-    );
+    let changed = row::change(h, emptied, row);
+    let passed = row::read(m, list, targets, g, h, Mode::Buffering, x, all, next, row);
     if !changed {
         if !passed {
-            return Layer { row, live: false };
+            return false;
         }
     }
-    close_buffering(m, list, targets, g, h, &mut row);
-    Layer { row, live: true }
+    close_buffering(m, list, targets, g, h, row);
+    true
 }
 
 // One round over the rows of a place: the moves that read nothing, then the changes of mode. It says whether a change lowered

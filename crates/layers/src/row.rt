@@ -130,19 +130,15 @@ fn least_of(row: &[u32; 64], set: u64) -> u32
     least
 }
 
-// The same, from what the row shows at a glance where that tells it.
+// The same of states that have numbers, from what the row shows at a glance where that tells it.
 fn least_in(row: &[u32; 64], s: Sum, set: u64) -> u32
     requires { ⌜ Seen (now row) set s ⌝ }
     ensures { λ r. ⌜ LeastOf (now (row .entry)) set r ⌝ }
 {
-    let some = stateset::intersection(set, s.live);
-    if some == 0 {
-        return NONE;
-    }
-    if stateset::intersection(some, s.lows) != 0 {
+    if stateset::intersection(set, s.lows) != 0 {
         return s.least;
     }
-    least_of(row, some)
+    least_of(row, set)
 }
 
 // The lesser of v + 1 and d.
@@ -191,7 +187,11 @@ fn visit(
     ensures { λ r. ⌜ Lowering (Only (Through m (now (list .entry)) mode x (now (next .entry))) a) (now (row .entry)) (now (row .exit)) r ⌝ }
 {
     let set = targets[1 + x as usize * m.states + a];
-    let v = least_in(next, s, cut(g, h, mode, a, set));
+    let live = stateset::intersection(set, s.live);
+    if live == 0 {
+        return lower(row, a, NONE);
+    }
+    let v = least_in(next, s, cut(g, h, mode, a, live));
     lower(row, a, v)
 }
 

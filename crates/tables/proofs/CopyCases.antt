@@ -25,7 +25,7 @@ use Rattle.fsbm.specs.Rules.{Rules}
 use Rattle.layers.specs.Costs.{RowBest}
 use Rattle.layers.specs.Layers.Laws.{blank-buffering}
 use Rattle.layers.specs.Layers.{blankRow, EmptyingLayer, BufferingLayer}
-use Rattle.layers.specs.declared.layer.Layer.{Layer}
+use Rattle.tables.specs.declared.copy.Layer.{Layer}
 use Rattle.tables.specs.declared.copy.Tail.{Tail}
 use Rattle.tables.specs.Halves.{Halves, Matched, SharedFrom}
 use Rattle.tables.specs.Halves.Laws.{shared-halves, shared-unequal}
@@ -85,15 +85,15 @@ module _ (m : Machine) (list sets w : List ℕ) (e d : ℕ) where
       → Winding m list sets w e d (k + 1) row′
   wound-next k x row row′ lt d-le le x-is g layer = record { within = omega arith; best = empty-next m list sets w e k x row row′ (omega arith) le x-is (g .best) layer }
 
-  pub wound-dead : Rules m list → (k : ℕ) (row : List ℕ) → e ≤ length w → Winding m list sets w e d k row → row ≡ blankRow → Wound m list sets w e d (record { row = row; left = k; live = false })
-  wound-dead rules k row le g blank =
+  pub wound-dead : Rules m list → (k : ℕ) (row row′ : List ℕ) → e ≤ length w → Winding m list sets w e d k row → row ≡ blankRow → Wound m list sets w e d (record { left = k; live = false }) row′
+  wound-dead rules k row row′ le g blank =
       record {
         whole = λ t. absurd (false≢true t);
         inside = g .within;
         blank = λ f. blank-on m list sets w rules e k le (subst (EmptyRow m list sets w e k) blank (g .best));
       }
 
-  pub wound-whole : (k : ℕ) (row : List ℕ) → d ≤ k → Winding m list sets w e d k row → Wound m list sets w e d (record { row = row; left = d; live = true })
+  pub wound-whole : (k : ℕ) (row : List ℕ) → d ≤ k → Winding m list sets w e d k row → Wound m list sets w e d (record { left = d; live = true }) row
   wound-whole k row l g =
       let z : k ≡ d = omega (arith, g .within) in
       record {
@@ -121,22 +121,22 @@ module _ (m : Machine) (list sets w : List ℕ) (e d : ℕ) where
           let row-same = others j z in
           rw (same, row-same) (f .each j a b)
 
-  pub keep-live : (tail : Tail) (ends ends′ : List (List ℕ)) (left left′ : List ℕ) (layer : Layer) → e ≤ 255 → d ≤ e → e < length ends → e < length left → tail .live ≡ true → left′ ≡ set left e (tail .left)
-      → ends′ ≡ set ends e (tail .row) → layer .row ≡ tail .row → layer .live ≡ true → Wound m list sets w e d tail → EndedRow m list sets w e d ends ends′ left left′ layer
-  keep-live tail ends ends′ left left′ layer small le in-ends in-left t left-is ends-is row-is live-is g =
+  pub keep-live : (tail : Tail) (row : List ℕ) (ends ends′ : List (List ℕ)) (left left′ : List ℕ) (layer : Layer) → e ≤ 255 → d ≤ e → e < length ends → e < length left → tail .live ≡ true → left′ ≡ set left e (tail .left)
+      → ends′ ≡ set ends e (row) → layer .row ≡ row → layer .live ≡ true → Wound m list sets w e d tail row → EndedRow m list sets w e d ends ends′ left left′ layer
+  keep-live tail row ends ends′ left left′ layer small le in-ends in-left t left-is ends-is row-is live-is g =
       let whole = g .whole t in
-      let here = row-same ends ends′ e (tail .row) in-ends ends-is in
+      let here = row-same ends ends′ e (row) in-ends ends-is in
       let best : EmptyRow m list sets w e (tail .left) (rowAt ends′ e) = rw (here, whole .0) (whole .1) in
       record {
         row = record { best = subst (EmptyRow m list sets w e d) (sym row-is) (whole .1); told = λ f. absurd (false≢true (sym f ∙ live-is)) };
         kept = λ p.
-            kept p ends ends′ left left′ (tail .left) (ap length ends-is ∙ length-set ends e (tail .row)) (λ j n. row-other ends ends′ e j (tail .row) n ends-is) left-is in-left
+            kept p ends ends′ left left′ (tail .left) (ap length ends-is ∙ length-set ends e (row)) (λ j n. row-other ends ends′ e j (row) n ends-is) left-is in-left
             (record { best = λ l. (omega (arith, g .inside), best); blank = λ (l : 256 ≤ tail .left). absurd (omega (arith, g .inside)) });
       }
 
-  pub keep-dead : (tail : Tail) (ends : List (List ℕ)) (left left′ : List ℕ) (layer : Layer) → e ≤ 255 → d ≤ e → e < length left → tail .live ≡ false → left′ ≡ set left e (256 + tail .left)
-      → layer .row ≡ blankRow → Wound m list sets w e d tail → EndedRow m list sets w e d ends ends left left′ layer
-  keep-dead tail ends left left′ layer small le in-left f left-is row-is g =
+  pub keep-dead : (tail : Tail) (row : List ℕ) (ends : List (List ℕ)) (left left′ : List ℕ) (layer : Layer) → e ≤ 255 → d ≤ e → e < length left → tail .live ≡ false → left′ ≡ set left e (256 + tail .left)
+      → layer .row ≡ blankRow → Wound m list sets w e d tail row → EndedRow m list sets w e d ends ends left left′ layer
+  keep-dead tail row ends left left′ layer small le in-left f left-is row-is g =
       let blank = g .blank f in
       let back : 256 + tail .left - 256 ≡ tail .left = omega arith in
       let from : BlankFrom m list sets w e (256 + tail .left - 256) = subst (BlankFrom m list sets w e) (sym back) blank in
@@ -171,13 +171,13 @@ module _ (m : Machine) (list sets w : List ℕ) (i d : ℕ) where
   change-ended pos small le counts shared l layer ends ends′ left left′ f g =
       record { row = change-same le (shared-halves w i d (getD counts d 0) (shared .each d pos small) l) layer (g .row); ending = g .kept (i + 1) f }
 
-  pub change-wound : i + d + d ≤ length w → Halves w i d → (tail : Tail) → Wound m list sets w (i + d + d) d tail → tail .live ≡ true → (layer : Layer) → layer .row ≡ tail .row → layer .live ≡ true
+  pub change-wound : i + d + d ≤ length w → Halves w i d → (tail : Tail) (row : List ℕ) → Wound m list sets w (i + d + d) d tail row → tail .live ≡ true → (layer : Layer) → layer .row ≡ row → layer .live ≡ true
       → ChangeLayer m list sets w i d layer
-  change-wound le h tail g t layer row-is live-is =
+  change-wound le h tail row g t layer row-is live-is =
       change-same le h layer (record { best = subst (EmptyRow m list sets w (i + d + d) d) (sym row-is) (g .whole t .1); told = λ f. absurd (false≢true (sym f ∙ live-is)) })
 
-  pub change-blank : i + d + d ≤ length w → Halves w i d → (tail : Tail) → Wound m list sets w (i + d + d) d tail → tail .live ≡ false → (layer : Layer) → layer .row ≡ blankRow → ChangeLayer m list sets w i d layer
-  change-blank le h tail g f layer row-is =
+  pub change-blank : i + d + d ≤ length w → Halves w i d → (tail : Tail) (row : List ℕ) → Wound m list sets w (i + d + d) d tail row → tail .live ≡ false → (layer : Layer) → layer .row ≡ blankRow → ChangeLayer m list sets w i d layer
+  change-blank le h tail row g f layer row-is =
       change-same le h layer (record { best = subst (EmptyRow m list sets w (i + d + d) d) (sym row-is) (g .blank f d (g .inside) (omega arith)); told = λ l. row-is })
 
 -- the row of a first half, from the row after it
@@ -186,13 +186,14 @@ module _ (m : Machine) (list : List ℕ) (x : ℕ) (next change layer : Layer) w
   pub stored-both : BufferingLayer m list x (next .row) (change .row) (layer .row) → Told layer → StoredRow m list x next change layer
   stored-both f told = record { best = λ a b. f; told = λ a. told }
 
-pub stored-none : (m : Machine) (list : List ℕ) (x : ℕ) (next change : Layer) → Rules m list → next .live ≡ false → change .live ≡ false → StoredRow m list x next change next
-stored-none m list x next change rules a b =
+pub stored-none : (m : Machine) (list : List ℕ) (x : ℕ) (next change layer : Layer) → Rules m list → next .live ≡ false → change .live ≡ false → layer .row ≡ blankRow → StoredRow m list x next change layer
+stored-none m list x next change layer rules a b e =
     record {
       best = λ f g.
-          subst (λ (z : List ℕ). BufferingLayer m list x z (change .row) z) (sym (f a))
-          (subst (λ (z : List ℕ). BufferingLayer m list x blankRow z blankRow) (sym (g b)) (blank-buffering m list rules x));
-      told = λ f. f;
+          subst (λ (z : List ℕ). BufferingLayer m list x (next .row) (change .row) z) (sym e)
+          (subst (λ (z : List ℕ). BufferingLayer m list x z (change .row) blankRow) (sym (f a))
+          (subst (λ (z : List ℕ). BufferingLayer m list x blankRow z blankRow) (sym (g b)) (blank-buffering m list rules x)));
+      told = λ f l. e;
     }
 
 -- copies that are idle

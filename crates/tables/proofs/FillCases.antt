@@ -23,7 +23,7 @@ use Rattle.fsbm.specs.Rules.{Rules, rules}
 use Rattle.layers.specs.Costs.{RowBest}
 use Rattle.layers.specs.Rows.{Given}
 use Rattle.layers.specs.Layers.{blankRow, NoneBelow, Begins, PlaceLayer, PlaceBest}
-use Rattle.layers.specs.declared.layer.Layer.{Layer}
+use Rattle.tables.specs.declared.copy.Layer.{Layer}
 use Rattle.layers.specs.declared.layer.Place.{Place}
 use Rattle.layers.specs.Layers.Laws.{blank-none, blank-place, none-best}
 use Rattle.tables.specs.Halves.{SharedFrom}

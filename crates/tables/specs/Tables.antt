@@ -12,7 +12,7 @@
 -- ChangeLayer m list sets w i d layer == the same of emptying mode at i + d, with the d letters from i on in the buffer
 -- EmptyingRows, BufferingRows == all rows of a copy: of its second half, of its first half
 -- BlankFrom m list sets w e k      == the rows of the copies that end at e are blank from k letters on
--- Wound m list sets w e d tail     == the row of the copies that end at e with d letters left, or from where on their rows are blank
+-- Wound m list sets w e d tail row == the row of the copies that end at e with d letters left, or from where on their rows are blank
 -- EndRow m list sets w e row k     == row is that of the copies that end at e with k letters left; 256 + k: from k letters on they are blank
 -- Ends m list sets w p ends left   == ends and left say this of every end from p on
 -- Idle w i left k             == no copy of the k letters from i on goes on: they do not stand there twice, or left says that its end is blank
@@ -40,7 +40,7 @@ use Rattle.fsbm.specs.declared.config.Mode.the-variants.{Normal, Buffering, Emp
 use Rattle.layers.specs.Costs.{RowBest}
 use Rattle.layers.specs.Rows.{Given}
 use Rattle.layers.specs.Layers.{blankRow, Begins, BufferingLayer, PlaceBest}
-use Rattle.layers.specs.declared.layer.Layer.{Layer}
+use Rattle.tables.specs.declared.copy.Layer.{Layer}
 use Rattle.layers.specs.declared.layer.Place.{Place}
 use Rattle.tables.specs.Halves.{Halves, SharedFrom}
 use Rattle.tables.specs.declared.copy.Tail.{Tail}
@@ -93,8 +93,8 @@ pub record ChangeLayer (m : Machine) (list sets w : List ℕ) (i d : ℕ) (layer
 abbrev pub BlankFrom : Machine → List ℕ → List ℕ → List ℕ → ℕ → ℕ → Type 0
 BlankFrom m list sets w e k = (r : ℕ) → k ≤ r → r ≤ e → EmptyRow m list sets w e r blankRow
 
-pub record Wound (m : Machine) (list sets w : List ℕ) (e d : ℕ) (tail : Tail) : Type 0 where
-  pub whole : tail .live ≡ true → (tail .left ≡ d) × EmptyRow m list sets w e d (tail .row)
+pub record Wound (m : Machine) (list sets w : List ℕ) (e d : ℕ) (tail : Tail) (row : List ℕ) : Type 0 where
+  pub whole : tail .live ≡ true → (tail .left ≡ d) × EmptyRow m list sets w e d row
   pub inside : tail .left ≤ d
   pub blank : tail .live ≡ false → BlankFrom m list sets w e (tail .left)
 

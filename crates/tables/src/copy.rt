@@ -14,12 +14,16 @@ ghost use Rattle.tables.specs.Tables.{Known, rowAt, PlaceRows, EmptyRow,
 use crate::halves;
 use fsbm::machine::Machine;
 use layers::layer;
-use layers::layer::Layer;
 
-// The row of the copies that end at one position with so many letters left. Where it is not live, they are blank from so many
+// A row. Where it is not live, it is blank.
+pub struct Layer {
+    pub row: [u32; 64],
+    pub live: bool,
+}
+
+// How many letters are left of the copies that end at one position. Where they are not live, their rows are blank from so many
 // letters on.
 pub struct Tail {
-    pub row: [u32; 64],
     pub left: usize,
     pub live: bool,
 }
@@ -78,13 +82,14 @@ pub fn emptying_rows(
     while r < d {
         r += 1;
         let x = word[e - r] as u16;
-        let next = layer::emptying_layer(m, list, targets, g, h, x, &row);
-        row = next.row;
+        let mut next = layer::blank();
+        layer::emptying_layer(m, list, targets, g, h, x, &row, &mut next);
+        row = next;
         save(rows, r, row);
     }
 }
 
-// The row of the copies that end at e with d letters left, from that with r letters left.
+// Winds the row of the copies that end at e from r letters left to d letters left.
 fn wind(
     m: Machine,
     list: &[u16],
@@ -96,44 +101,43 @@ fn wind(
     e: usize,
     r: usize,
     d: usize,
-    row: [u32; 64],
+    row: &mut [u32; 64],
 ) -> Tail
-    requires { ⌜ Known m (now list) (now targets) g h (now word) × (r ≤ d) × (d ≤ e) × (e ≤ length (now word)) × EmptyRow m (now list) (now sets) (now word) e r row ⌝ }
-    ensures { λ t. ⌜ Wound m (now (list .entry)) (now (sets .entry)) (now (word .entry)) e d t ⌝ }
+    requires { ⌜ Known m (now list) (now targets) g h (now word) × (r ≤ d) × (d ≤ e) × (e ≤ length (now word)) × EmptyRow m (now list) (now sets) (now word) e r (now row) ⌝ }
+    ensures { λ t. ⌜ Wound m (now (list .entry)) (now (sets .entry)) (now (word .entry)) e d t (now (row .exit)) ⌝ }
 {
-    let mut last = row;
     let mut k = r;
     while k < d {
         k += 1;
         let x = word[e - k] as u16;
-        let next = layer::emptying_layer(m, list, targets, g, h, x, &last);
-        last = next.row;
-        if !next.live {
+        let mut next = layer::blank();
+        if !layer::emptying_layer(m, list, targets, g, h, x, &*row, &mut next) {
             return Tail {
-                row: last,
                 left: k,
                 live: false,
             };
         }
+        *row = next;
     }
     Tail {
-        row: last,
         left: d,
         live: true,
     }
 }
 
 // Keeps what was wound for the end e, and hands its row on.
-fn keep(tail: Tail, e: usize, ends: &mut [[u32; 64]], left: &mut [u16]) -> Layer
+fn keep(tail: Tail, row: &[u32; 64], e: usize, ends: &mut [[u32; 64]], left: &mut [u16]) -> Layer
     requires { ⌜ (e < length (now ends)) × (e < length (now left)) × (e ≤ 255) × (tail .left ≤ e) ⌝ }
-    ensures { λ r. ⌜ ((m : Machine) (list sets w : List ℕ) (d : ℕ) → d ≤ e → Wound m list sets w e d tail → EndedRow m list sets w e d (now (ends .entry)) (now (ends .exit)) (now (left .entry)) (now (left .exit)) r) ⌝ }
+    ensures { λ r. ⌜ ((m : Machine) (list sets w : List ℕ) (d : ℕ) → d ≤ e → Wound m list sets w e d tail (now (row .entry)) → EndedRow m list sets w e d (now (ends .entry)) (now (ends .exit)) (now (left .entry)) (now (left .exit)) r) ⌝ }
 {
     let count = tail.left as u16;
-    let row = tail.row;
     if tail.live {
         left[e] = count;
-        save(ends, e, row);
-        return Layer { row, live: true };
+        save(ends, e, *row);
+        return Layer {
+            row: *row,
+            live: true,
+        };
     }
     left[e] = 256 + count;
     dead()
@@ -160,18 +164,18 @@ fn ended_row(
 {
     let k = left[e] as usize;
     if k <= d {
-        let row = load(ends, e);
-        let tail = wind(m, list, targets, g, h, sets, word, e, k, d, row);
-        return keep(tail, e, ends, left);
+        let mut row = load(ends, e);
+        let tail = wind(m, list, targets, g, h, sets, word, e, k, d, &mut row);
+        return keep(tail, &row, e, ends, left);
     }
     if 256 <= k {
         if k <= 256 + d {
             return dead();
         }
     }
-    let row = load(t, e * 3 + 2);
-    let tail = wind(m, list, targets, g, h, sets, word, e, 0, d, row);
-    keep(tail, e, ends, left)
+    let mut row = load(t, e * 3 + 2);
+    let tail = wind(m, list, targets, g, h, sets, word, e, 0, d, &mut row);
+    keep(tail, &row, e, ends, left)
 }
 
 // Whether no copy of the k letters from i on goes on: they do not stand there twice, or the end is known to be blank.
@@ -246,8 +250,8 @@ fn change_row(
     )
 }
 
-// The row of buffering mode where x is the first letter of the input, from the row after it is read and the row after the mode is
-// changed.
+// Lowers a blank row to the row of buffering mode where x is the first letter of the input, from the row after it is read and the row
+// after the mode is changed; goes and turns say whether these are live. It says whether any number fell.
 fn stored_row(
     m: Machine,
     list: &[u16],
@@ -255,18 +259,21 @@ fn stored_row(
     g: u64,
     h: u64,
     x: u16,
-    next: Layer,
-    change: Layer,
-) -> Layer
-    requires { ⌜ Given m (now list) (now targets) g h × Row m (now list) (now targets) x ⌝ }
-    ensures { λ r. ⌜ StoredRow m (now (list .entry)) x next change r ⌝ }
+    next: &[u32; 64],
+    goes: bool,
+    change: &[u32; 64],
+    turns: bool,
+    row: &mut [u32; 64],
+) -> bool
+    requires { ⌜ Given m (now list) (now targets) g h × Row m (now list) (now targets) x × (now row ≡ blankRow) ⌝ }
+    ensures { λ r. ⌜ StoredRow m (now (list .entry)) x (record { row = now (next .entry); live = goes }) (record { row = now (change .entry); live = turns }) (record { row = now (row .exit); live = r }) ⌝ }
 {
-    if !change.live {
-        if !next.live {
-            return next;
+    if !turns {
+        if !goes {
+            return false;
         }
     }
-    layer::buffering_layer(m, list, targets, g, h, x, &next.row, &change.row)
+    layer::buffering_layer(m, list, targets, g, h, x, next, change, row)
 }
 
 // The row of buffering mode at i + 1 with the letter at i in the buffer, from all copies that begin at i.
@@ -307,7 +314,21 @@ fn storing_row(
             ends,
             left,
         );
-        next = stored_row(m, list, targets, g, h, x, next, change);
+        let mut row = layer::blank();
+        let live = stored_row(
+            m,
+            list,
+            targets,
+            g,
+            h,
+            x,
+            &next.row,
+            next.live,
+            &change.row,
+            change.live,
+            &mut row,
+        );
+        next = Layer { row, live };
         d -= 1;
         if !next.live {
             d = skip_idle(i, d, counts, &*left);
@@ -363,14 +384,10 @@ fn fresh_change(
         return dead();
     }
     let e = i + d + d;
-    let row = load(t, e * 3 + 2);
-    let tail = wind(m, list, targets, g, h, sets, word, e, 0, d, row);
-    let wound = tail.row;
+    let mut row = load(t, e * 3 + 2);
+    let tail = wind(m, list, targets, g, h, sets, word, e, 0, d, &mut row);
     if tail.live {
-        return Layer {
-            row: wound,
-            live: true,
-        };
+        return Layer { row, live: true };
     }
     dead()
 }
@@ -397,8 +414,21 @@ pub fn buffering_rows(
     while 0 < d {
         let x = word[i + d] as u16;
         let change = fresh_change(m, list, targets, g, h, sets, word, t, i, d);
-        next = stored_row(m, list, targets, g, h, x, next, change);
-        let row = next.row;
+        let mut row = layer::blank();
+        let live = stored_row(
+            m,
+            list,
+            targets,
+            g,
+            h,
+            x,
+            &next.row,
+            next.live,
+            &change.row,
+            change.live,
+            &mut row,
+        );
+        next = Layer { row, live };
         save(stored, d, row);
         d -= 1;
     }

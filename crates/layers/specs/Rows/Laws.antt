@@ -7,6 +7,7 @@
 -- through-bounded, beside-marked == at its end no candidate would lower the row
 -- through-real, beside-real == the numbers stay those of ways to acceptance
 -- may-leads, leads-may == which transitions a mode may take, by the marks and by the sets of states
+-- target-below      == where the sets of the table lead
 -- visit-lowers      == the candidates of one state, from its set in the table
 -- closed-here, closed-more, closed-none == passes over the row itself: the last one, one before others, and where no state has a transition
 use Prim.Native.Nat.{ℕ, zero, suc, _+_, _^_, _≤_, _<_}
@@ -24,6 +25,7 @@ use Rattle.stateset.specs.Set.Laws.{empty-in}
 use Rattle.fsbm.specs.Machine.{transitionAt, buffering, matching}
 use Rattle.fsbm.specs.Published.{Listed, fsbmOf, Configuration, config, Yields}
 use Rattle.fsbm.specs.declared.machine.Machine.{Machine}
+use Rattle.fsbm.specs.Rules.{rules}
 use Rattle.fsbm.specs.declared.config.Mode.{Mode}
 use Rattle.fsbm.specs.declared.config.Mode.the-variants.{Normal, Buffering, Emptying}
 use Rattle.images.specs.Graph.{setOf}
@@ -305,27 +307,34 @@ module _ (m : Machine) (list targets : List ℕ) (g h : ℕ) (given : Given m li
   pub emptying-from : {x k : ℕ} → Leads m list Emptying x k → In h (transitionAt list k .from)
   emptying-from l = leads-may Emptying l .0
 
-  module _ (t : Mode) (x a b : ℕ) (next : List ℕ) (below : a < m .states) (row-of : Row m list targets x) (cut : Cut g h t a (getD targets (setOf (m .states) x a) 0) b) where
-    reached : (q : ℕ) → In b q → Through m list t x next a (suc (at next q))
-    reached q i =
-        let (inside, may) = cut q .0 i in
-        let δ = row-of .listed a q below .0 inside in
-        record { number = δ .number; leads = may-leads t δ may; from = δ .from; value = ap (λ (p : ℕ). suc (at next p)) (sym (δ .to)) }
+  -- the states that a transition leads to are the machine's
+  pub target-below : (x a : ℕ) → a < m .states → Row m list targets x → (q : ℕ) → In (getD targets (setOf (m .states) x a) 0) q → q < m .states
+  target-below x a below row-of q i =
+      let δ = row-of .listed a q below .0 i in
+      subst (λ (p : ℕ). p < m .states) (δ .to) (rules m list (given .good) .to-below (δ .number) (δ .listed))
 
-    into : (q w : ℕ) → q ≡ a → (c : Through m list t x next q w) → In b (transitionAt list (c .number) .to)
+  -- v is the least number of the states that the transitions of a lead to
+  module _ (t : Mode) (x a : ℕ) (next : List ℕ) (below : a < m .states) (row-of : Row m list targets x) (v : ℕ) (small : v ≤ none)
+      (real : v < none → (q : ℕ) × In (getD targets (setOf (m .states) x a) 0) q × May g h t a q × (v ≡ at next q))
+      (least : (q : ℕ) → In (getD targets (setOf (m .states) x a) 0) q → May g h t a q → v ≤ at next q) where
+    reached : v < none → Through m list t x next a (suc v)
+    reached l =
+        let (q, i, may, e) = real l in
+        let δ = row-of .listed a q below .0 i in
+        record { number = δ .number; leads = may-leads t δ may; from = δ .from; value = ap suc e ∙ ap (λ (p : ℕ). suc (at next p)) (sym (δ .to)) }
+
+    into : (q w : ℕ) → q ≡ a → (c : Through m list t x next q w) → v ≤ at next (transitionAt list (c .number) .to)
     into q w e c =
         let k = c .number in
         let from-a : transitionAt list k .from ≡ a = c .from ∙ e in
-        cut (transitionAt list k .to) .1 (
-          row-of .listed a (transitionAt list k .to) below .1 (record { number = k; listed = c .leads .listed; from = from-a; letter = c .leads .letter; to = refl }),
-          subst (λ (p : ℕ). May g h t p (transitionAt list k .to)) from-a (leads-may t (c .leads)),
-        )
+        least (transitionAt list k .to)
+        (row-of .listed a (transitionAt list k .to) below .1 (record { number = k; listed = c .leads .listed; from = from-a; letter = c .leads .letter; to = refl }))
+        (subst (λ (p : ℕ). May g h t p (transitionAt list k .to)) from-a (leads-may t (c .leads)))
 
-    pub visit-lowers : (v : ℕ) → LeastOf next b v → (row row′ : List ℕ) (r : Bool) → Lowered row a v row′ r → Lowering (Only (Through m list t x next) a) row row′ r
-    visit-lowers v least row row′ r low =
-        lowering-one row row′ a v r
-        (λ l. let (q, i, e) = least .real l in record { here = refl; is = subst (Through m list t x next a) (ap suc (sym e)) (reached q i) })
-        (λ q w c. (c .here, (let k = least .below (transitionAt list (c .is .number) .to) (into q w (c .here) (c .is)) in let e = c .is .value in omega arith))) low
+    pub visit-lowers : (row row′ : List ℕ) (r : Bool) → Lowered row a v row′ r → Lowering (Only (Through m list t x next) a) row row′ r
+    visit-lowers row row′ r low =
+        lowering-one row row′ a v r (λ l. record { here = refl; is = reached l })
+        (λ q w c. (c .here, (let k = into q w (c .here) (c .is) in let e = c .is .value in omega arith))) low
 
   -- A row that is lowered along transitions that read nothing
 

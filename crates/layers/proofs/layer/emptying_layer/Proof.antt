@@ -5,30 +5,24 @@ use Rattle.layers.proofs.layer.emptying_layer.Statement.{statement}
 use Rattle.layers.proofs.layer.emptying_layer.Tie as tie
 use Rattle.layers.proofs.layer.emptying_layer.Reads as reads
 use Rattle.layers.proofs.layer.emptying_layer.Lts as lts
-use Rattle.layers.proofs.layer.blank.Reads as blank-reads
 use Rattle.layers.proofs.layer.close_emptying.Reads as close-emptying-reads
 use Rattle.layers.proofs.row.read.Reads as read-reads
 
--- src/layer.rt:93:19
-blank-requires : tie.Need-blank-requires
-blank-requires c κs = search needs
-
--- src/layer.rt:94:9
-read-requires : tie.Need-read-requires
-read-requires c κs = ((c .before .before .before .before .pre) .0, (c .before .before .before .before .pre) .1, matching-inside _ _ _ _ _ ((c .before .before .before .before .pre) .0))
-
 -- src/layer.rt:95:9
+read-requires : tie.Need-read-requires
+read-requires c κs = ((c .before .before .before .pre) .0, (c .before .before .before .pre) .1, matching-inside _ _ _ _ _ ((c .before .before .before .pre) .0))
+
+-- src/layer.rt:96:9
 returns : tie.Need-returns
-returns c = emptying-none _ _ _ _ _ ((c .before .before .before .before .before .before .pre) .0) _ _ _ _ ((c .before .before .before .blank) .ensures) _ ((c .before .read) .ensures) (not-true _ ((c .if1) .taken))
+returns c = emptying-none _ _ _ _ _ ((c .before .before .before .before .before .pre) .0) _ _ _ _ ((c .before .before .before .before .before .pre) .2) _ ((c .before .read) .ensures) (not-true _ ((c .if1) .taken))
 
--- src/layer.rt:97:5
+-- src/layer.rt:98:5
 close-emptying-requires : tie.Need-close-emptying-requires
-close-emptying-requires c κs = (c .before .before .before .before .before .before .before .pre) .0
+close-emptying-requires c κs = (c .before .before .before .before .before .before .pre) .0
 
--- src/layer.rt:81:1
+-- src/layer.rt:82:1
 returns-2 : tie.Need-returns-2
-returns-2 c = lives (emptying-made _ _ _ _ _ ((c .before .before .before .before .before .before .before .before .pre) .0) _ _ _ _ ((c .before .before .before .before .before .blank) .ensures) _ ((c .before .before .before .read) .ensures) _ ((c .close-emptying) .ensures))
+returns-2 c = lives (emptying-made _ _ _ _ _ ((c .before .before .before .before .before .before .before .pre) .0) _ _ _ _ ((c .before .before .before .before .before .before .before .pre) .2) _ ((c .before .before .before .read) .ensures) _ ((c .close-emptying) .ensures))
 
 pub emptying-layer-spec : {M : Type 1} → statement M
-emptying-layer-spec =
-    tie.close (tie.spec blank-requires read-requires returns close-emptying-requires returns-2)
+emptying-layer-spec = tie.close (tie.spec read-requires returns close-emptying-requires returns-2)

@@ -4,53 +4,59 @@ use borrow.Author.Tests.{not-true, not-false}
 use Prim.Native.Nat.{_+_, _-_}
 use native.Mathlib.Omega.{arith}
 use mathlib.Core.Path.{_≡_, refl, sym, ap, _∙_}
+use borrow.Author.Needs.{needs}
 use Rattle.tables.proofs.copy.wind.Statement.{statement}
 use Rattle.tables.proofs.copy.wind.Tie as tie
 use Rattle.tables.proofs.copy.wind.Reads as reads
 use Rattle.tables.proofs.copy.wind.Lts as lts
+use Rattle.layers.proofs.layer.blank.Reads as blank-reads
 use Rattle.layers.proofs.layer.emptying_layer.Reads as emptying-layer-reads
 
 abbrev Inv-loop : tie.InvT-loop
-Inv-loop m list targets g h sets word e r d last₀ k₀ last k = Winding m list sets word e d k last
+Inv-loop m list targets g h sets word e r d row₀ k₀ row k = Winding m list sets word e d k row
 
 abbrev μ-loop : tie.MeasureT-loop
-μ-loop m list targets g h sets word e r d last₀ k₀ last k = d - k
+μ-loop m list targets g h sets word e r d row₀ k₀ row k = d - k
 
--- src/copy.rt:106:5
+-- src/copy.rt:105:5
 loop-holds : tie.Need-loop-holds Inv-loop μ-loop
 loop-holds c = record { within = ((c .before .before .before .pre)) .1; best = ((c .before .before .before .pre)) .4 }
 
--- src/copy.rt:107:9
+-- src/copy.rt:106:9
 add-k : tie.Need-add-k Inv-loop μ-loop
 add-k c = omega (arith, ((c .loop-test) .taken), ((c .before .before .before .before .before .pre)) .2, ((c .before .before .before .before .before .pre)) .3)
 
--- src/copy.rt:108:22
+-- src/copy.rt:107:22
 sub-x : tie.Need-sub-x Inv-loop μ-loop
 sub-x c = omega (arith, ((c .loop-test) .taken), ((c .before .before .before .before .before .pre)) .2, ((c .before .before .before .before .before .pre)) .3)
 
--- src/copy.rt:108:17
+-- src/copy.rt:107:17
 shared-slice-read-x : tie.Need-shared-slice-read-x Inv-loop μ-loop
 shared-slice-read-x c = omega (arith, ((c .before .loop-test) .taken), ((c .before .before .before .before .before .before .pre)) .2, ((c .before .before .before .before .before .before .pre)) .3)
 
--- src/copy.rt:108:17
+-- src/copy.rt:107:17
 cast-x : tie.Need-cast-x Inv-loop μ-loop
 cast-x c = omega (arith, ((c .shared-slice-known4) .given) (((c .before .before .before .before .before .before .args) .e) - (((c .before .before .loop) .k) + 1)))
 
+-- src/copy.rt:108:24
+blank-requires : tie.Need-blank-requires Inv-loop μ-loop
+blank-requires c κs = search needs
+
 -- src/copy.rt:109:13
 emptying-layer-requires : tie.Need-emptying-layer-requires Inv-loop μ-loop
-emptying-layer-requires c κs = ((c .before .before .before .before .before .before .before .pre) .0 .given, (c .before .before .before .before .before .before .before .pre) .0 .letters _ (omega (arith, ((c .before .before .loop-test) .taken), ((c .before .before .before .before .before .before .before .pre)) .2, ((c .before .before .before .before .before .before .before .pre)) .3)))
+emptying-layer-requires c κs = ((c .before .before .before .before .before .before .before .before .before .pre) .0 .given, (c .before .before .before .before .before .before .before .before .before .pre) .0 .letters _ (omega (arith, ((c .before .before .before .before .loop-test) .taken), ((c .before .before .before .before .before .before .before .before .before .pre)) .2, ((c .before .before .before .before .before .before .before .before .before .pre)) .3)), (c .before .before .blank) .ensures)
 
--- src/copy.rt:112:13
+-- src/copy.rt:110:13
 returns : tie.Need-returns Inv-loop μ-loop
-returns c = wound-dead _ _ _ _ _ _ (rules _ _ (((c .before .before .before .before .before .before .before .before .before .before .before .pre)) .0 .given .good)) _ _ (((c .before .before .before .before .before .before .before .before .before .before .before .pre)) .3) (wound-next _ _ _ _ _ _ _ _ _ _ ((c .before .before .before .before .before .before .loop-test) .taken) (((c .before .before .before .before .before .before .before .before .before .before .before .pre)) .2) (((c .before .before .before .before .before .before .before .before .before .before .before .pre)) .3) refl ((c .before .before .before .before .before .before .before .loop) .inv) (((c .before .before .before .emptying-layer) .ensures) .0)) (((c .before .before .before .emptying-layer) .ensures) .1 (not-true _ ((c .if1) .taken)))
+returns c = wound-dead _ _ _ _ _ _ (rules _ _ (((c .before .before .before .before .before .before .before .before .before .before .before .pre)) .0 .given .good)) _ _ _ (((c .before .before .before .before .before .before .before .before .before .before .before .pre)) .3) (wound-next _ _ _ _ _ _ _ _ _ _ ((c .before .before .before .before .before .before .loop-test) .taken) (((c .before .before .before .before .before .before .before .before .before .before .before .pre)) .2) (((c .before .before .before .before .before .before .before .before .before .before .before .pre)) .3) refl ((c .before .before .before .before .before .before .before .loop) .inv) (((c .before .emptying-layer) .ensures) .0)) (((c .before .emptying-layer) .ensures) .1 (not-true _ ((c .if1) .taken)))
 
--- src/copy.rt:106:5
+-- src/copy.rt:105:5
 loop-less : tie.Need-loop-less Inv-loop μ-loop
 loop-less c = omega (arith, ((c .before .before .before .before .before .before .loop-test) .taken))
 
--- src/copy.rt:106:5
+-- src/copy.rt:105:5
 loop-again : tie.Need-loop-again Inv-loop μ-loop
-loop-again c = wound-next _ _ _ _ _ _ _ _ _ _ ((c .before .before .before .before .before .before .loop-test) .taken) (((c .before .before .before .before .before .before .before .before .before .before .before .pre)) .2) (((c .before .before .before .before .before .before .before .before .before .before .before .pre)) .3) refl ((c .before .before .before .before .before .before .before .loop) .inv) (((c .before .before .before .emptying-layer) .ensures) .0)
+loop-again c = wound-next _ _ _ _ _ _ _ _ _ _ ((c .before .before .before .before .before .before .loop-test) .taken) (((c .before .before .before .before .before .before .before .before .before .before .before .pre)) .2) (((c .before .before .before .before .before .before .before .before .before .before .before .pre)) .3) refl ((c .before .before .before .before .before .before .before .loop) .inv) (((c .before .emptying-layer) .ensures) .0)
 
 -- src/copy.rt:88:1
 returns-2 : tie.Need-returns-2 Inv-loop μ-loop
@@ -67,6 +73,7 @@ wind-spec =
     sub-x
     shared-slice-read-x
     cast-x
+    blank-requires
     emptying-layer-requires
     returns
     loop-less
