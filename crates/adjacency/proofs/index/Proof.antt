@@ -18,43 +18,33 @@ Inv-loop m list first₀ k₀ q₀ first k q = (wellFormed m list ≡ true) × B
 abbrev μ-loop : tie.MeasureT-loop
 μ-loop m list first₀ k₀ q₀ first k q = m .states + 1 - q
 
--- src/lib.rt:48:5
 loop-holds : tie.Need-loop-holds Inv-loop μ-loop
 loop-holds c = ((c .before .pre), built-start _ _ (rules _ _ (c .before .pre)))
 
--- src/lib.rt:49:45
 cast-seek : tie.Need-cast-seek Inv-loop μ-loop
 cast-seek c = omega (arith, rules _ _ (c .before .before .loop .inv .0) .states-fit)
 
--- src/lib.rt:49:9
 seek-requires : tie.Need-seek-requires Inv-loop μ-loop
 seek-requires c κs = (omega arith, (c .before .before .loop .inv .1) .at-most, rules _ _ (c .before .before .loop .inv .0) .list-fits)
 
--- src/lib.rt:50:20
 cast-first : tie.Need-cast-first Inv-loop μ-loop
 cast-first c = omega (arith, rules _ _ (c .before .before .before .loop .inv .0) .transitions-fit, (c .seek .ensures) .within)
 
--- src/lib.rt:50:9
 mul-first : tie.Need-mul-first Inv-loop μ-loop
 mul-first c = omega (arith, rules _ _ (c .before .before .before .loop .inv .0) .states-fit)
 
--- src/lib.rt:50:9
 array-write-first : tie.Need-array-write-first Inv-loop μ-loop
 array-write-first c = omega (arith, rules _ _ (c .before .before .before .loop .inv .0) .states-fit)
 
--- src/lib.rt:51:9
 add-q : tie.Need-add-q Inv-loop μ-loop
 add-q c = omega (arith, rules _ _ (c .before .before .before .loop .inv .0) .states-fit)
 
--- src/lib.rt:48:5
 loop-less : tie.Need-loop-less Inv-loop μ-loop
 loop-less c = omega arith
 
--- src/lib.rt:48:5
 loop-again : tie.Need-loop-again Inv-loop μ-loop
 loop-again c = ((c .before .before .before .loop .inv .0), built-turn _ _ (rules _ _ (c .before .before .before .loop .inv .0)) _ _ _ _ (c .before .before .before .loop .inv .1) (omega arith) (c .seek .ensures))
 
--- src/lib.rt:41:1
 returns : tie.Need-returns Inv-loop μ-loop
 returns c = built-index _ _ (rules _ _ (c .before .before .loop .inv .0)) _ _ _ (c .before .before .loop .inv .1) (omega arith)
 

@@ -14,43 +14,33 @@ Inv-loop list column k n x r₀ r = (k ≤ r) × (r ≤ n) × (n * 3 ≤ length 
 abbrev μ-loop : tie.MeasureT-loop
 μ-loop list column k n x r₀ r = n - r
 
--- src/lib.rt:30:5
 loop-holds : tie.Need-loop-holds Inv-loop μ-loop
 loop-holds c = (omega arith, omega arith, omega arith, λ t (b : t < (c .args .k)) (a : (c .args .k) ≤ t). absurd (omega arith))
 
--- src/lib.rt:31:22
 mul-if1 : tie.Need-mul-if1 Inv-loop μ-loop
 mul-if1 c = omega (arith, (c .loop-test .taken), (c .before .before .good))
 
--- src/lib.rt:31:22
 add-if1 : tie.Need-add-if1 Inv-loop μ-loop
 add-if1 c = omega (arith, (c .loop-test .taken), (c .before .before .good))
 
--- src/lib.rt:31:17
 mul-if1-2 : tie.Need-mul-if1-2 Inv-loop μ-loop
 mul-if1-2 c = omega (arith, (c .loop-test .taken), (c .before .before .good))
 
--- src/lib.rt:31:17
 shared-slice-read-if1 : tie.Need-shared-slice-read-if1 Inv-loop μ-loop
 shared-slice-read-if1 c = omega (arith, (c .before .loop-test .taken), (c .before .before .before .good))
 
--- src/lib.rt:32:13
 returns : tie.Need-returns Inv-loop μ-loop
 returns c = record { from = (c .before .before .before .loop .inv .0); within = omega arith; before = λ t a b. (c .before .before .before .loop .inv .3) t b a; found = λ z. (c .if1 .taken) }
 
--- src/lib.rt:34:9
 add-r : tie.Need-add-r Inv-loop μ-loop
 add-r c = omega (arith, (c .before .before .loop-test .taken), (c .before .before .before .before .good))
 
--- src/lib.rt:30:5
 loop-less : tie.Need-loop-less Inv-loop μ-loop
 loop-less c = omega arith
 
--- src/lib.rt:30:5
 loop-again : tie.Need-loop-again Inv-loop μ-loop
 loop-again c = (omega arith, omega arith, omega arith, below-more _ _ (c .before .before .before .loop .inv .3) (λ z. (c .if1 .left)))
 
--- src/lib.rt:25:1
 returns-2 : tie.Need-returns-2 Inv-loop μ-loop
 returns-2 c = record { from = (c .before .loop .inv .0); within = (c .before .loop .inv .1); before = λ t a b. (c .before .loop .inv .3) t b a; found = λ (z : (c .before .loop .r) < (c .before .before .args .n)). absurd (omega arith) }
 

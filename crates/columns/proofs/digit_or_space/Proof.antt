@@ -5,11 +5,9 @@ use Rattle.columns.proofs.digit_or_space.Tie as tie
 use Rattle.columns.proofs.digit_or_space.Reads as reads
 use Rattle.columns.proofs.digit_or_space.Lts as lts
 
--- src/lib.rt:229:9
 returns : tie.Need-returns
 returns c = space (c .before .args .n) (c .if1 .taken)
 
--- src/lib.rt:224:1
 returns-2 : tie.Need-returns-2
 returns-2 c = digit-of (c .before .args .n) (c .before .args .digit) (omega (arith, (c .if1 .left))) (c .before .pre)
 

@@ -6,11 +6,9 @@ use Rattle.columns.proofs.is_digit.Tie as tie
 use Rattle.columns.proofs.is_digit.Reads as reads
 use Rattle.columns.proofs.is_digit.Lts as lts
 
--- src/lib.rt:72:9
 returns : tie.Need-returns
 returns c = stop _ (lt-leb 48 _ (c .if1 .taken))
 
--- src/lib.rt:68:1
 returns-2 : tie.Need-returns-2
 returns-2 c = pass (le-leb 48 _ (c .if1 .left)) refl
 

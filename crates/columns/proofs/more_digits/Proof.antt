@@ -17,47 +17,36 @@ Inv-loop bytes at end first v₀ i₀ v i = (at ≤ i) × (i ≤ end) × (v < 10
 abbrev μ-loop : tie.MeasureT-loop
 μ-loop bytes at end first v₀ i₀ v i = end - i
 
--- src/lib.rt:20:5
 loop-holds : tie.Need-loop-holds Inv-loop μ-loop
 loop-holds c = (omega arith, omega arith, first-fits (c .args .at) (c .args .first) (c .pre .3), refl)
 
--- src/lib.rt:21:17
 shared-slice-read-b : tie.Need-shared-slice-read-b Inv-loop μ-loop
 shared-slice-read-b c = omega arith
 
--- src/lib.rt:23:13
 returns : tie.Need-returns Inv-loop μ-loop
 returns c = breaks (digits (c .before .before .before .loop .v)) ((c .before .before .before .before .args .bytes) .now) (c .before .before .before .loop .i) (c .before .before .before .before .args .end) _ ((c .before .before .before .loop .inv) .3) (c .before .before .loop-test .taken) ((c .before .before .before .before .pre) .1) (digits-low _ (c .before .before .before .loop .v) (c .if1 .taken))
 
--- src/lib.rt:26:13
 returns-2 : tie.Need-returns-2 Inv-loop μ-loop
 returns-2 c = breaks (digits (c .before .before .before .before .loop .v)) ((c .before .before .before .before .before .args .bytes) .now) (c .before .before .before .before .loop .i) (c .before .before .before .before .before .args .end) _ ((c .before .before .before .before .loop .inv) .3) (c .before .before .before .loop-test .taken) ((c .before .before .before .before .before .pre) .1) (digits-high _ (c .before .before .before .before .loop .v) (c .if2 .taken))
 
--- src/lib.rt:28:13
 mul-v : tie.Need-mul-v Inv-loop μ-loop
 mul-v c = omega (arith, power-fits ((c .before .before .before .before .loop .i) - (c .before .before .before .before .before .args .at) + 1) (c .before .before .before .before .loop .v) (omega arith) ((c .before .before .before .before .loop .inv) .2))
 
--- src/lib.rt:28:22
 cast-v : tie.Need-cast-v Inv-loop μ-loop
 cast-v c = search needs
 
--- src/lib.rt:28:13
 add-v : tie.Need-add-v Inv-loop μ-loop
 add-v c = omega (arith, power-fits ((c .before .before .before .before .loop .i) - (c .before .before .before .before .before .args .at) + 1) (c .before .before .before .before .loop .v) (omega arith) ((c .before .before .before .before .loop .inv) .2))
 
--- src/lib.rt:29:9
 add-i : tie.Need-add-i Inv-loop μ-loop
 add-i c = omega arith
 
--- src/lib.rt:20:5
 loop-less : tie.Need-loop-less Inv-loop μ-loop
 loop-less c = omega arith
 
--- src/lib.rt:20:5
 loop-again : tie.Need-loop-again Inv-loop μ-loop
 loop-again c = (omega arith, omega arith, power-more (c .before .before .before .before .before .args .at) (c .before .before .before .before .loop .i) (c .before .before .before .before .loop .v) (getD ((c .before .before .before .before .before .args .bytes) .now) (c .before .before .before .before .loop .i) 0 - 48) ((c .before .before .before .before .loop .inv) .0) ((c .before .before .before .before .loop .inv) .2) (omega arith), goes-on (digits (c .before .before .before .before .loop .v)) ((c .before .before .before .before .before .args .bytes) .now) (c .before .before .before .before .loop .i) (c .before .before .before .before .before .args .end) _ ((c .before .before .before .before .loop .inv) .3) (c .before .before .before .loop-test .taken) ((c .before .before .before .before .before .pre) .1) (digits ((c .before .before .before .before .loop .v) * 10 + (getD ((c .before .before .before .before .before .args .bytes) .now) (c .before .before .before .before .loop .i) 0 - 48))) (digits-more _ (c .before .before .before .before .loop .v) (c .before .if1 .left) (c .if2 .left)))
 
--- src/lib.rt:14:1
 returns-3 : tie.Need-returns-3 Inv-loop μ-loop
 returns-3 c = digits-end ((c .before .before .args .bytes) .now) (c .before .loop .i) (c .before .before .args .end) _ (c .loop-test .left) (c .before .loop .v) ((c .before .loop .inv) .3)
 

@@ -17,67 +17,51 @@ Inv-loop bytes at width end i₀ i = (at ≤ i) × (i ≤ end) × (found (passFr
 abbrev μ-loop : tie.MeasureT-loop
 μ-loop bytes at width end i₀ i = end - i
 
--- src/lib.rt:39:15
 add-end : tie.Need-add-end Inv-loop μ-loop
 add-end c = omega (arith, c .before .pre .0)
 
--- src/lib.rt:41:5
 loop-holds : tie.Need-loop-holds Inv-loop μ-loop
 loop-holds c = (omega arith, omega arith, column-start (c .before .args .bytes .now) (c .before .args .at) (c .before .args .width))
 
--- src/lib.rt:42:17
 shared-slice-read-b : tie.Need-shared-slice-read-b Inv-loop μ-loop
 shared-slice-read-b c = omega (arith, (c .before .before .before .before .pre) .0)
 
--- src/lib.rt:45:17
 returns : tie.Need-returns Inv-loop μ-loop
 returns c = breaks blank ((c .before .before .before .before .before .before .args .bytes) .now) (c .before .before .before .before .loop .i) ((c .before .before .before .before .before .before .args .at) + (c .before .before .before .before .before .before .args .width)) _ ((c .before .before .before .before .loop .inv) .2) (c .before .before .before .loop-test .taken) ((c .before .before .before .before .before .before .pre) .0) (blank-low _ (c .before .if1 .taken) (c .if2 .taken))
 
--- src/lib.rt:48:17
 returns-2 : tie.Need-returns-2 Inv-loop μ-loop
 returns-2 c = breaks blank ((c .before .before .before .before .before .before .before .args .bytes) .now) (c .before .before .before .before .before .loop .i) ((c .before .before .before .before .before .before .before .args .at) + (c .before .before .before .before .before .before .before .args .width)) _ ((c .before .before .before .before .before .loop .inv) .2) (c .before .before .before .before .loop-test .taken) ((c .before .before .before .before .before .before .before .pre) .0) (blank-high _ (c .if3 .taken))
 
--- src/lib.rt:51:20
 add-if5 : tie.Need-add-if5 Inv-loop μ-loop
 add-if5 c = omega (arith, (c .before .before .before .before .before .before .before .before .good))
 
--- src/lib.rt:52:21
 returns-3 : tie.Need-returns-3 Inv-loop μ-loop
 returns-3 c = nought-last blank ((c .before .before .before .before .before .before .before .before .before .args .bytes) .now) (c .before .before .before .before .before .before .before .loop .i) ((c .before .before .before .before .before .before .before .before .before .args .at) + (c .before .before .before .before .before .before .before .before .before .args .width)) _ ((c .before .before .before .before .before .before .before .loop .inv) .2) (c .before .before .before .before .before .before .loop-test .taken) ((c .before .before .before .before .before .before .before .before .before .pre) .0) (blank-nought _ (c .before .if4 .taken)) (c .if5 .taken)
 
--- src/lib.rt:54:17
 returns-4 : tie.Need-returns-4 Inv-loop μ-loop
 returns-4 c = nought-more blank ((c .before .before .before .before .before .before .before .before .before .args .bytes) .now) (c .before .before .before .before .before .before .before .loop .i) ((c .before .before .before .before .before .before .before .before .before .args .at) + (c .before .before .before .before .before .before .before .before .before .args .width)) _ ((c .before .before .before .before .before .before .before .loop .inv) .2) (c .before .before .before .before .before .before .loop-test .taken) ((c .before .before .before .before .before .before .before .before .before .pre) .0) (blank-nought _ (c .before .if4 .taken)) (c .if5 .left)
 
--- src/lib.rt:56:39
 add-more-digits : tie.Need-add-more-digits Inv-loop μ-loop
 add-more-digits c = omega (arith, (c .before .before .before .before .before .before .before .before .good))
 
--- src/lib.rt:56:51
 cast-more-digits : tie.Need-cast-more-digits Inv-loop μ-loop
 cast-more-digits c = search needs
 
--- src/lib.rt:56:13
 more-digits-requires : tie.Need-more-digits-requires Inv-loop μ-loop
 more-digits-requires c κs = (omega (arith, (c .before .before .before .before .before .before .before .before .pre) .0), (c .before .before .before .before .before .before .before .before .pre) .0, omega (arith, (c .before .before .before .before .before .before .before .before .pre) .1, (c .before .before .before .before .before .before .loop .inv) .0), omega arith)
 
--- src/lib.rt:56:13
 returns-5 : tie.Need-returns-5 Inv-loop μ-loop
 returns-5 c = (c .more-digits .ensures) ∙ goes-on blank ((c .before .before .before .before .before .before .before .before .before .args .bytes) .now) (c .before .before .before .before .before .before .before .loop .i) ((c .before .before .before .before .before .before .before .before .before .args .at) + (c .before .before .before .before .before .before .before .before .before .args .width)) _ ((c .before .before .before .before .before .before .before .loop .inv) .2) (c .before .before .before .before .before .before .loop-test .taken) ((c .before .before .before .before .before .before .before .before .before .pre) .0) (digits (getD ((c .before .before .before .before .before .before .before .before .before .args .bytes) .now) (c .before .before .before .before .before .before .before .loop .i) 0 - 48)) (blank-first _ (c .before .if4 .left) (c .before .before .before .if2 .left) (c .before .before .if3 .left))
 
--- src/lib.rt:58:9
 add-i : tie.Need-add-i Inv-loop μ-loop
 add-i c = omega (arith, (c .before .before .before .before .before .good))
 
--- src/lib.rt:41:5
 loop-less : tie.Need-loop-less Inv-loop μ-loop
 loop-less c = omega arith
 
--- src/lib.rt:41:5
 loop-again : tie.Need-loop-again Inv-loop μ-loop
 loop-again c = (omega arith, omega arith, goes-on blank ((c .before .before .before .before .before .args .bytes) .now) (c .before .before .before .loop .i) ((c .before .before .before .before .before .args .at) + (c .before .before .before .before .before .args .width)) _ ((c .before .before .before .loop .inv) .2) (c .before .before .loop-test .taken) ((c .before .before .before .before .before .pre) .0) blank (blank-space _ (c .if1 .left)))
 
--- src/lib.rt:35:1
 returns-6 : tie.Need-returns-6 Inv-loop μ-loop
 returns-6 c = blank-end ((c .before .before .before .args .bytes) .now) (c .before .loop .i) ((c .before .before .before .args .at) + (c .before .before .before .args .width)) _ (c .loop-test .left) ((c .before .loop .inv) .2)
 

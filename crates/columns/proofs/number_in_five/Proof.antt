@@ -8,55 +8,42 @@ use Rattle.columns.proofs.number_in_five.Lts as lts
 use Rattle.columns.proofs.number.Reads as number-reads
 use Rattle.columns.proofs.number_in_three.Reads as number-in-three-reads
 
--- src/lib.rt:134:8
 shared-slice-read-if1 : tie.Need-shared-slice-read-if1
 shared-slice-read-if1 c = search needs
 
--- src/lib.rt:135:18
 add-if2 : tie.Need-add-if2
 add-if2 c = search needs
 
--- src/lib.rt:135:12
 shared-slice-read-if2 : tie.Need-shared-slice-read-if2
 shared-slice-read-if2 c = search needs
 
--- src/lib.rt:136:42
 add-number-in-three : tie.Need-add-number-in-three
 add-number-in-three c = search needs
 
--- src/lib.rt:136:36
 shared-slice-read-number-in-three : tie.Need-shared-slice-read-number-in-three
 shared-slice-read-number-in-three c = search needs
 
--- src/lib.rt:136:57
 add-number-in-three-2 : tie.Need-add-number-in-three-2
 add-number-in-three-2 c = search needs
 
--- src/lib.rt:136:51
 shared-slice-read-number-in-three-2 : tie.Need-shared-slice-read-number-in-three-2
 shared-slice-read-number-in-three-2 c = search needs
 
--- src/lib.rt:136:72
 add-number-in-three-3 : tie.Need-add-number-in-three-3
 add-number-in-three-3 c = search needs
 
--- src/lib.rt:136:66
 shared-slice-read-number-in-three-3 : tie.Need-shared-slice-read-number-in-three-3
 shared-slice-read-number-in-three-3 c = search needs
 
--- src/lib.rt:136:13
 number-in-three-requires : tie.Need-number-in-three-requires
 number-in-three-requires c κs = search needs
 
--- src/lib.rt:136:13
 returns : tie.Need-returns
 returns c = (c .number-in-three .ensures) ∙ five-spaces ((c .before .before .before .before .before .before .before .before .before .args .bytes) .now) (c .before .before .before .before .before .before .before .before .before .args .at) (c .before .before .before .before .before .before .before .before .before .pre) (c .before .before .before .before .before .before .if1 .taken) (c .before .before .before .before .if2 .taken)
 
--- src/lib.rt:139:5
 number-requires : tie.Need-number-requires
 number-requires c κs = search needs
 
--- src/lib.rt:130:1
 returns-2 : tie.Need-returns-2
 returns-2 c = search needs
 

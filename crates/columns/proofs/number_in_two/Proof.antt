@@ -11,59 +11,45 @@ use Rattle.columns.proofs.number_in_two.Lts as lts
 use Rattle.columns.proofs.is_digit.Reads as is-digit-reads
 use Rattle.columns.proofs.number_in_one.Reads as number-in-one-reads
 
--- src/lib.rt:92:9
 number-in-one-requires : tie.Need-number-in-one-requires
 number-in-one-requires c κs = search needs
 
--- src/lib.rt:92:9
 returns : tie.Need-returns
 returns c = (c .number-in-one .ensures) ∙ skip-space (c .before .before .args .a) ((c .before .before .args .b) ∷ []) (c .before .if1 .taken)
 
--- src/lib.rt:95:9
 returns-2 : tie.Need-returns-2
 returns-2 c = more-nought (c .before .before .args .a) (c .before .before .args .b) [] (c .if2 .taken)
 
--- src/lib.rt:97:9
 is-digit-requires : tie.Need-is-digit-requires
 is-digit-requires c κs = search needs
 
--- src/lib.rt:98:9
 returns-3 : tie.Need-returns-3
 returns-3 c = more-bad (c .before .before .before .before .args .a) (c .before .before .before .before .args .b) [] (c .before .is-digit .result) (c .before .is-digit .ensures) (c .before .before .before .if1 .left) (c .before .before .if2 .left) (not-true _ (c .if3 .taken))
 
--- src/lib.rt:100:9
 is-digit-requires-2 : tie.Need-is-digit-requires-2
 is-digit-requires-2 c κs = search needs
 
--- src/lib.rt:101:9
 returns-4 : tie.Need-returns-4
 returns-4 c = second-bad (c .before .before .before .before .before .before .args .a) (c .before .before .before .before .before .before .args .b) [] (c .before .before .before .is-digit .result) (c .before .before .before .is-digit .ensures) (c .before .before .before .before .if2 .left) (not-false _ (c .before .before .if3 .left)) (c .before .is-digit2 .result) (c .before .is-digit2 .ensures) (not-true _ (c .if4 .taken))
 
--- src/lib.rt:103:6
 sub-result : tie.Need-sub-result
 sub-result c = omega (arith, digit-range (c .before .before .before .before .before .before .args .a) (c .before .before .before .is-digit .result) (c .before .before .before .is-digit .ensures) (not-false _ (c .before .before .if3 .left)) .0)
 
--- src/lib.rt:103:5
 cast-result : tie.Need-cast-result
 cast-result c = search needs
 
--- src/lib.rt:103:5
 mul-result : tie.Need-mul-result
 mul-result c = search needs
 
--- src/lib.rt:103:31
 sub-result-2 : tie.Need-sub-result-2
 sub-result-2 c = omega (arith, digit-range (c .before .before .before .before .before .before .args .b) (c .before .is-digit2 .result) (c .before .is-digit2 .ensures) (not-false _ (c .if4 .left)) .0)
 
--- src/lib.rt:103:30
 cast-result-2 : tie.Need-cast-result-2
 cast-result-2 c = search needs
 
--- src/lib.rt:103:5
 add-result : tie.Need-add-result
 add-result c = search needs
 
--- src/lib.rt:88:1
 returns-5 : tie.Need-returns-5
 returns-5 c = two-good (c .before .before .before .before .before .before .args .a) (c .before .before .before .before .before .before .args .b) (c .before .before .before .is-digit .result) (c .before .before .before .is-digit .ensures) (c .before .before .before .before .if2 .left) (not-false _ (c .before .before .if3 .left)) (c .before .is-digit2 .result) (c .before .is-digit2 .ensures) (not-false _ (c .if4 .left))
 

@@ -5,59 +5,45 @@ use Rattle.columns.proofs.short_number.Tie as tie
 use Rattle.columns.proofs.short_number.Reads as reads
 use Rattle.columns.proofs.short_number.Lts as lts
 
--- src/lib.rt:147:27
 add-hundreds : tie.Need-add-hundreds
 add-hundreds c = search needs
 
--- src/lib.rt:147:21
 shared-slice-read-hundreds : tie.Need-shared-slice-read-hundreds
 shared-slice-read-hundreds c = search needs
 
--- src/lib.rt:147:20
 cast-hundreds : tie.Need-cast-hundreds
 cast-hundreds c = search needs
 
--- src/lib.rt:148:23
 add-tens : tie.Need-add-tens
 add-tens c = search needs
 
--- src/lib.rt:148:17
 shared-slice-read-tens : tie.Need-shared-slice-read-tens
 shared-slice-read-tens c = search needs
 
--- src/lib.rt:148:16
 cast-tens : tie.Need-cast-tens
 cast-tens c = search needs
 
--- src/lib.rt:149:23
 add-ones : tie.Need-add-ones
 add-ones c = search needs
 
--- src/lib.rt:149:17
 shared-slice-read-ones : tie.Need-shared-slice-read-ones
 shared-slice-read-ones c = search needs
 
--- src/lib.rt:149:16
 cast-ones : tie.Need-cast-ones
 cast-ones c = search needs
 
--- src/lib.rt:150:6
 mul-result : tie.Need-mul-result
 mul-result c = search needs
 
--- src/lib.rt:150:6
 add-result : tie.Need-add-result
 add-result c = search needs
 
--- src/lib.rt:150:5
 mul-result-2 : tie.Need-mul-result-2
 mul-result-2 c = search needs
 
--- src/lib.rt:150:5
 add-result-2 : tie.Need-add-result-2
 add-result-2 c = search needs
 
--- src/lib.rt:143:1
 returns : tie.Need-returns
 returns c = short-is ((c .before .before .before .args .bytes) .now) (c .before .before .before .args .at) ((c .before .before .before .pre) .0) ((c .before .before .before .pre) .1)
 

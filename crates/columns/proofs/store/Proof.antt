@@ -7,47 +7,36 @@ use Rattle.columns.proofs.store.Tie as tie
 use Rattle.columns.proofs.store.Reads as reads
 use Rattle.columns.proofs.store.Lts as lts
 
--- src/lib.rt:69:5
 slice-write-bytes : tie.Need-slice-write-bytes
 slice-write-bytes c = search needs
 
--- src/lib.rt:70:11
 add-bytes : tie.Need-add-bytes
 add-bytes c = search needs
 
--- src/lib.rt:70:5
 slice-write-bytes-2 : tie.Need-slice-write-bytes-2
 slice-write-bytes-2 c = simp length-set (omega arith)
 
--- src/lib.rt:71:11
 add-bytes-2 : tie.Need-add-bytes-2
 add-bytes-2 c = search needs
 
--- src/lib.rt:71:5
 slice-write-bytes-3 : tie.Need-slice-write-bytes-3
 slice-write-bytes-3 c = simp length-set (omega arith)
 
--- src/lib.rt:72:11
 add-bytes-3 : tie.Need-add-bytes-3
 add-bytes-3 c = search needs
 
--- src/lib.rt:72:5
 slice-write-bytes-4 : tie.Need-slice-write-bytes-4
 slice-write-bytes-4 c = simp length-set (omega arith)
 
--- src/lib.rt:73:11
 add-bytes-4 : tie.Need-add-bytes-4
 add-bytes-4 c = search needs
 
--- src/lib.rt:73:5
 slice-write-bytes-5 : tie.Need-slice-write-bytes-5
 slice-write-bytes-5 c = simp length-set (omega arith)
 
--- src/lib.rt:65:1
 same-length : tie.Need-same-length
 same-length c = simp length-set
 
--- src/lib.rt:65:1
 returns : tie.Need-returns
 returns c = five-put ((c .args .bytes) .now) (c .args .at) (c .args .a) (c .args .b) (c .args .c) (c .args .d) (c .args .e) (c .pre)
 

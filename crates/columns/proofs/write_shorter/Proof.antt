@@ -10,27 +10,21 @@ use Rattle.columns.proofs.digit_by.Reads as digit-by-reads
 use Rattle.columns.proofs.digit_or_space.Reads as digit-or-space-reads
 use Rattle.columns.proofs.store.Reads as store-reads
 
--- src/lib.rt:240:39
 digit-by-requires : tie.Need-digit-by-requires
 digit-by-requires c κs = search needs
 
--- src/lib.rt:240:9
 digit-or-space-requires : tie.Need-digit-or-space-requires
 digit-or-space-requires c κs = search needs
 
--- src/lib.rt:241:9
 digit-by-requires-2 : tie.Need-digit-by-requires-2
 digit-by-requires-2 c κs = search needs
 
--- src/lib.rt:242:5
 store-requires : tie.Need-store-requires
 store-requires c κs = search needs
 
--- src/lib.rt:235:1
 same-length : tie.Need-same-length
 same-length c = search needs
 
--- src/lib.rt:235:1
 returns : tie.Need-returns
 returns c = column-five ((c .before .before .before .before .before .before .before .before .args .bytes) .now) ((c .before .before .store .last) .0) (c .before .before .before .before .before .before .before .before .args .at) (c .before .before .before .before .before .before .before .before .args .n) 32 32 32 (c .before .before .before .before .before .digit-or-space .result) (c .before .before .before .before .digit-by2 .result) (c .before .before .store .ensures) (space ((c .before .before .before .before .before .before .before .before .args .n) / 10 / 10 / 10 / 10) (omega (arith, (c .before .before .before .before .before .before .before .before .pre) .1))) (space ((c .before .before .before .before .before .before .before .before .args .n) / 10 / 10 / 10) (omega (arith, (c .before .before .before .before .before .before .before .before .pre) .1))) (space ((c .before .before .before .before .before .before .before .before .args .n) / 10 / 10) (omega (arith, (c .before .before .before .before .before .before .before .before .pre) .1))) (c .before .before .before .before .before .digit-or-space .ensures) (c .before .before .before .before .digit-by2 .ensures)
 

@@ -13,43 +13,33 @@ use Rattle.copies.proofs.write_copies.Reads as write-copies-reads
 use Rattle.fsbm.proofs.answer.table_and_word.Reads as table-and-word-reads
 use Rattle.fsbm.proofs.run.is_accepting_run.Reads as is-accepting-run-reads
 
--- src/lib.rt:85:9
 table-and-word-requires : tie.Need-table-and-word-requires
 table-and-word-requires c κs = search needs
 
--- src/lib.rt:87:9
 returns : tie.Need-returns
 returns c = copies-says _ _ _ _ _ _ _ (refused-early (c .before .before .before .before .before .before .args .m) ((c .before .before .before .before .before .before .args .list) .now) ((c .before .before .before .before .before .before .args .word) .now) ((c .before .before .before .before .before .before .args .run) .now) ((c .before .before .before .before .before .before .args .copies) .now) (c .before .table-and-word .result) (c .before .table-and-word .ensures) (c .if1 .taken))
 
--- src/lib.rt:89:9
 is-accepting-run-requires : tie.Need-is-accepting-run-requires
 is-accepting-run-requires c κs = table-good 255 (c .before .before .before .before .before .before .args .m) ((c .before .before .before .before .before .before .args .list) .now) ((c .before .before .before .before .before .before .args .word) .now) (sym (c .before .table-and-word .ensures) ∙ (c .if1 .left)) .0
 
--- src/lib.rt:90:9
 returns-2 : tie.Need-returns-2
 returns-2 c = copies-says _ _ _ _ _ _ _ (refused-run (c .before .before .before .before .before .before .before .before .args .m) ((c .before .before .before .before .before .before .before .before .args .list) .now) ((c .before .before .before .before .before .before .before .before .args .word) .now) ((c .before .before .before .before .before .before .before .before .args .run) .now) ((c .before .before .before .before .before .before .before .before .args .copies) .now) (c .before .before .before .table-and-word .result) (c .before .before .before .table-and-word .ensures) (c .before .before .if1 .left) (sym (c .before .is-accepting-run .ensures) ∙ not-true _ (c .if2 .taken)))
 
--- src/lib.rt:92:9
 count-copies-requires : tie.Need-count-copies-requires
 count-copies-requires c κs = search needs
 
--- src/lib.rt:93:18
 mul-needed : tie.Need-mul-needed
 mul-needed c = omega (arith, (c .count-copies .ensures) (c .before .before .before .before .before .before .before .before .before .args .m) ((c .before .before .before .before .before .before .before .before .before .args .list) .now) ((c .before .before .before .before .before .before .before .before .before .args .word) .now), count-few (c .before .before .before .before .before .before .before .before .before .args .m) ((c .before .before .before .before .before .before .before .before .before .args .list) .now) ((c .before .before .before .before .before .before .before .before .before .args .word) .now) ((c .before .before .before .before .before .before .before .before .before .args .run) .now), (c .before .before .before .before .before .before .before .before .before .good))
 
--- src/lib.rt:95:9
 returns-3 : tie.Need-returns-3
 returns-3 c = copies-says _ _ _ _ _ _ _ (refused-room (c .before .before .before .before .before .before .before .before .before .before .args .m) ((c .before .before .before .before .before .before .before .before .before .before .args .list) .now) ((c .before .before .before .before .before .before .before .before .before .before .args .word) .now) ((c .before .before .before .before .before .before .before .before .before .before .args .run) .now) ((c .before .before .before .before .before .before .before .before .before .before .args .copies) .now) (c .before .before .before .before .before .table-and-word .result) (c .before .before .before .before .before .table-and-word .ensures) (c .before .before .before .before .if1 .left) (sym (c .before .before .before .is-accepting-run .ensures) ∙ not-false _ (c .before .before .if2 .left)) (c .before .count-copies .result) ((c .before .count-copies .ensures) (c .before .before .before .before .before .before .before .before .before .before .args .m) ((c .before .before .before .before .before .before .before .before .before .before .args .list) .now) ((c .before .before .before .before .before .before .before .before .before .before .args .word) .now)) (c .if3 .taken))
 
--- src/lib.rt:97:9
 write-copies-requires : tie.Need-write-copies-requires
 write-copies-requires c κs = let good = table-good 255 (c .before .before .before .before .before .before .before .before .before .before .before .args .m) ((c .before .before .before .before .before .before .before .before .before .before .before .args .list) .now) ((c .before .before .before .before .before .before .before .before .before .before .before .args .word) .now) (sym (c .before .before .before .before .before .before .table-and-word .ensures) ∙ (c .before .before .before .before .before .if1 .left)) in let n = (c .before .before .count-copies .ensures) (c .before .before .before .before .before .before .before .before .before .before .before .args .m) ((c .before .before .before .before .before .before .before .before .before .before .before .args .list) .now) ((c .before .before .before .before .before .before .before .before .before .before .before .args .word) .now) in (good .0, (good .1, (sym (c .before .before .before .before .is-accepting-run .ensures) ∙ not-false _ (c .before .before .before .if2 .left), omega (arith, (c .before .if3 .left)))))
 
--- src/lib.rt:81:1
 same-length : tie.Need-same-length
 same-length c = search needs
 
--- src/lib.rt:81:1
 returns-4 : tie.Need-returns-4
 returns-4 c = copies-says _ _ _ _ _ _ _ (listed (c .before .before .before .before .before .before .before .before .before .before .before .before .before .before .args .m) ((c .before .before .before .before .before .before .before .before .before .before .before .before .before .before .args .list) .now) ((c .before .before .before .before .before .before .before .before .before .before .before .before .before .before .args .word) .now) ((c .before .before .before .before .before .before .before .before .before .before .before .before .before .before .args .run) .now) ((c .before .before .before .before .before .before .before .before .before .before .before .before .before .before .args .copies) .now) (c .before .before .before .before .before .before .before .before .before .table-and-word .result) (c .before .before .before .before .before .before .before .before .before .table-and-word .ensures) (c .before .before .before .before .before .before .before .before .if1 .left) (sym (c .before .before .before .before .before .before .before .is-accepting-run .ensures) ∙ not-false _ (c .before .before .before .before .before .before .if2 .left)) (c .before .before .before .before .before .count-copies .result) ((c .before .before .before .before .before .count-copies .ensures) (c .before .before .before .before .before .before .before .before .before .before .before .before .before .before .args .m) ((c .before .before .before .before .before .before .before .before .before .before .before .before .before .before .args .list) .now) ((c .before .before .before .before .before .before .before .before .before .before .before .before .before .before .args .word) .now)) (c .before .before .before .before .if3 .left) (c .before .before .write-copies .result) ((c .before .before .write-copies .ensures) .0) _ ((c .before .before .write-copies .ensures) .1))
 

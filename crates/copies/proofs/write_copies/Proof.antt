@@ -18,99 +18,75 @@ Inv-loop list word run copies₀ m c₀ k₀ total₀ i₀ copies c k total i = 
 abbrev μ-loop : tie.MeasureT-loop
 μ-loop list word run copies₀ m c₀ k₀ total₀ i₀ copies c k total i = length run - i
 
--- src/lib.rt:53:34
 shared-slice-read-start-at : tie.Need-shared-slice-read-start-at Inv-loop μ-loop
 shared-slice-read-start-at c = omega (arith, some-entry (c .before .before .before .before .before .args .t1) ((c .before .before .before .before .before .args .list) .now) ((c .before .before .before .before .before .args .word) .now) ((c .before .before .before .before .before .args .run) .now) ((c .before .before .before .before .before .pre) .1 .1 .0))
 
--- src/lib.rt:53:34
 cast-start-at : tie.Need-cast-start-at Inv-loop μ-loop
 cast-start-at c = omega (arith, (c .shared-slice-known4 .given) 0)
 
--- src/lib.rt:53:9
 start-at-requires : tie.Need-start-at-requires Inv-loop μ-loop
 start-at-requires c κs = search needs
 
--- src/lib.rt:57:5
 loop-holds : tie.Need-loop-holds Inv-loop μ-loop
 loop-holds c = writing-start (c .before .before .before .before .before .before .args .t1) ((c .before .before .before .before .before .before .args .list) .now) ((c .before .before .before .before .before .before .args .word) .now) ((c .before .before .before .before .before .before .args .run) .now) ((c .before .before .before .before .before .before .args .copies) .now) (c .start-at .result) ((c .before .before .before .before .before .before .pre) .0) ((c .before .before .before .before .before .before .pre) .1 .0) ((c .before .before .before .before .before .before .pre) .1 .1 .0) ((c .before .before .before .before .before .before .pre) .1 .1 .1) (c .start-at .ensures)
 
--- src/lib.rt:58:21
 mul-entry : tie.Need-mul-entry Inv-loop μ-loop
 mul-entry c = omega (arith, (c .before .before .before .before .before .before .before .before .good))
 
--- src/lib.rt:58:21
 shared-slice-read-entry : tie.Need-shared-slice-read-entry Inv-loop μ-loop
 shared-slice-read-entry c = omega arith
 
--- src/lib.rt:61:13
 moved-requires : tie.Need-moved-requires Inv-loop μ-loop
 moved-requires c κs = search needs
 
--- src/lib.rt:64:9
 add-i : tie.Need-add-i Inv-loop μ-loop
 add-i c = omega arith
 
--- src/lib.rt:66:26
 sub-stored : tie.Need-sub-stored Inv-loop μ-loop
 sub-stored c = copy-room (c .before .before .before .before .before .before .before .before .before .before .before .before .before .before .args .t1) ((c .before .before .before .before .before .before .before .before .before .before .before .before .before .before .args .list) .now) ((c .before .before .before .before .before .before .before .before .before .before .before .before .before .before .args .word) .now) ((c .before .before .before .before .before .before .before .before .before .before .before .before .before .before .args .run) .now) (c .before .before .before .before .before .before .before .loop .inv) (c .before .before .moved .result) ((c .before .before .moved .ensures) (c .before .before .before .before .before .before .before .before .before .before .before .before .before .before .args .t1) refl refl refl) (c .before .before .before .before .before .before .loop-test .taken) (c .if1 .taken) .forward
 
--- src/lib.rt:67:25
 cast-copies : tie.Need-cast-copies Inv-loop μ-loop
 cast-copies c = let room = copy-room (c .before .before .before .before .before .before .before .before .before .before .before .before .before .before .args .t1) ((c .before .before .before .before .before .before .before .before .before .before .before .before .before .before .args .list) .now) ((c .before .before .before .before .before .before .before .before .before .before .before .before .before .before .args .word) .now) ((c .before .before .before .before .before .before .before .before .before .before .before .before .before .before .args .run) .now) (c .before .before .before .before .before .before .before .loop .inv) (c .before .before .moved .result) ((c .before .before .moved .ensures) (c .before .before .before .before .before .before .before .before .before .before .before .before .before .before .args .t1) refl refl refl) (c .before .before .before .before .before .before .loop-test .taken) (c .if1 .taken) in omega (arith, room .forward, room .small)
 
--- src/lib.rt:67:13
 mul-copies : tie.Need-mul-copies Inv-loop μ-loop
 mul-copies c = let room = copy-room (c .before .before .before .before .before .before .before .before .before .before .before .before .before .before .args .t1) ((c .before .before .before .before .before .before .before .before .before .before .before .before .before .before .args .list) .now) ((c .before .before .before .before .before .before .before .before .before .before .before .before .before .before .args .word) .now) ((c .before .before .before .before .before .before .before .before .before .before .before .before .before .before .args .run) .now) (c .before .before .before .before .before .before .before .loop .inv) (c .before .before .moved .result) ((c .before .before .moved .ensures) (c .before .before .before .before .before .before .before .before .before .before .before .before .before .before .args .t1) refl refl refl) (c .before .before .before .before .before .before .loop-test .taken) (c .if1 .taken) in omega (arith, room .place, slice-length (c .before .before .before .before .before .before .before .before .before .before .before .before .before .before .args .t1) ((c .before .before .before .before .before .before .before .before .before .before .before .before .before .before .args .list) .now) ((c .before .before .before .before .before .before .before .before .before .before .before .before .before .before .args .word) .now) ((c .before .before .before .before .before .before .before .before .before .before .before .before .before .before .args .run) .now) (c .before .before .before .before .before .before .before .loop .inv), (c .before .before .before .before .before .before .before .before .before .before .before .before .before .before .good))
 
--- src/lib.rt:67:13
 slice-write-copies : tie.Need-slice-write-copies Inv-loop μ-loop
 slice-write-copies c = let room = copy-room (c .before .before .before .before .before .before .before .before .before .before .before .before .before .before .args .t1) ((c .before .before .before .before .before .before .before .before .before .before .before .before .before .before .args .list) .now) ((c .before .before .before .before .before .before .before .before .before .before .before .before .before .before .args .word) .now) ((c .before .before .before .before .before .before .before .before .before .before .before .before .before .before .args .run) .now) (c .before .before .before .before .before .before .before .loop .inv) (c .before .before .moved .result) ((c .before .before .moved .ensures) (c .before .before .before .before .before .before .before .before .before .before .before .before .before .before .args .t1) refl refl refl) (c .before .before .before .before .before .before .loop-test .taken) (c .if1 .taken) in omega (arith, room .place)
 
--- src/lib.rt:68:29
 cast-copies-2 : tie.Need-cast-copies-2 Inv-loop μ-loop
 cast-copies-2 c = let room = copy-room (c .before .before .before .before .before .before .before .before .before .before .before .before .before .before .args .t1) ((c .before .before .before .before .before .before .before .before .before .before .before .before .before .before .args .list) .now) ((c .before .before .before .before .before .before .before .before .before .before .before .before .before .before .args .word) .now) ((c .before .before .before .before .before .before .before .before .before .before .before .before .before .before .args .run) .now) (c .before .before .before .before .before .before .before .loop .inv) (c .before .before .moved .result) ((c .before .before .moved .ensures) (c .before .before .before .before .before .before .before .before .before .before .before .before .before .before .args .t1) refl refl refl) (c .before .before .before .before .before .before .loop-test .taken) (c .if1 .taken) in omega (arith, room .small)
 
--- src/lib.rt:68:20
 add-copies : tie.Need-add-copies Inv-loop μ-loop
 add-copies c = let room = copy-room (c .before .before .before .before .before .before .before .before .before .before .before .before .before .before .args .t1) ((c .before .before .before .before .before .before .before .before .before .before .before .before .before .before .args .list) .now) ((c .before .before .before .before .before .before .before .before .before .before .before .before .before .before .args .word) .now) ((c .before .before .before .before .before .before .before .before .before .before .before .before .before .before .args .run) .now) (c .before .before .before .before .before .before .before .loop .inv) (c .before .before .moved .result) ((c .before .before .moved .ensures) (c .before .before .before .before .before .before .before .before .before .before .before .before .before .before .args .t1) refl refl refl) (c .before .before .before .before .before .before .loop-test .taken) (c .if1 .taken) in omega (arith, room .place, slice-length (c .before .before .before .before .before .before .before .before .before .before .before .before .before .before .args .t1) ((c .before .before .before .before .before .before .before .before .before .before .before .before .before .before .args .list) .now) ((c .before .before .before .before .before .before .before .before .before .before .before .before .before .before .args .word) .now) ((c .before .before .before .before .before .before .before .before .before .before .before .before .before .before .args .run) .now) (c .before .before .before .before .before .before .before .loop .inv), (c .before .before .before .before .before .before .before .before .before .before .before .before .before .before .good))
 
--- src/lib.rt:68:13
 mul-copies-2 : tie.Need-mul-copies-2 Inv-loop μ-loop
 mul-copies-2 c = let room = copy-room (c .before .before .before .before .before .before .before .before .before .before .before .before .before .before .args .t1) ((c .before .before .before .before .before .before .before .before .before .before .before .before .before .before .args .list) .now) ((c .before .before .before .before .before .before .before .before .before .before .before .before .before .before .args .word) .now) ((c .before .before .before .before .before .before .before .before .before .before .before .before .before .before .args .run) .now) (c .before .before .before .before .before .before .before .loop .inv) (c .before .before .moved .result) ((c .before .before .moved .ensures) (c .before .before .before .before .before .before .before .before .before .before .before .before .before .before .args .t1) refl refl refl) (c .before .before .before .before .before .before .loop-test .taken) (c .if1 .taken) in omega (arith, room .place, slice-length (c .before .before .before .before .before .before .before .before .before .before .before .before .before .before .args .t1) ((c .before .before .before .before .before .before .before .before .before .before .before .before .before .before .args .list) .now) ((c .before .before .before .before .before .before .before .before .before .before .before .before .before .before .args .word) .now) ((c .before .before .before .before .before .before .before .before .before .before .before .before .before .before .args .run) .now) (c .before .before .before .before .before .before .before .loop .inv), (c .before .before .before .before .before .before .before .before .before .before .before .before .before .before .good))
 
--- src/lib.rt:68:13
 slice-write-copies-2 : tie.Need-slice-write-copies-2 Inv-loop μ-loop
 slice-write-copies-2 c = let room = copy-room (c .before .before .before .before .before .before .before .before .before .before .before .before .before .before .args .t1) ((c .before .before .before .before .before .before .before .before .before .before .before .before .before .before .args .list) .now) ((c .before .before .before .before .before .before .before .before .before .before .before .before .before .before .args .word) .now) ((c .before .before .before .before .before .before .before .before .before .before .before .before .before .before .args .run) .now) (c .before .before .before .before .before .before .before .loop .inv) (c .before .before .moved .result) ((c .before .before .moved .ensures) (c .before .before .before .before .before .before .before .before .before .before .before .before .before .before .args .t1) refl refl refl) (c .before .before .before .before .before .before .loop-test .taken) (c .if1 .taken) in lt-length-set (c .before .before .before .before .before .before .before .loop .copies) (c .before .before .before .before .before .before .before .loop .k) ((c .before .before .before .before .before .before .before .loop .c) .start) (room .place)
 
--- src/lib.rt:69:13
 add-k : tie.Need-add-k Inv-loop μ-loop
 add-k c = let room = copy-room (c .before .before .before .before .before .before .before .before .before .before .before .before .before .before .args .t1) ((c .before .before .before .before .before .before .before .before .before .before .before .before .before .before .args .list) .now) ((c .before .before .before .before .before .before .before .before .before .before .before .before .before .before .args .word) .now) ((c .before .before .before .before .before .before .before .before .before .before .before .before .before .before .args .run) .now) (c .before .before .before .before .before .before .before .loop .inv) (c .before .before .moved .result) ((c .before .before .moved .ensures) (c .before .before .before .before .before .before .before .before .before .before .before .before .before .before .args .t1) refl refl refl) (c .before .before .before .before .before .before .loop-test .taken) (c .if1 .taken) in omega (arith, room .place, slice-length (c .before .before .before .before .before .before .before .before .before .before .before .before .before .before .args .t1) ((c .before .before .before .before .before .before .before .before .before .before .before .before .before .before .args .list) .now) ((c .before .before .before .before .before .before .before .before .before .before .before .before .before .before .args .word) .now) ((c .before .before .before .before .before .before .before .before .before .before .before .before .before .before .args .run) .now) (c .before .before .before .before .before .before .before .loop .inv), (c .before .before .before .before .before .before .before .before .before .before .before .before .before .before .good))
 
--- src/lib.rt:70:13
 add-total : tie.Need-add-total Inv-loop μ-loop
 add-total c = let room = copy-room (c .before .before .before .before .before .before .before .before .before .before .before .before .before .before .args .t1) ((c .before .before .before .before .before .before .before .before .before .before .before .before .before .before .args .list) .now) ((c .before .before .before .before .before .before .before .before .before .before .before .before .before .before .args .word) .now) ((c .before .before .before .before .before .before .before .before .before .before .before .before .before .before .args .run) .now) (c .before .before .before .before .before .before .before .loop .inv) (c .before .before .moved .result) ((c .before .before .moved .ensures) (c .before .before .before .before .before .before .before .before .before .before .before .before .before .before .args .t1) refl refl refl) (c .before .before .before .before .before .before .loop-test .taken) (c .if1 .taken) in omega (arith, room .sum-small)
 
--- src/lib.rt:57:5
 loop-less : tie.Need-loop-less Inv-loop μ-loop
 loop-less c = omega arith
 
--- src/lib.rt:57:5
 loop-again : tie.Need-loop-again Inv-loop μ-loop
 loop-again c = writing-copy (c .before .before .before .before .before .before .before .before .before .before .before .before .before .before .args .t1) ((c .before .before .before .before .before .before .before .before .before .before .before .before .before .before .args .list) .now) ((c .before .before .before .before .before .before .before .before .before .before .before .before .before .before .args .word) .now) ((c .before .before .before .before .before .before .before .before .before .before .before .before .before .before .args .run) .now) (c .before .before .before .before .before .before .before .loop .inv) (c .before .before .moved .result) ((c .before .before .moved .ensures) (c .before .before .before .before .before .before .before .before .before .before .before .before .before .before .args .t1) refl refl refl) (c .before .before .before .before .before .before .loop-test .taken) (c .if1 .taken)
 
--- src/lib.rt:57:5
 loop-less-2 : tie.Need-loop-less-2 Inv-loop μ-loop
 loop-less-2 c = omega arith
 
--- src/lib.rt:57:5
 loop-again-2 : tie.Need-loop-again-2 Inv-loop μ-loop
 loop-again-2 c = writing-other (c .before .before .before .before .before .before .before .before .before .before .before .before .before .before .args .t1) ((c .before .before .before .before .before .before .before .before .before .before .before .before .before .before .args .list) .now) ((c .before .before .before .before .before .before .before .before .before .before .before .before .before .before .args .word) .now) ((c .before .before .before .before .before .before .before .before .before .before .before .before .before .before .args .run) .now) (c .before .before .before .before .before .before .before .loop .inv) (c .before .before .moved .result) ((c .before .before .moved .ensures) (c .before .before .before .before .before .before .before .before .before .before .before .before .before .before .args .t1) refl refl refl) (c .before .before .before .before .before .before .loop-test .taken) (c .if1 .left)
 
--- src/lib.rt:43:1
 same-length : tie.Need-same-length Inv-loop μ-loop
 same-length c = slice-length (c .before .before .before .before .before .before .before .before .args .t1) ((c .before .before .before .before .before .before .before .before .args .list) .now) ((c .before .before .before .before .before .before .before .before .args .word) .now) ((c .before .before .before .before .before .before .before .before .args .run) .now) (c .before .loop .inv)
 
--- src/lib.rt:43:1
 returns : tie.Need-returns Inv-loop μ-loop
 returns c = writing-end (c .before .before .before .before .before .before .before .before .args .t1) ((c .before .before .before .before .before .before .before .before .args .list) .now) ((c .before .before .before .before .before .before .before .before .args .word) .now) ((c .before .before .before .before .before .before .before .before .args .run) .now) (c .before .loop .inv) (c .loop-test .left)
 

@@ -18,43 +18,33 @@ Inv-loop m list kinds g h s₀ left₀ s left = Begun (kinds .initial) s
 abbrev μ-loop : tie.MeasureT-loop
 μ-loop m list kinds g h s₀ left₀ s left = left
 
--- src/lib.rt:122:5
 loop-holds : tie.Need-loop-holds Inv-loop μ-loop
 loop-holds c = λ q i. i
 
--- src/lib.rt:123:13
 pass-requires : tie.Need-pass-requires Inv-loop μ-loop
 pass-requires c κs = rules ((c .before .before .before) .args .m) ((c .before .before .before) .args .list .now) ((c .before .before .before) .pre .0) .list-fits
 
--- src/lib.rt:124:12
 intersection-requires : tie.Need-intersection-requires Inv-loop μ-loop
 intersection-requires c κs = search needs
 
--- src/lib.rt:125:13
 returns : tie.Need-returns Inv-loop μ-loop
 returns c = λ e. absurd (not-both e refl)
 
--- src/lib.rt:127:12
 same-requires : tie.Need-same-requires Inv-loop μ-loop
 same-requires c κs = search needs
 
--- src/lib.rt:128:13
 returns-2 : tie.Need-returns-2 Inv-loop μ-loop
 returns-2 c = λ e. same-empty ((c .before .before .before .before .before .before .before .before) .args .m) ((c .before .before .before .before .before .before .before .before) .args .list .now) ((c .before .before .before .before .before .before .before .before) .pre .0) ((c .before .before .before .before .before .before .before .before) .args .kinds) ((c .before .before .before .before .before .before .before .before) .pre .1) ((c .before .before .before .before .before .before) .loop .s) ((c .before .before .before .before .before .before) .loop .inv) ((c .before .before .before .before) .pass .ensures) ((c .before) .same .ensures (c .if2 .taken)) ((c .before .before .before) .intersection .ensures) (omega (arith, (c .before .before) .if1 .left))
 
--- src/lib.rt:131:9
 sub-left : tie.Need-sub-left Inv-loop μ-loop
 sub-left c = omega (arith, (c .before .before .before .before .before) .loop-test .taken)
 
--- src/lib.rt:122:5
 loop-less : tie.Need-loop-less Inv-loop μ-loop
 loop-less c = omega (arith, (c .before .before .before .before .before) .loop-test .taken)
 
--- src/lib.rt:122:5
 loop-again : tie.Need-loop-again Inv-loop μ-loop
 loop-again c = begun-more _ ((c .before .before .before .before .before .before) .loop .inv) ((c .before .before .before .before) .pass .ensures)
 
--- src/lib.rt:114:1
 returns-3 : tie.Need-returns-3 Inv-loop μ-loop
 returns-3 c = λ e. absurd (not-both e refl)
 

@@ -10,35 +10,27 @@ use Rattle.emptiness.proofs.apart.Reads as apart-reads
 use Rattle.emptiness.proofs.with_next.Reads as with-next-reads
 use Rattle.stateset.proofs.member.Reads as member-reads
 
--- src/lib.rt:53:9
 member-requires : tie.Need-member-requires
 member-requires c κs = search needs
 
--- src/lib.rt:54:9
 apart-requires : tie.Need-apart-requires
 apart-requires c κs = search needs
 
--- src/lib.rt:54:9
 returns : tie.Need-returns
 returns c = moved-from _ _ _ _ _ (sym ((c .before .before) .member .ensures) ∙ not-true _ ((c .before) .if1 .taken)) (c .apart .ensures)
 
--- src/lib.rt:56:9
 member-requires-2 : tie.Need-member-requires-2
 member-requires-2 c κs = search needs
 
--- src/lib.rt:57:9
 apart-requires-2 : tie.Need-apart-requires-2
 apart-requires-2 c κs = search needs
 
--- src/lib.rt:57:9
 returns-2 : tie.Need-returns-2
 returns-2 c = moved-to _ _ _ _ _ (sym ((c .before .before) .member2 .ensures) ∙ not-true _ ((c .before) .if2 .taken)) (c .apart2 .ensures)
 
--- src/lib.rt:62:19
 with-next-requires : tie.Need-with-next-requires
 with-next-requires c κs = search needs
 
--- src/lib.rt:50:1
 returns-3 : tie.Need-returns-3
 returns-3 c = moved-both _ _ _ _ ((c .before .before .before .before .before) .args .s) (sym ((c .before .before .before .before) .member .ensures) ∙ not-false _ ((c .before .before .before) .if1 .left)) (sym ((c .before .before) .member2 .ensures) ∙ not-false _ ((c .before) .if2 .left)) (c .with-next .ensures)
 

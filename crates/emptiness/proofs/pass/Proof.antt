@@ -16,31 +16,24 @@ Inv-loop list n g h all₀ k₀ all k = Swept list k g h all₀ all
 abbrev μ-loop : tie.MeasureT-loop
 μ-loop list n g h all₀ k₀ all k = n - k
 
--- src/lib.rt:90:9
 with-changes-requires : tie.Need-with-changes-requires Inv-loop μ-loop
 with-changes-requires c κs = search needs
 
--- src/lib.rt:92:5
 loop-holds : tie.Need-loop-holds Inv-loop μ-loop
 loop-holds c = swept-start _ _ _ _
 
--- src/lib.rt:93:9
 with-move-requires : tie.Need-with-move-requires Inv-loop μ-loop
 with-move-requires c κs = omega (arith, (c .before .before .before .before) .pre, c .loop-test .taken)
 
--- src/lib.rt:94:9
 add-k : tie.Need-add-k Inv-loop μ-loop
 add-k c = omega (arith, (c .before .before .before .before .before) .pre, (c .before) .loop-test .taken)
 
--- src/lib.rt:92:5
 loop-less : tie.Need-loop-less Inv-loop μ-loop
 loop-less c = omega (arith, (c .before) .loop-test .taken)
 
--- src/lib.rt:92:5
 loop-again : tie.Need-loop-again Inv-loop μ-loop
 loop-again c = swept-more _ _ _ _ ((c .before .before) .loop .inv) (c .with-move .ensures)
 
--- src/lib.rt:86:1
 returns : tie.Need-returns Inv-loop μ-loop
 returns c = swept-end _ _ _ _ ((c .before .before) .with-changes .ensures) (c .loop-test .left) ((c .before) .loop .inv)
 

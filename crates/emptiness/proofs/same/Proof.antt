@@ -7,15 +7,12 @@ use Rattle.emptiness.proofs.same.Tie as tie
 use Rattle.emptiness.proofs.same.Reads as reads
 use Rattle.emptiness.proofs.same.Lts as lts
 
--- src/lib.rt:104:9
 returns : tie.Need-returns
 returns c = λ e. absurd (not-both e refl)
 
--- src/lib.rt:107:9
 returns-2 : tie.Need-returns-2
 returns-2 c = λ e. absurd (not-both e refl)
 
--- src/lib.rt:100:1
 returns-3 : tie.Need-returns-3
 returns-3 c = λ e. record { normal = omega (arith, (c .before .before .before .before .before) .if1 .left); buffering = omega (arith, (c .before .before) .if2 .left); emptying = eqb-true _ _ e }
 

@@ -7,31 +7,24 @@ use Rattle.emptiness.proofs.with_changes.Lts as lts
 use Rattle.stateset.proofs.intersection.Reads as intersection-reads
 use Rattle.stateset.proofs.union.Reads as union-reads
 
--- src/lib.rt:79:43
 intersection-requires : tie.Need-intersection-requires
 intersection-requires c κs = search needs
 
--- src/lib.rt:79:17
 union-requires : tie.Need-union-requires
 union-requires c κs = search needs
 
--- src/lib.rt:80:49
 intersection-requires-2 : tie.Need-intersection-requires-2
 intersection-requires-2 c κs = search needs
 
--- src/lib.rt:80:20
 union-requires-2 : tie.Need-union-requires-2
 union-requires-2 c κs = search needs
 
--- src/lib.rt:81:47
 intersection-requires-3 : tie.Need-intersection-requires-3
 intersection-requires-3 c κs = search needs
 
--- src/lib.rt:81:19
 union-requires-3 : tie.Need-union-requires-3
 union-requires-3 c κs = search needs
 
--- src/lib.rt:75:1
 returns : tie.Need-returns
 returns c = changed-is _ _ ((c .before .before .before .before .before .before) .args .s) ((c .before .before .before .before .before) .intersection .ensures) ((c .before .before .before .before) .union .ensures) ((c .before .before .before) .intersection2 .ensures) ((c .before .before) .union2 .ensures) ((c .before) .intersection3 .ensures) (c .union3 .ensures)
 

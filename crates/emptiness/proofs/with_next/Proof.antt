@@ -9,23 +9,18 @@ use Rattle.emptiness.proofs.with_next.Lts as lts
 use Rattle.stateset.proofs.add.Reads as add-reads
 use Rattle.stateset.proofs.member.Reads as member-reads
 
--- src/lib.rt:30:9
 returns : tie.Need-returns
 returns c = next-barred _ _ _ _ (c .if1 .taken)
 
--- src/lib.rt:32:9
 member-requires : tie.Need-member-requires
 member-requires c κs = search needs
 
--- src/lib.rt:33:9
 returns-2 : tie.Need-returns-2
 returns-2 c = next-other _ _ _ _ (sym ((c .before) .member .ensures) ∙ not-true _ (c .if2 .taken))
 
--- src/lib.rt:35:5
 add-requires : tie.Need-add-requires
 add-requires c κs = search needs
 
--- src/lib.rt:26:1
 returns-3 : tie.Need-returns-3
 returns-3 c = next-is _ _ _ _ (c .add .ensures)
 

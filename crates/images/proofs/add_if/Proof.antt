@@ -7,15 +7,12 @@ use Rattle.images.proofs.add_if.Reads as reads
 use Rattle.images.proofs.add_if.Lts as lts
 use Rattle.stateset.proofs.add.Reads as add-reads
 
--- src/images.rt:20:9
 add-requires : tie.Need-add-requires
 add-requires c κs = search needs
 
--- src/images.rt:20:9
 returns : tie.Need-returns
 returns c = add-yes _ _ _ _ (c .before .if1 .taken) (members-is (c .add .ensures))
 
--- src/images.rt:16:1
 returns-2 : tie.Need-returns-2
 returns-2 c = add-no _ _ ((c .before .args .set)) _ (c .if1 .left) (omega arith)
 

@@ -9,19 +9,15 @@ use Rattle.images.proofs.advance.Lts as lts
 use Rattle.images.proofs.close_set.Reads as close-set-reads
 use Rattle.images.proofs.read_set.Reads as read-set-reads
 
--- src/images.rt:172:9
 read-set-requires : tie.Need-read-set-requires
 read-set-requires c κs = search needs
 
--- src/images.rt:174:9
 returns : tie.Need-returns
 returns c = advance-none (graph ((c .before .before .before .args .targets) .now) (c .before .before .before .args .states) (c .before .before .before .args .g) (c .before .before .before .args .h)) (c .before .before .before .args .mode) _ _ _ (c .before .read-set .ensures) (c .if1 .taken)
 
--- src/images.rt:176:5
 close-set-requires : tie.Need-close-set-requires
 close-set-requires c κs = search needs
 
--- src/images.rt:168:1
 returns-2 : tie.Need-returns-2
 returns-2 c = advance-some (graph ((c .before .before .before .before .args .targets) .now) (c .before .before .before .before .args .states) (c .before .before .before .before .args .g) (c .before .before .before .before .args .h)) (c .before .before .before .before .args .mode) _ _ _ (c .before .before .read-set .ensures) _ (c .close-set .ensures)
 

@@ -9,27 +9,21 @@ use Rattle.images.proofs.empty_copies.Lts as lts
 use Rattle.images.proofs.close_set.Reads as close-set-reads
 use Rattle.stateset.proofs.intersection.Reads as intersection-reads
 
--- src/images.rt:184:9
 intersection-requires : tie.Need-intersection-requires
 intersection-requires c κs = search needs
 
--- src/images.rt:186:9
 returns : tie.Need-returns
 returns c = empty-none (graph ((c .before .before .before .args .targets) .now) (c .before .before .before .args .states) (c .before .before .before .args .g) (c .before .before .before .args .h)) _ _ (members-is (c .before .intersection .ensures)) (c .if1 .taken)
 
--- src/images.rt:188:9
 close-set-requires : tie.Need-close-set-requires
 close-set-requires c κs = search needs
 
--- src/images.rt:189:50
 intersection-requires-2 : tie.Need-intersection-requires-2
 intersection-requires-2 c κs = search needs
 
--- src/images.rt:189:5
 close-set-requires-2 : tie.Need-close-set-requires-2
 close-set-requires-2 c κs = search needs
 
--- src/images.rt:180:1
 returns-2 : tie.Need-returns-2
 returns-2 c = empty-some (graph ((c .before .before .before .before .before .before .args .targets) .now) (c .before .before .before .before .before .before .args .states) (c .before .before .before .before .before .before .args .g) (c .before .before .before .before .before .before .args .h)) _ _ (members-is (c .before .before .before .before .intersection .ensures)) _ _ _ (c .before .before .close-set .ensures) (members-is (c .before .intersection2 .ensures)) (c .close-set2 .ensures)
 

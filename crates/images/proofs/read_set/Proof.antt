@@ -8,15 +8,12 @@ use Rattle.images.proofs.read_set.Reads as reads
 use Rattle.images.proofs.read_set.Lts as lts
 use Rattle.images.proofs.step_set.Reads as step-set-reads
 
--- src/images.rt:156:9
 returns : tie.Need-returns
 returns c = read-none (graph ((c .before .before .args .targets) .now) (c .before .before .args .states) (c .before .before .args .g) (c .before .before .args .h)) (c .before .before .args .mode) _ _ (c .if1 .taken)
 
--- src/images.rt:158:5
 step-set-requires : tie.Need-step-set-requires
 step-set-requires c κs = search needs
 
--- src/images.rt:151:1
 returns-2 : tie.Need-returns-2
 returns-2 c = read-some (graph ((c .before .before .before .args .targets) .now) (c .before .before .before .args .states) (c .before .before .before .args .g) (c .before .before .before .args .h)) (c .before .before .before .args .mode) _ _ _ (c .before .if1 .left) (c .step-set .ensures)
 

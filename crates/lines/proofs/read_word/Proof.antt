@@ -20,69 +20,53 @@ Inv-loop letters line word₀ n good₀ k₀ word good k = Read letters line n w
 abbrev μ-loop : tie.MeasureT-loop
 μ-loop letters line word₀ n good₀ k₀ word good k = n - k
 
--- src/lib.rt:44:9
 returns : tie.Need-returns Inv-loop μ-loop
 returns c = refused (c .before .before .before .args .letters) ((c .before .before .before .args .line) .now) 9 ((c .before .before .before .args .word) .now) (omega arith) (refused-long (c .before .before .before .args .letters) ((c .before .before .before .args .line) .now) (c .if1 .taken))
 
--- src/lib.rt:47:9
 returns-2 : tie.Need-returns-2 Inv-loop μ-loop
 returns-2 c = refused (c .before .before .before .before .args .letters) ((c .before .before .before .before .args .line) .now) 2 ((c .before .before .before .before .args .word) .now) (omega arith) (refused-part (c .before .before .before .before .args .letters) ((c .before .before .before .before .args .line) .now) (c .before .if1 .left) (c .if2 .taken))
 
--- src/lib.rt:52:5
 loop-holds : tie.Need-loop-holds Inv-loop μ-loop
 loop-holds c = (read-none (c .before .before .before .before .args .letters) ((c .before .before .before .before .args .line) .now) (length ((c .before .before .before .before .args .line) .now) / 5) ((c .before .before .before .before .args .word) .now) ((c .before .before .before .before .pre) .1), refl)
 
--- src/lib.rt:53:39
 mul-number : tie.Need-mul-number Inv-loop μ-loop
 mul-number c = omega arith
 
--- src/lib.rt:53:13
 number-requires : tie.Need-number-requires Inv-loop μ-loop
 number-requires c κs = omega arith
 
--- src/lib.rt:55:13
 same-length : tie.Need-same-length Inv-loop μ-loop
 same-length c = (c .before .before .before .loop .inv) .1
 
--- src/lib.rt:55:13
 returns-3 : tie.Need-returns-3 Inv-loop μ-loop
 unfolding letterAt
 returns-3 c = refused (c .before .before .before .before .before .before .before .before .args .letters) ((c .before .before .before .before .before .before .before .before .args .line) .now) 2 (c .before .before .before .loop .word) (omega arith) (refused-column (c .before .before .before .before .before .before .before .before .args .letters) ((c .before .before .before .before .before .before .before .before .args .line) .now) (c .before .before .before .before .before .if1 .left) (c .before .before .before .before .if2 .left) (read-stops (c .before .before .before .before .before .before .before .before .args .letters) ((c .before .before .before .before .before .before .before .before .args .line) .now) _ (c .before .before .before .loop .word) (c .before .before .before .loop .good) (c .before .before .before .loop .k) ((c .before .before .before .loop .inv) .0) (c .before .before .loop-test .taken) (c .before .number .result) (c .before .number .ensures) (c .if3 .taken)))
 
--- src/lib.rt:57:13
 store-letter-requires : tie.Need-store-letter-requires Inv-loop μ-loop
 store-letter-requires c κs = ((c .before .before .before .before .before .before .before .before .before .pre) .0, omega (arith, (c .before .before .before .before .loop .inv) .0 .room))
 
--- src/lib.rt:58:9
 both-requires : tie.Need-both-requires Inv-loop μ-loop
 both-requires c κs = search needs
 
--- src/lib.rt:59:9
 add-k : tie.Need-add-k Inv-loop μ-loop
 add-k c = omega arith
 
--- src/lib.rt:52:5
 loop-less : tie.Need-loop-less Inv-loop μ-loop
 loop-less c = omega arith
 
--- src/lib.rt:52:5
 loop-again : tie.Need-loop-again Inv-loop μ-loop
 unfolding letterAt
 loop-again c = (read-more (c .before .before .before .before .before .before .before .before .before .before .before .before .before .args .letters) ((c .before .before .before .before .before .before .before .before .before .before .before .before .before .args .line) .now) (length ((c .before .before .before .before .before .before .before .before .before .before .before .before .before .args .line) .now) / 5) (c .before .before .before .before .before .before .before .before .loop .word) (c .before .before .before .before .before .before .before .before .loop .good) (c .before .before .before .before .before .before .before .before .loop .k) ((c .before .before .before .before .before .before .before .before .loop .inv) .0) (c .before .before .before .before .before .before .before .loop-test .taken) (c .before .before .before .before .before .before .number .result) (c .before .before .before .before .before .before .number .ensures) (c .before .before .before .before .before .if3 .left) (c .before .before .before .store-letter .result) (c .both .result) ((c .before .before .before .store-letter .last) .1 .1 .1 .0) (omega arith) (c .before .before .before .store-letter .ensures) (c .both .ensures), (c .before .before .before .store-letter .ensures .kept) ∙ (c .before .before .before .before .before .before .before .before .loop .inv) .1)
 
--- src/lib.rt:62:9
 same-length-2 : tie.Need-same-length-2 Inv-loop μ-loop
 same-length-2 c = (c .before .before .loop .inv) .1
 
--- src/lib.rt:62:9
 returns-4 : tie.Need-returns-4 Inv-loop μ-loop
 returns-4 c = word-refused (c .before .before .before .before .before .before .before .args .letters) ((c .before .before .before .before .before .before .before .args .line) .now) (c .before .before .loop .word) (c .before .before .loop .good) (c .before .before .loop .k) ((c .before .before .loop .inv) .0) (c .before .loop-test .left) (c .before .before .before .before .if1 .left) (c .before .before .before .if2 .left) (not-true _ (c .if4 .taken))
 
--- src/lib.rt:39:1
 same-length-3 : tie.Need-same-length-3 Inv-loop μ-loop
 same-length-3 c = (c .before .before .loop .inv) .1
 
--- src/lib.rt:39:1
 returns-5 : tie.Need-returns-5 Inv-loop μ-loop
 returns-5 c = word-taken (c .before .before .before .before .before .before .before .args .letters) ((c .before .before .before .before .before .before .before .args .line) .now) (c .before .before .loop .word) (c .before .before .loop .good) (c .before .before .loop .k) ((c .before .before .loop .inv) .0) (c .before .loop-test .left) (c .before .before .before .before .if1 .left) (c .before .before .before .if2 .left) (not-false _ (c .if4 .left))
 

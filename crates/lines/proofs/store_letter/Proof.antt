@@ -5,27 +5,21 @@ use Rattle.lines.proofs.store_letter.Tie as tie
 use Rattle.lines.proofs.store_letter.Reads as reads
 use Rattle.lines.proofs.store_letter.Lts as lts
 
--- src/lib.rt:28:9
 returns : tie.Need-returns
 returns c = stored-zero (c .before .args .letters) (c .before .args .v) (c .before .args .k) ((c .before .args .word) .now) (c .if1 .taken)
 
--- src/lib.rt:31:9
 returns-2 : tie.Need-returns-2
 returns-2 c = stored-large (c .before .before .args .letters) (c .before .before .args .v) (c .before .before .args .k) ((c .before .before .args .word) .now) (c .before .if1 .left) (c .if2 .taken)
 
--- src/lib.rt:33:15
 cast-word : tie.Need-cast-word
 cast-word c = search needs
 
--- src/lib.rt:33:5
 slice-write-word : tie.Need-slice-write-word
 slice-write-word c = search needs
 
--- src/lib.rt:23:1
 same-length : tie.Need-same-length
 same-length c = search needs
 
--- src/lib.rt:23:1
 returns-3 : tie.Need-returns-3
 returns-3 c = stored-letter (c .before .before .args .letters) (c .before .before .args .v) (c .before .before .args .k) ((c .before .before .args .word) .now) (c .before .if1 .left) (c .if2 .left)
 

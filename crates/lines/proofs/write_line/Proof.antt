@@ -12,47 +12,36 @@ use Rattle.lines.proofs.write_line.Reads as reads
 use Rattle.lines.proofs.write_line.Lts as lts
 use Rattle.columns.proofs.write_number.Reads as write-number-reads
 
--- src/lib.rt:78:5
 write-number-requires : tie.Need-write-number-requires
 write-number-requires c κs = search needs
 
--- src/lib.rt:79:32
 add-write-number : tie.Need-add-write-number
 add-write-number c = search needs
 
--- src/lib.rt:79:40
 cast-write-number : tie.Need-cast-write-number
 cast-write-number c = search needs
 
--- src/lib.rt:79:5
 write-number-requires-2 : tie.Need-write-number-requires-2
 write-number-requires-2 c κs = search needs
 
--- src/lib.rt:80:32
 add-write-number-2 : tie.Need-add-write-number-2
 add-write-number-2 c = search needs
 
--- src/lib.rt:80:41
 cast-write-number-2 : tie.Need-cast-write-number-2
 cast-write-number-2 c = search needs
 
--- src/lib.rt:80:5
 write-number-requires-3 : tie.Need-write-number-requires-3
 write-number-requires-3 c κs = search needs
 
--- src/lib.rt:81:9
 add-out : tie.Need-add-out
 add-out c = search needs
 
--- src/lib.rt:81:5
 slice-write-out : tie.Need-slice-write-out
 slice-write-out c = search needs
 
--- src/lib.rt:74:1
 same-length : tie.Need-same-length
 same-length c = ap length (line-written (c .before .before .before .before .before .before .before .before .before .before .before .before .before .before .before .args .at) ((c .before .before .before .before .before .before .before .before .before .before .before .before .before .before .before .args .out) .now) (c .before .before .before .before .before .before .before .before .before .before .before .before .before .before .before .args .number) ((c .before .before .before .before .before .before .before .before .before .before .before .before .before .before .before .args .a) .answer) ((c .before .before .before .before .before .before .before .before .before .before .before .before .before .before .before .args .a) .refusal) ((c .before .before .before .before .before .before .before .before .before .before .before .before .write-number .last) .0) ((c .before .before .before .before .before .before .before .write-number2 .last) .0) ((c .before .before .write-number3 .last) .0) (c .before .before .before .before .before .before .before .before .before .before .before .before .before .before .before .pre) (c .before .before .before .before .before .before .before .before .before .before .before .before .write-number .ensures) (c .before .before .before .before .before .before .before .write-number2 .ensures) (c .before .before .write-number3 .ensures)) ∙ put-length (c .before .before .before .before .before .before .before .before .before .before .before .before .before .before .before .args .at) ((c .before .before .before .before .before .before .before .before .before .before .before .before .before .before .before .args .out) .now) (answerLine (c .before .before .before .before .before .before .before .before .before .before .before .before .before .before .before .args .number) ((c .before .before .before .before .before .before .before .before .before .before .before .before .before .before .before .args .a) .answer) ((c .before .before .before .before .before .before .before .before .before .before .before .before .before .before .before .args .a) .refusal)) (omega (arith, (c .before .before .before .before .before .before .before .before .before .before .before .before .before .before .before .pre), line-length (c .before .before .before .before .before .before .before .before .before .before .before .before .before .before .before .args .number) ((c .before .before .before .before .before .before .before .before .before .before .before .before .before .before .before .args .a) .answer) ((c .before .before .before .before .before .before .before .before .before .before .before .before .before .before .before .args .a) .refusal)))
 
--- src/lib.rt:74:1
 returns : tie.Need-returns
 returns c = line-written (c .before .before .before .before .before .before .before .before .before .before .before .before .before .before .before .args .at) ((c .before .before .before .before .before .before .before .before .before .before .before .before .before .before .before .args .out) .now) (c .before .before .before .before .before .before .before .before .before .before .before .before .before .before .before .args .number) ((c .before .before .before .before .before .before .before .before .before .before .before .before .before .before .before .args .a) .answer) ((c .before .before .before .before .before .before .before .before .before .before .before .before .before .before .before .args .a) .refusal) ((c .before .before .before .before .before .before .before .before .before .before .before .before .write-number .last) .0) ((c .before .before .before .before .before .before .before .write-number2 .last) .0) ((c .before .before .write-number3 .last) .0) (c .before .before .before .before .before .before .before .before .before .before .before .before .before .before .before .pre) (c .before .before .before .before .before .before .before .before .before .before .before .before .write-number .ensures) (c .before .before .before .before .before .before .before .write-number2 .ensures) (c .before .before .write-number3 .ensures)
 

@@ -9,31 +9,24 @@ use Rattle.listing.proofs.end_input.Lts as lts
 use Rattle.listing.proofs.write_end.Reads as write-end-reads
 use Rattle.stream.proofs.finish.Reads as finish-reads
 
--- src/main.rt:137:9
 returns : tie.Need-returns
 returns c = search needs
 
--- src/main.rt:140:9
 finish-requires : tie.Need-finish-requires
 finish-requires c κs = search needs
 
--- src/main.rt:141:31
 slice-reshare-prefix-write-end : tie.Need-slice-reshare-prefix-write-end
 slice-reshare-prefix-write-end c = last-fits ((c .before .before .before .before .before .before .before .before .before .before .before) .args .m) ((c .before .before .before .before .before .before .before .before .before .before .before) .args .list .now) ((c .before .before .before .before .before .before .before .before .before .before .before) .args .line .now) ((c .before .before .before .before .before .before .before .before .before .before .before) .args .out .now) ((c .before .before) .finish .last .1 .1 .1 .1 .1 .0) ((c .before .before .before .before .before .before .before .before .before .before .before) .args .t) ((c .before .before) .finish .result) ((c .before .before) .finish .ensures) ((c .before .before .before .before .before .before .before .before .before .before .before) .pre .1 .1 .2)
 
--- src/main.rt:141:31
 slice-aggregate-write-end : tie.Need-slice-aggregate-write-end
 slice-aggregate-write-end c = sym (length-take-le ((c .before .before .before) .finish .result) ((c .before .before .before) .finish .last .1 .1 .1 .1 .1 .0) (last-fits ((c .before .before .before .before .before .before .before .before .before .before .before .before) .args .m) ((c .before .before .before .before .before .before .before .before .before .before .before .before) .args .list .now) ((c .before .before .before .before .before .before .before .before .before .before .before .before) .args .line .now) ((c .before .before .before .before .before .before .before .before .before .before .before .before) .args .out .now) ((c .before .before .before) .finish .last .1 .1 .1 .1 .1 .0) ((c .before .before .before .before .before .before .before .before .before .before .before .before) .args .t) ((c .before .before .before) .finish .result) ((c .before .before .before) .finish .ensures) ((c .before .before .before .before .before .before .before .before .before .before .before .before) .pre .1 .1 .2)))
 
--- src/main.rt:141:5
 write-end-requires : tie.Need-write-end-requires
 write-end-requires c κs = last-bytes ((c .before .before .before .before .before .before .before .before .before .before .before .before) .args .m) ((c .before .before .before .before .before .before .before .before .before .before .before .before) .args .list .now) ((c .before .before .before .before .before .before .before .before .before .before .before .before) .args .line .now) ((c .before .before .before .before .before .before .before .before .before .before .before .before) .args .out .now) ((c .before .before .before) .finish .last .1 .1 .1 .1 .1 .0) ((c .before .before .before .before .before .before .before .before .before .before .before .before) .args .t) ((c .before .before .before) .finish .result) ((c .before .before .before) .finish .ensures) ((c .before .before .before .before .before .before .before .before .before .before .before .before) .args .sheet .now) ((c .before .before .before .before .before .before .before .before .before .before .before .before) .pre .1 .0) ((c .before .before .before .before .before .before .before .before .before .before .before .before) .pre .1 .1 .0) ((c .before .before .before .before .before .before .before .before .before .before .before .before) .pre .1 .1 .3) ((c .before .before .before .before .before .before) .if1 .left)
 
--- src/main.rt:131:1
 same-length : tie.Need-same-length
 same-length c = search needs
 
--- src/main.rt:131:1
 returns-2 : tie.Need-returns-2
 returns-2 c = search needs
 

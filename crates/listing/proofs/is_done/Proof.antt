@@ -7,19 +7,15 @@ use Rattle.listing.proofs.is_done.Reads as reads
 use Rattle.listing.proofs.is_done.Lts as lts
 use Rattle.stream.proofs.is_full.Reads as is-full-reads
 
--- src/main.rt:86:9
 returns : tie.Need-returns
 returns c = done-none ((c .before .before) .args .t) ((c) .if1 .taken)
 
--- src/main.rt:89:8
 is-full-requires : tie.Need-is-full-requires
 is-full-requires c κs = search needs
 
--- src/main.rt:90:9
 returns-2 : tie.Need-returns-2
 returns-2 c = done-full ((c .before .before .before .before .before) .args .t) (sym ((c .before) .is-full .ensures) ∙ (c) .if2 .taken)
 
--- src/main.rt:82:1
 returns-3 : tie.Need-returns-3
 returns-3 c = done-else ((c .before .before .before .before .before) .args .t) ((c .before .before .before) .if1 .left) (sym ((c .before) .is-full .ensures) ∙ (c) .if2 .left)
 

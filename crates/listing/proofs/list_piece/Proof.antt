@@ -13,59 +13,45 @@ use Rattle.libc.proofs.read.Reads as read-reads
 use Rattle.listing.proofs.write_piece.Reads as write-piece-reads
 use Rattle.stream.proofs.take_piece.Reads as take-piece-reads
 
--- src/main.rt:68:9
 read-requires : tie.Need-read-requires
 read-requires c κs = search needs
 
--- src/main.rt:69:9
 count-requires : tie.Need-count-requires
 count-requires c κs = search needs
 
--- src/main.rt:70:45
 slice-reshare-prefix-take-piece : tie.Need-slice-reshare-prefix-take-piece
 slice-reshare-prefix-take-piece c = search needs
 
--- src/main.rt:70:45
 slice-aggregate-take-piece : tie.Need-slice-aggregate-take-piece
 slice-aggregate-take-piece c = search needs
 
--- src/main.rt:70:9
 take-piece-requires : tie.Need-take-piece-requires
 take-piece-requires c κs = (((c .before .before .before .before .before .before .before .before .before .before .before .before .before .before .before .before) .pre) .0, (((c .before .before .before .before .before .before .before .before .before .before .before .before .before .before .before .before) .pre) .1 .1 .0 .room, ((c .before .before .before .before .before .before .before .before .before .before .before .before .before .before .before .before) .pre) .1 .1 .0 .within, search needs))
 
--- src/main.rt:73:38
 slice-reshare-prefix-write-piece : tie.Need-slice-reshare-prefix-write-piece
 slice-reshare-prefix-write-piece c = search needs
 
--- src/main.rt:73:38
 slice-aggregate-write-piece : tie.Need-slice-aggregate-write-piece
 slice-aggregate-write-piece c = search needs
 
--- src/main.rt:73:55
 slice-reshare-prefix-write-piece-2 : tie.Need-slice-reshare-prefix-write-piece-2
 slice-reshare-prefix-write-piece-2 c = used-fits ((c .before .before .before .before .before .before .before .before .before .before .before .before .before .before .before .before .before .before .before .before .before .before .before) .args .m) ((c .before .before .before .before .before .before .before .before .before .before .before .before .before .before .before .before .before .before .before .before .before .before .before) .args .list .now) (take ((c .before .before .before .before .before .before .before .before .before .before) .count .result) ((c .before .before .before .before .before .before .before .before .before .before .before .before .before .before) .read .last .1 .0)) ((c .before .before .before .before .before .before .before .before .before .before .before .before .before .before .before .before .before .before .before .before .before .before .before) .args .t .held) ((c .before .before .before .before .before .before .before .before .before .before .before .before .before .before .before .before .before .before .before .before .before .before .before) .args .line .now) ((c .before .before .before .before .before .before .before .before .before .before .before .before .before .before .before .before .before .before .before .before .before .before .before) .args .out .now) ((c .before .before .before .before .before .before) .take-piece .result) ((c .before .before .before .before .before .before) .take-piece .last .1 .1 .1 .1 .1 .0) ((c .before .before .before .before .before .before) .take-piece .last .1 .1 .1 .1 .1 .1 .0) ((c .before .before .before .before .before .before) .take-piece .ensures) (omega (arith, length-take-le ((c .before .before .before .before .before .before .before .before .before .before) .count .result) ((c .before .before .before .before .before .before .before .before .before .before .before .before .before .before) .read .last .1 .0) ((c .before .before .before .before .before .before .before .before .before .before) .count .ensures .0 .0), (c .before .before .before .before .before .before .before .before .before .before .before .before .before .before .before .before .before .before .before .before .before .before .before) .pre .1 .1 .0 .piece, (c .before .before .before .before .before .before .before .before .before .before .before .before .before) .input .given, (c .before .before .before .before .before .before .before .before .before .before) .count .ensures .0 .0))
 
--- src/main.rt:73:55
 slice-aggregate-write-piece-2 : tie.Need-slice-aggregate-write-piece-2
 slice-aggregate-write-piece-2 c = sym (length-take-le ((c .before .before .before .before .before .before .before) .take-piece .result .used) ((c .before .before .before .before .before .before .before) .take-piece .last .1 .1 .1 .1 .1 .1 .0) (used-fits ((c .before .before .before .before .before .before .before .before .before .before .before .before .before .before .before .before .before .before .before .before .before .before .before .before) .args .m) ((c .before .before .before .before .before .before .before .before .before .before .before .before .before .before .before .before .before .before .before .before .before .before .before .before) .args .list .now) (take ((c .before .before .before .before .before .before .before .before .before .before .before) .count .result) ((c .before .before .before .before .before .before .before .before .before .before .before .before .before .before .before) .read .last .1 .0)) ((c .before .before .before .before .before .before .before .before .before .before .before .before .before .before .before .before .before .before .before .before .before .before .before .before) .args .t .held) ((c .before .before .before .before .before .before .before .before .before .before .before .before .before .before .before .before .before .before .before .before .before .before .before .before) .args .line .now) ((c .before .before .before .before .before .before .before .before .before .before .before .before .before .before .before .before .before .before .before .before .before .before .before .before) .args .out .now) ((c .before .before .before .before .before .before .before) .take-piece .result) ((c .before .before .before .before .before .before .before) .take-piece .last .1 .1 .1 .1 .1 .0) ((c .before .before .before .before .before .before .before) .take-piece .last .1 .1 .1 .1 .1 .1 .0) ((c .before .before .before .before .before .before .before) .take-piece .ensures) (omega (arith, length-take-le ((c .before .before .before .before .before .before .before .before .before .before .before) .count .result) ((c .before .before .before .before .before .before .before .before .before .before .before .before .before .before .before) .read .last .1 .0) ((c .before .before .before .before .before .before .before .before .before .before .before) .count .ensures .0 .0), (c .before .before .before .before .before .before .before .before .before .before .before .before .before .before .before .before .before .before .before .before .before .before .before .before) .pre .1 .1 .0 .piece, (c .before .before .before .before .before .before .before .before .before .before .before .before .before .before) .input .given, (c .before .before .before .before .before .before .before .before .before .before .before) .count .ensures .0 .0))))
 
--- src/main.rt:73:9
 write-piece-requires : tie.Need-write-piece-requires
 write-piece-requires c κs = next-bytes ((c .before .before .before .before .before .before .before .before .before .before .before .before .before .before .before .before .before .before .before .before .before .before .before .before) .args .m) ((c .before .before .before .before .before .before .before .before .before .before .before .before .before .before .before .before .before .before .before .before .before .before .before .before) .args .list .now) (take ((c .before .before .before .before .before .before .before .before .before .before .before) .count .result) ((c .before .before .before .before .before .before .before .before .before .before .before .before .before .before .before) .read .last .1 .0)) ((c .before .before .before .before .before .before .before .before .before .before .before .before .before .before .before .before .before .before .before .before .before .before .before .before) .args .t .held) ((c .before .before .before .before .before .before .before .before .before .before .before .before .before .before .before .before .before .before .before .before .before .before .before .before) .args .line .now) ((c .before .before .before .before .before .before .before .before .before .before .before .before .before .before .before .before .before .before .before .before .before .before .before .before) .args .out .now) ((c .before .before .before .before .before .before .before) .take-piece .result) ((c .before .before .before .before .before .before .before) .take-piece .last .1 .1 .1 .1 .1 .0) ((c .before .before .before .before .before .before .before) .take-piece .last .1 .1 .1 .1 .1 .1 .0) ((c .before .before .before .before .before .before .before) .take-piece .ensures) ((c .before .before .before .before .before .before .before .before .before .before .before .before .before .before .before .before .before .before .before .before .before .before .before .before) .args .sheet .now) ((c .before .before .before .before .before .before .before .before .before .before .before .before .before .before .before .before .before .before .before .before .before .before .before .before) .pre .1 .0) ((c .before .before .before .before .before .before .before .before .before .before .before .before .before .before .before .before .before .before .before .before .before .before .before .before) .pre .1 .1 .1 .0)
 
--- src/main.rt:51:1
 same-length : tie.Need-same-length
 same-length c = search needs
 
--- src/main.rt:51:1
 same-length-2 : tie.Need-same-length-2
 same-length-2 c = search needs
 
--- src/main.rt:51:1
 same-length-3 : tie.Need-same-length-3
 same-length-3 c = search needs
 
--- src/main.rt:51:1
 returns : tie.Need-returns
 returns c = search needs
 

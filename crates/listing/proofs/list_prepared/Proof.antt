@@ -11,35 +11,27 @@ use Rattle.listing.proofs.list_words.Reads as list-words-reads
 use Rattle.listing.proofs.target_buffer.Reads as target-buffer-reads
 use Rattle.targets.proofs.prepare.Reads as prepare-reads
 
--- src/main.rt:206:23
 target-buffer-requires : tie.Need-target-buffer-requires
 target-buffer-requires c κs = search needs
 
--- src/main.rt:207:31
 slice-aggregate-prepare : tie.Need-slice-aggregate-prepare
 slice-aggregate-prepare c = search needs
 
--- src/main.rt:207:5
 prepare-requires : tie.Need-prepare-requires
 prepare-requires c κs = (((c .before .before .before .before .before) .pre) .0, omega (arith, ((c .before) .target-buffer .ensures) .0, rules ((c .before .before .before .before .before) .args .t2) (((c .before .before .before .before .before) .args .list) .now) (((c .before .before .before .before .before) .pre) .0) .states-fit, product-small ((c .before .before .before .before .before) .args .t2 .states) ((c .before .before .before .before .before) .args .t2 .letters) (rules ((c .before .before .before .before .before) .args .t2) (((c .before .before .before .before .before) .args .list) .now) (((c .before .before .before .before .before) .pre) .0) .states-fit) (rules ((c .before .before .before .before .before) .args .t2) (((c .before .before .before .before .before) .args .list) .now) (((c .before .before .before .before .before) .pre) .0) .letters-fit)), ((c .before) .target-buffer .ensures) .1)
 
--- src/main.rt:208:9
 kinds-of-requires : tie.Need-kinds-of-requires
 kinds-of-requires c κs = rules ((c .before .before .before .before .before .before .before .before .before) .args .t2) (((c .before .before .before .before .before .before .before .before .before) .args .list) .now) (((c .before .before .before .before .before .before .before .before .before) .pre) .0) .states-fit
 
--- src/main.rt:209:32
 slice-aggregate-list-words : tie.Need-slice-aggregate-list-words
 slice-aggregate-list-words c = search needs
 
--- src/main.rt:209:5
 list-words-requires : tie.Need-list-words-requires
 list-words-requires c κs = (record { good = ((c .before .before .before .before .before .before .before .before .before .before .before .before) .pre) .0; prepared = (c .before .before .before .before .before .before) .prepare .ensures; sets = (c .before .before) .kinds-of .ensures }, ((c .before .before .before .before .before .before .before .before .before .before .before .before) .pre) .1)
 
--- src/main.rt:201:1
 same-length : tie.Need-same-length
 same-length c = search needs
 
--- src/main.rt:201:1
 returns : tie.Need-returns
 returns c = search needs
 

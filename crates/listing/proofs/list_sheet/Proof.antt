@@ -14,59 +14,45 @@ use Rattle.listing.proofs.transition_buffer.Reads as transition-buffer-
 use Rattle.listing.proofs.write_opening.Reads as write-opening-reads
 use Rattle.stream.proofs.open.Reads as open-reads
 
--- src/main.rt:164:20
 transition-buffer-requires : tie.Need-transition-buffer-requires
 transition-buffer-requires c κs = search needs
 
--- src/main.rt:165:19
 large-buffer-requires : tie.Need-large-buffer-requires
 large-buffer-requires c κs = search needs
 
--- src/main.rt:166:38
 slice-aggregate-open : tie.Need-slice-aggregate-open
 slice-aggregate-open c = search needs
 
--- src/main.rt:166:49
 slice-aggregate-open-2 : tie.Need-slice-aggregate-open-2
 slice-aggregate-open-2 c = search needs
 
--- src/main.rt:166:9
 open-requires : tie.Need-open-requires
 open-requires c κs = search needs
 
--- src/main.rt:168:30
 array-share-prefix-out : tie.Need-array-share-prefix-out
 array-share-prefix-out c = opening-fits ((c .before .before .before .before .before .before .before .before) .args .sheet .now) ((c .before .before .before .before .before .before) .transition-buffer .result) ((c .before .before) .«open» .last .1 .0) ((c .before .before .before .before .before) .large-buffer .result) ((c .before .before) .«open» .last .1 .1 .0) ((c .before .before) .«open» .result) ((c .before .before) .«open» .ensures) (omega (arith, (c .before .before .before .before .before) .large-buffer .ensures))
 
--- src/main.rt:168:30
 slice-aggregate-write-opening : tie.Need-slice-aggregate-write-opening
 slice-aggregate-write-opening c = sym (length-take-le ((c .before .before .before) .«open» .result .used) ((c .before .before .before) .«open» .last .1 .1 .0) (opening-fits ((c .before .before .before .before .before .before .before .before .before) .args .sheet .now) ((c .before .before .before .before .before .before .before) .transition-buffer .result) ((c .before .before .before) .«open» .last .1 .0) ((c .before .before .before .before .before .before) .large-buffer .result) ((c .before .before .before) .«open» .last .1 .1 .0) ((c .before .before .before) .«open» .result) ((c .before .before .before) .«open» .ensures) (omega (arith, (c .before .before .before .before .before .before) .large-buffer .ensures))))
 
--- src/main.rt:168:9
 write-opening-requires : tie.Need-write-opening-requires
 write-opening-requires c κs = opening-bytes ((c .before .before .before .before .before .before .before .before .before) .args .sheet .now) ((c .before .before .before .before .before .before .before) .transition-buffer .result) ((c .before .before .before) .«open» .last .1 .0) ((c .before .before .before .before .before .before) .large-buffer .result) ((c .before .before .before) .«open» .last .1 .1 .0) ((c .before .before .before) .«open» .result) ((c .before .before .before) .«open» .ensures)
 
--- src/main.rt:169:9
 returns : tie.Need-returns
 returns c = search needs
 
--- src/main.rt:172:9
 returns-2 : tie.Need-returns-2
 returns-2 c = search needs
 
--- src/main.rt:175:32
 slice-aggregate-list-prepared : tie.Need-slice-aggregate-list-prepared
 slice-aggregate-list-prepared c = search needs
 
--- src/main.rt:175:39
 slice-aggregate-list-prepared-2 : tie.Need-slice-aggregate-list-prepared-2
 slice-aggregate-list-prepared-2 c = search needs
 
--- src/main.rt:175:5
 list-prepared-requires : tie.Need-list-prepared-requires
 list-prepared-requires c κs = (opened-obeys ((c .before .before .before .before .before .before .before .before .before .before .before .before .before .before .before .before) .args .sheet .now) ((c .before .before .before .before .before .before .before .before .before .before .before .before .before .before) .transition-buffer .result) ((c .before .before .before .before .before .before .before .before .before .before) .«open» .last .1 .0) ((c .before .before .before .before .before .before .before .before .before .before .before .before .before) .large-buffer .result) ((c .before .before .before .before .before .before .before .before .before .before) .«open» .last .1 .1 .0) ((c .before .before .before .before .before .before .before .before .before .before) .«open» .result) ((c .before .before .before .before .before .before .before .before .before .before) .«open» .ensures) (omega (arith, (c .before .before .before .before .before .before .before .before .before .before .before .before .before .before) .transition-buffer .ensures)) (not-false _ ((c .before .before .before) .if2 .left)), (opened-table ((c .before .before .before .before .before .before .before .before .before .before .before .before .before .before .before .before) .args .sheet .now) ((c .before .before .before .before .before .before .before .before .before .before .before .before .before .before) .transition-buffer .result) ((c .before .before .before .before .before .before .before .before .before .before) .«open» .last .1 .0) ((c .before .before .before .before .before .before .before .before .before .before .before .before .before) .large-buffer .result) ((c .before .before .before .before .before .before .before .before .before .before) .«open» .last .1 .1 .0) ((c .before .before .before .before .before .before .before .before .before .before) .«open» .result) ((c .before .before .before .before .before .before .before .before .before .before) .«open» .ensures) (omega (arith, (c .before .before .before .before .before .before .before .before .before .before .before .before .before .before) .transition-buffer .ensures)) (not-false _ ((c .before .before .before) .if2 .left)), search needs))
 
--- src/main.rt:163:1
 returns-3 : tie.Need-returns-3
 returns-3 c = search needs
 

@@ -10,39 +10,30 @@ use Rattle.listing.proofs.end_input.Reads as end-input-reads
 use Rattle.listing.proofs.line_buffer.Reads as line-buffer-reads
 use Rattle.listing.proofs.take_input.Reads as take-input-reads
 
--- src/main.rt:142:21
 buffer-requires : tie.Need-buffer-requires
 buffer-requires c κs = search needs
 
--- src/main.rt:143:20
 line-buffer-requires : tie.Need-line-buffer-requires
 line-buffer-requires c κs = search needs
 
--- src/main.rt:144:40
 slice-aggregate-take-input : tie.Need-slice-aggregate-take-input
 slice-aggregate-take-input c = search needs
 
--- src/main.rt:144:52
 slice-aggregate-take-input-2 : tie.Need-slice-aggregate-take-input-2
 slice-aggregate-take-input-2 c = search needs
 
--- src/main.rt:144:9
 take-input-requires : tie.Need-take-input-requires
 take-input-requires c κs = ((c .before .before .before .before .before .before .before .before .before) .pre .0, ((c .before .before .before .before .before .before .before .before .before) .pre .1 .0, record { piece = omega (arith, (c .before .before .before .before) .buffer .ensures); room = sym ((c .before .before .before) .line-buffer .ensures); within = omega arith }))
 
--- src/main.rt:145:31
 slice-aggregate-end-input : tie.Need-slice-aggregate-end-input
 slice-aggregate-end-input c = search needs
 
--- src/main.rt:145:5
 end-input-requires : tie.Need-end-input-requires
 end-input-requires c κs = ((c .before .before .before .before .before .before .before .before .before .before .before .before .before .before .before .before) .pre .0, ((c .before .before .before .before .before .before .before .before .before .before .before .before .before .before .before .before) .pre .1 .0, ((c .before .before .before .before .before .before) .take-input .ensures .0, omega (arith, (c .before .before .before .before .before .before) .take-input .ensures .1, (c .before .before .before .before .before .before .before .before .before .before) .line-buffer .ensures), omega (arith, (c .before .before .before .before .before .before .before .before .before .before .before .before .before .before .before .before) .pre .1 .1, (c .before .before .before) .out .given), (c .before .before .before .before .before .before) .take-input .ensures .2)))
 
--- src/main.rt:137:1
 same-length : tie.Need-same-length
 same-length c = search needs
 
--- src/main.rt:137:1
 returns : tie.Need-returns
 returns c = search needs
 

@@ -9,31 +9,24 @@ use Rattle.io.proofs.large_buffer.Reads as large-buffer-reads
 use Rattle.listing.proofs.list_sheet.Reads as list-sheet-reads
 use Rattle.listing.proofs.read_table.Reads as read-table-reads
 
--- src/main.rt:192:21
 large-buffer-requires : tie.Need-large-buffer-requires
 large-buffer-requires c κs = search needs
 
--- src/main.rt:193:24
 slice-aggregate-read-table : tie.Need-slice-aggregate-read-table
 slice-aggregate-read-table c = search needs
 
--- src/main.rt:193:9
 read-table-requires : tie.Need-read-table-requires
 read-table-requires c κs = search needs
 
--- src/main.rt:194:16
 array-share-prefix-table : tie.Need-array-share-prefix-table
 array-share-prefix-table c = search needs
 
--- src/main.rt:194:16
 slice-aggregate-list-sheet : tie.Need-slice-aggregate-list-sheet
 slice-aggregate-list-sheet c = sym (length-take-le ((c .before .before) .read-table .result) ((c .before .before) .read-table .last .0) ((c .before .before) .read-table .ensures))
 
--- src/main.rt:194:5
 list-sheet-requires : tie.Need-list-sheet-requires
 list-sheet-requires c κs = search needs
 
--- src/main.rt:191:1
 returns : tie.Need-returns
 returns c = search needs
 

@@ -21,63 +21,48 @@ Inv-loop sheet m list targets kinds input₀ line₀ out₀ t₀ turns₀ input 
 abbrev μ-loop : tie.MeasureT-loop
 μ-loop sheet m list targets kinds input₀ line₀ out₀ t₀ turns₀ input line out t turns = turns
 
--- src/main.rt:110:15
 begin-requires : tie.Need-begin-requires Inv-loop μ-loop
 begin-requires c κs = search needs
 
--- src/main.rt:115:5
 loop-holds : tie.Need-loop-holds Inv-loop μ-loop
 loop-holds c = (reached-begin ((c .before .before .before .before .before .before .before) .args .line .now) ((c) .begin .result) ((c) .begin .ensures) .0, reached-begin ((c .before .before .before .before .before .before .before) .args .line .now) ((c) .begin .result) ((c) .begin .ensures) .1, refl, refl, refl, refl)
 
--- src/main.rt:116:9
 list-piece-requires : tie.Need-list-piece-requires Inv-loop μ-loop
 list-piece-requires c κs = ((c .before .before .before .before .before .before .before .before .before .before .before .before) .pre .0, ((c .before .before .before .before .before .before .before .before .before .before .before .before) .pre .1 .0, (ready-same ((c .before .before .before .before .before .before .before .before .before .before .before .before) .args .input .now) ((c .before .before .before .before .before .before .before .before .before .before .before .before) .args .line .now) ((c .before .before .before .before .before .before .before .before .before .before .before .before) .args .out .now) ((c .before .before .before .before) .loop .input) ((c .before .before .before .before) .loop .line) ((c .before .before .before .before) .loop .out) _ ((c .before .before .before .before) .loop .t .held) ((c .before .before .before .before .before .before .before .before .before .before .before .before) .pre .1 .1) ((c .before .before .before .before) .loop .inv .3) ((c .before .before .before .before) .loop .inv .4) ((c .before .before .before .before) .loop .inv .5) ((c .before .before .before .before) .loop .inv .1), ((c .before .before .before .before) .loop .inv .0, (c .before .before .before .before) .loop .inv .2))))
 
--- src/main.rt:117:12
 is-done-requires : tie.Need-is-done-requires Inv-loop μ-loop
 is-done-requires c κs = search needs
 
--- src/main.rt:118:13
 same-length : tie.Need-same-length Inv-loop μ-loop
 same-length c = (c .before .before .before .before .before .before .before) .input .given ∙ (c .before .before .before .before .before .before .before .before .before .before .before .before .before) .loop .inv .3
 
--- src/main.rt:118:13
 same-length-2 : tie.Need-same-length-2 Inv-loop μ-loop
 same-length-2 c = (c .before .before .before .before .before) .line .given ∙ (c .before .before .before .before .before .before .before .before .before .before .before .before .before) .loop .inv .4
 
--- src/main.rt:118:13
 same-length-3 : tie.Need-same-length-3 Inv-loop μ-loop
 same-length-3 c = (c .before .before .before) .out .given ∙ (c .before .before .before .before .before .before .before .before .before .before .before .before .before) .loop .inv .5
 
--- src/main.rt:118:13
 returns : tie.Need-returns Inv-loop μ-loop
 returns c = (reached-more ((c .before .before .before .before .before .before .before .before .before .before .before .before .before .before .before .before .before .before .before .before .before) .args .m) ((c .before .before .before .before .before .before .before .before .before .before .before .before .before .before .before .before .before .before .before .before .before) .args .list .now) ((c .before .before .before .before .before .before .before .before .before .before .before .before .before) .loop .t .held) ((c .before .before .before .before .before .before .before .before .before .before .before .before .before) .loop .line) ((c .before .before .before .before .before .before .before .before .before .before .before .before .before) .loop .out) ((c .before .before .before .before .before .before .before .before) .list-piece .result) ((c .before .before .before .before .before .before .before .before) .list-piece .last .1 .1 .1 .1 .1 .0) ((c .before .before .before .before .before .before .before .before) .list-piece .last .1 .1 .1 .1 .1 .1 .0) ((c .before .before .before .before .before .before .before .before) .list-piece .last .1 .1 .1 .1 .1 .1 .1 .0) ((c .before .before .before .before .before .before .before .before .before .before .before .before .before) .loop .inv .0) ((c .before .before .before .before .before .before .before .before) .list-piece .ensures), (c .before .before .before .before .before .before .before .before) .list-piece .ensures .within, sym ((c .before) .is-done .ensures) ∙ (c) .if1 .taken)
 
--- src/main.rt:120:9
 sub-turns : tie.Need-sub-turns Inv-loop μ-loop
 sub-turns c = omega arith
 
--- src/main.rt:115:5
 loop-less : tie.Need-loop-less Inv-loop μ-loop
 loop-less c = omega arith
 
--- src/main.rt:115:5
 loop-again : tie.Need-loop-again Inv-loop μ-loop
 loop-again c = (reached-more ((c .before .before .before .before .before .before .before .before .before .before .before .before .before .before .before .before .before .before .before .before .before) .args .m) ((c .before .before .before .before .before .before .before .before .before .before .before .before .before .before .before .before .before .before .before .before .before) .args .list .now) ((c .before .before .before .before .before .before .before .before .before .before .before .before .before) .loop .t .held) ((c .before .before .before .before .before .before .before .before .before .before .before .before .before) .loop .line) ((c .before .before .before .before .before .before .before .before .before .before .before .before .before) .loop .out) ((c .before .before .before .before .before .before .before .before) .list-piece .result) ((c .before .before .before .before .before .before .before .before) .list-piece .last .1 .1 .1 .1 .1 .0) ((c .before .before .before .before .before .before .before .before) .list-piece .last .1 .1 .1 .1 .1 .1 .0) ((c .before .before .before .before .before .before .before .before) .list-piece .last .1 .1 .1 .1 .1 .1 .1 .0) ((c .before .before .before .before .before .before .before .before .before .before .before .before .before) .loop .inv .0) ((c .before .before .before .before .before .before .before .before) .list-piece .ensures), (c .before .before .before .before .before .before .before .before) .list-piece .ensures .within, still-open ((c .before .before .before .before .before .before .before .before) .list-piece .result) ((c .before) .is-done .result) ((c .before) .is-done .ensures) ((c) .if1 .left), (c .before .before .before .before .before .before .before) .input .given ∙ (c .before .before .before .before .before .before .before .before .before .before .before .before .before) .loop .inv .3, (c .before .before .before .before .before) .line .given ∙ (c .before .before .before .before .before .before .before .before .before .before .before .before .before) .loop .inv .4, (c .before .before .before) .out .given ∙ (c .before .before .before .before .before .before .before .before .before .before .before .before .before) .loop .inv .5)
 
--- src/main.rt:96:1
 same-length-4 : tie.Need-same-length-4 Inv-loop μ-loop
 same-length-4 c = (c .before .before) .loop .inv .3
 
--- src/main.rt:96:1
 same-length-5 : tie.Need-same-length-5 Inv-loop μ-loop
 same-length-5 c = (c .before .before) .loop .inv .4
 
--- src/main.rt:96:1
 same-length-6 : tie.Need-same-length-6 Inv-loop μ-loop
 same-length-6 c = (c .before .before) .loop .inv .5
 
--- src/main.rt:96:1
 returns-2 : tie.Need-returns-2 Inv-loop μ-loop
 returns-2 c = ((c .before .before) .loop .inv .0, (c .before .before) .loop .inv .1, done-closed (record { held = (c .before .before) .loop .t .held; count = (c .before .before) .loop .t .count; closed = true }) refl)
 

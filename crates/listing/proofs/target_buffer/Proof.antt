@@ -7,7 +7,6 @@ use Rattle.listing.proofs.target_buffer.Tie as tie
 use Rattle.listing.proofs.target_buffer.Reads as reads
 use Rattle.listing.proofs.target_buffer.Lts as lts
 
--- src/main.rt:194:1
 returns : tie.Need-returns
 returns c = (sym (length-replicate {A = ℕ} 16065 0), zeros-at 16065)
 

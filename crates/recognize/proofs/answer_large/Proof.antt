@@ -7,19 +7,15 @@ use Rattle.recognize.proofs.answer_large.Reads as reads
 use Rattle.recognize.proofs.answer_large.Lts as lts
 use Rattle.recognize.proofs.answer_with.Reads as answer-with-reads
 
--- src/lib.rt:89:26
 slice-aggregate-answer-with : tie.Need-slice-aggregate-answer-with
 slice-aggregate-answer-with c = search needs
 
--- src/lib.rt:89:5
 answer-with-requires : tie.Need-answer-with-requires
 answer-with-requires c κs = (((c .before .before .before .before .before) .pre) .0, ((c .before .before .before .before .before) .pre) .1, ((c .before .before .before .before .before) .pre) .2, ((c .before .before .before .before .before) .pre) .3, zeros-at 16065)
 
--- src/lib.rt:77:1
 same-length : tie.Need-same-length
 same-length c = search needs
 
--- src/lib.rt:77:1
 returns : tie.Need-returns
 returns c = search needs
 

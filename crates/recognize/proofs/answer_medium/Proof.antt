@@ -7,19 +7,15 @@ use Rattle.recognize.proofs.answer_medium.Reads as reads
 use Rattle.recognize.proofs.answer_medium.Lts as lts
 use Rattle.recognize.proofs.answer_with.Reads as answer-with-reads
 
--- src/lib.rt:74:26
 slice-aggregate-answer-with : tie.Need-slice-aggregate-answer-with
 slice-aggregate-answer-with c = search needs
 
--- src/lib.rt:74:5
 answer-with-requires : tie.Need-answer-with-requires
 answer-with-requires c κs = (((c .before .before .before .before .before) .pre) .0, ((c .before .before .before .before .before) .pre) .1, ((c .before .before .before .before .before) .pre) .2, ((c .before .before .before .before .before) .pre) .3, zeros-at 2048)
 
--- src/lib.rt:62:1
 same-length : tie.Need-same-length
 same-length c = search needs
 
--- src/lib.rt:62:1
 returns : tie.Need-returns
 returns c = search needs
 

@@ -17,75 +17,58 @@ use Rattle.recognize.proofs.answer_small.Reads as answer-small-reads
 use Rattle.recognize.proofs.is_too_short.Reads as is-too-short-reads
 use Rattle.targets.proofs.sets_of.Reads as sets-of-reads
 
--- src/lib.rt:112:9
 table-and-word-requires : tie.Need-table-and-word-requires
 table-and-word-requires c κs = search needs
 
--- src/lib.rt:114:9
 returns : tie.Need-returns
 returns c = refused-table ((c .before .before .before .before .before) .args .m) (((c .before .before .before .before .before) .args .list) .now) (((c .before .before .before .before .before) .args .word) .now) (((c .before .before .before .before .before) .args .run) .now) ((c .before) .table-and-word .result) ((c .before) .table-and-word .ensures) ((c) .if1 .taken)
 
--- src/lib.rt:116:18
 mul-needed : tie.Need-mul-needed
 mul-needed c = record { fits = omega (arith, rules ((c .before .before .before .before .before .before) .args .m) (((c .before .before .before .before .before .before) .args .list) .now) (table-good 255 ((c .before .before .before .before .before .before) .args .m) (((c .before .before .before .before .before .before) .args .list) .now) (((c .before .before .before .before .before .before) .args .word) .now) (sym ((c .before .before) .table-and-word .ensures) ∙ ((c .before) .if1 .left)) .0) .states-fit) }
 
--- src/lib.rt:116:34
 add-needed : tie.Need-add-needed
 add-needed c = search needs
 
--- src/lib.rt:116:18
 mul-needed-2 : tie.Need-mul-needed-2
 mul-needed-2 c = let good = table-good 255 ((c .before .before .before .before .before .before) .args .m) (((c .before .before .before .before .before .before) .args .list) .now) (((c .before .before .before .before .before .before) .args .word) .now) (sym ((c .before .before) .table-and-word .ensures) ∙ ((c .before) .if1 .left)) in record { fits = omega (arith, needed-fits ((c .before .before .before .before .before .before) .args .m) (((c .before .before .before .before .before .before) .args .list) .now) (((c .before .before .before .before .before .before) .args .word) .now) (good .0) (good .1)) }
 
--- src/lib.rt:117:8
 is-too-short-requires : tie.Need-is-too-short-requires
 is-too-short-requires c κs = search needs
 
--- src/lib.rt:118:9
 returns-2 : tie.Need-returns-2
 unfolding runBound
 returns-2 c = refused-slice ((c .before .before .before .before .before .before .before .before) .args .m) (((c .before .before .before .before .before .before .before .before) .args .list) .now) (((c .before .before .before .before .before .before .before .before) .args .word) .now) (((c .before .before .before .before .before .before .before .before) .args .run) .now) ((c .before .before .before .before) .table-and-word .result) ((c .before .before .before .before) .table-and-word .ensures) ((c .before .before .before) .if1 .left) _ refl (((c .before) .is-too-short .ensures) .0 ((c) .if2 .taken))
 
--- src/lib.rt:120:9
 sets-of-requires : tie.Need-sets-of-requires
 sets-of-requires c κs = (rules ((c .before .before .before .before .before .before .before .before) .args .m) (((c .before .before .before .before .before .before .before .before) .args .list) .now) (table-good 255 ((c .before .before .before .before .before .before .before .before) .args .m) (((c .before .before .before .before .before .before .before .before) .args .list) .now) (((c .before .before .before .before .before .before .before .before) .args .word) .now) (sym ((c .before .before .before .before) .table-and-word .ensures) ∙ ((c .before .before .before) .if1 .left)) .0) .states-fit, rules ((c .before .before .before .before .before .before .before .before) .args .m) (((c .before .before .before .before .before .before .before .before) .args .list) .now) (table-good 255 ((c .before .before .before .before .before .before .before .before) .args .m) (((c .before .before .before .before .before .before .before .before) .args .list) .now) (((c .before .before .before .before .before .before .before .before) .args .word) .now) (sym ((c .before .before .before .before) .table-and-word .ensures) ∙ ((c .before .before .before) .if1 .left)) .0) .letters-fit)
 
--- src/lib.rt:122:9
 answer-small-requires : tie.Need-answer-small-requires
 unfolding runBound
 answer-small-requires c κs = (sym ((c .before .before .before .before .before .before .before) .table-and-word .ensures) ∙ ((c .before .before .before .before .before .before) .if1 .left), refl, ((c .before .before .before .before) .is-too-short .ensures) .1 ((c .before .before .before) .if2 .left), omega (arith, ((c .before .before) .sets-of .ensures), ((c .before) .if3 .taken)))
 
--- src/lib.rt:122:9
 same-length : tie.Need-same-length
 same-length c = search needs
 
--- src/lib.rt:122:9
 returns-3 : tie.Need-returns-3
 returns-3 c = search needs
 
--- src/lib.rt:125:9
 answer-medium-requires : tie.Need-answer-medium-requires
 unfolding runBound
 answer-medium-requires c κs = (sym ((c .before .before .before .before .before .before .before .before) .table-and-word .ensures) ∙ ((c .before .before .before .before .before .before .before) .if1 .left), refl, ((c .before .before .before .before .before) .is-too-short .ensures) .1 ((c .before .before .before .before) .if2 .left), omega (arith, ((c .before .before .before) .sets-of .ensures), ((c .before) .if4 .taken)))
 
--- src/lib.rt:125:9
 same-length-2 : tie.Need-same-length-2
 same-length-2 c = search needs
 
--- src/lib.rt:125:9
 returns-4 : tie.Need-returns-4
 returns-4 c = search needs
 
--- src/lib.rt:127:5
 answer-large-requires : tie.Need-answer-large-requires
 unfolding runBound
 answer-large-requires c κs = (sym ((c .before .before .before .before .before .before .before .before) .table-and-word .ensures) ∙ ((c .before .before .before .before .before .before .before) .if1 .left), refl, ((c .before .before .before .before .before) .is-too-short .ensures) .1 ((c .before .before .before .before) .if2 .left), let r = rules ((c .before .before .before .before .before .before .before .before .before .before .before .before) .args .m) (((c .before .before .before .before .before .before .before .before .before .before .before .before) .args .list) .now) (table-good 255 ((c .before .before .before .before .before .before .before .before .before .before .before .before) .args .m) (((c .before .before .before .before .before .before .before .before .before .before .before .before) .args .list) .now) (((c .before .before .before .before .before .before .before .before .before .before .before .before) .args .word) .now) (sym ((c .before .before .before .before .before .before .before .before) .table-and-word .ensures) ∙ ((c .before .before .before .before .before .before .before) .if1 .left)) .0) in omega (arith, r .states-fit, product-small ((c .before .before .before .before .before .before .before .before .before .before .before .before) .args .m .states) ((c .before .before .before .before .before .before .before .before .before .before .before .before) .args .m .letters) (r .states-fit) (r .letters-fit)))
 
--- src/lib.rt:109:1
 same-length-3 : tie.Need-same-length-3
 same-length-3 c = search needs
 
--- src/lib.rt:109:1
 returns-5 : tie.Need-returns-5
 returns-5 c = search needs
 

@@ -10,43 +10,33 @@ use Rattle.product.proofs.join.Reads as join-reads
 use Rattle.search.proofs.no_transitions.Reads as no-transitions-reads
 use Rattle.search.proofs.search.Reads as search-reads
 
--- src/lib.rt:96:20
 no-transitions-requires : tie.Need-no-transitions-requires
 no-transitions-requires c κs = search needs
 
--- src/lib.rt:97:67
 slice-aggregate-join : tie.Need-slice-aggregate-join
 slice-aggregate-join c = search needs
 
--- src/lib.rt:97:9
 join-requires : tie.Need-join-requires
 join-requires c κs = search needs
 
--- src/lib.rt:100:9
 returns : tie.Need-returns
 returns c = let r = join-refuses ((c .before .before .before .before .before .before .before .before .before .before .before .before) .args .first) (((c .before .before .before .before .before .before .before .before .before .before .before .before) .args .first-list) .now) ((c .before .before .before .before .before .before .before .before .before .before .before .before) .args .second) (((c .before .before .before .before .before .before .before .before .before .before .before .before) .args .second-list) .now) _ (omega (arith, (c .before .before .before .before .before .before) .no-transitions .ensures)) ((c .before .before .before .before) .join .result) _ ((c .before .before .before .before) .join .ensures .0) ((c .before .before .before .before) .join .ensures .1) (c .if1 .taken) in fault ((c .before .before .before .before .before .before .before .before .before .before .before .before) .args .first) (((c .before .before .before .before .before .before .before .before .before .before .before .before) .args .first-list) .now) ((c .before .before .before .before .before .before .before .before .before .before .before .before) .args .second) (((c .before .before .before .before .before .before .before .before .before .before .before .before) .args .second-list) .now) (((c .before .before .before .before .before .before .before .before .before .before .before .before) .args .word) .now) (((c .before .before .before .before .before .before .before .before .before .before .before .before) .args .first-run) .now) (((c .before .before .before .before .before .before .before .before .before .before .before .before) .args .second-run) .now) _ (r .0) (r .1)
 
--- src/lib.rt:109:9
 slice-aggregate-search : tie.Need-slice-aggregate-search
 slice-aggregate-search c = search needs
 
--- src/lib.rt:103:5
 search-requires : tie.Need-search-requires
 search-requires c κs = join-gives ((c .before .before .before .before .before .before .before .before .before .before .before .before .before .before .before .before .before) .args .first) (((c .before .before .before .before .before .before .before .before .before .before .before .before .before .before .before .before .before) .args .first-list) .now) ((c .before .before .before .before .before .before .before .before .before .before .before .before .before .before .before .before .before) .args .second) (((c .before .before .before .before .before .before .before .before .before .before .before .before .before .before .before .before .before) .args .second-list) .now) _ (omega (arith, (c .before .before .before .before .before .before .before .before .before .before .before) .no-transitions .ensures)) ((c .before .before .before .before .before .before .before .before .before) .join .result) _ ((c .before .before .before .before .before .before .before .before .before) .join .ensures .0) ((c .before .before .before .before .before .before .before .before .before) .join .ensures .1) ((c .before .before .before .before .before) .if1 .left)
 
--- src/lib.rt:85:1
 same-length : tie.Need-same-length
 same-length c = search needs
 
--- src/lib.rt:85:1
 same-length-2 : tie.Need-same-length-2
 same-length-2 c = search needs
 
--- src/lib.rt:85:1
 same-length-3 : tie.Need-same-length-3
 same-length-3 c = search needs
 
--- src/lib.rt:85:1
 returns-2 : tie.Need-returns-2
 returns-2 c = search needs
 

@@ -20,35 +20,27 @@ Inv-loop bytes i₀ i = (i ≤ length bytes) × (allIn hasLetter (drop i bytes) 
 abbrev μ-loop : tie.MeasureT-loop
 μ-loop bytes i₀ i = length bytes - i
 
--- src/lib.rt:42:5
 loop-holds : tie.Need-loop-holds Inv-loop μ-loop
 loop-holds c = (omega arith, refl)
 
--- src/lib.rt:43:19
 shared-slice-read-letter : tie.Need-shared-slice-read-letter Inv-loop μ-loop
 shared-slice-read-letter c = omega (arith, (c .before .loop-test .taken))
 
--- src/lib.rt:43:12
 letter-requires : tie.Need-letter-requires Inv-loop μ-loop
 letter-requires c κs = search needs
 
--- src/lib.rt:44:13
 returns : tie.Need-returns Inv-loop μ-loop
 returns c = in-fails hasLetter ((c .before .before .before .before .before .before .args .bytes) .now) (c .before .before .before .before .loop .i) 0 false ((c .before .before .before .before .loop .inv) .1) (c .before .before .before .loop-test .taken) (letter-none (getD ((c .before .before .before .before .before .before .args .bytes) .now) (c .before .before .before .before .loop .i) 0) (c .before .letter .result) (c .before .letter .ensures) (c .if1 .taken)) refl
 
--- src/lib.rt:46:9
 add-i : tie.Need-add-i Inv-loop μ-loop
 add-i c = omega (arith, (c .before .before .before .loop-test .taken), (c .before .before .before .before .before .before .good))
 
--- src/lib.rt:42:5
 loop-less : tie.Need-loop-less Inv-loop μ-loop
 loop-less c = omega (arith, (c .before .before .before .loop-test .taken))
 
--- src/lib.rt:42:5
 loop-again : tie.Need-loop-again Inv-loop μ-loop
 loop-again c = (omega (arith, (c .before .before .before .loop-test .taken)), in-goes-on hasLetter ((c .before .before .before .before .before .before .args .bytes) .now) (c .before .before .before .before .loop .i) 0 true ((c .before .before .before .before .loop .inv) .1) (c .before .before .before .loop-test .taken) (letter-some (getD ((c .before .before .before .before .before .before .args .bytes) .now) (c .before .before .before .before .loop .i) 0) (c .before .letter .result) (c .before .letter .ensures) (c .if1 .left)) refl)
 
--- src/lib.rt:38:1
 returns-2 : tie.Need-returns-2 Inv-loop μ-loop
 returns-2 c = in-done hasLetter ((c .before .before .before .args .bytes) .now) (c .before .loop .i) ((c .before .loop .inv) .1) (c .loop-test .left)
 

@@ -6,11 +6,9 @@ use Rattle.spelling.proofs.letter.Tie as tie
 use Rattle.spelling.proofs.letter.Reads as reads
 use Rattle.spelling.proofs.letter.Lts as lts
 
--- src/lib.rt:34:5
 array-read-result : tie.Need-array-read-result
 array-read-result c = search needs
 
--- src/lib.rt:31:1
 returns : tie.Need-returns
 unfolding letters
 returns c = letter-rule (c .args .b) (omega arith)

@@ -9,31 +9,24 @@ use Rattle.spelling.proofs.translate.Lts as lts
 use Rattle.spelling.proofs.have_letters.Reads as have-letters-reads
 use Rattle.spelling.proofs.write_letters.Reads as write-letters-reads
 
--- src/lib.rt:72:9
 returns : tie.Need-returns
 returns c = translate-says _ _ _ _ (translate-long ((c .before .before .before .args .bytes) .now) ((c .before .before .before .args .word) .now) (c .if1 .taken))
 
--- src/lib.rt:77:9
 have-letters-requires : tie.Need-have-letters-requires
 have-letters-requires c κs = search needs
 
--- src/lib.rt:78:9
 returns-2 : tie.Need-returns-2
 returns-2 c = translate-says _ _ _ _ (translate-unknown ((c .before .before .before .before .before .args .bytes) .now) ((c .before .before .before .before .before .args .word) .now) (c .before .before .if1 .left) (c .before .have-letters .result) (c .before .have-letters .ensures) (not-true _ (c .if2 .taken)))
 
--- src/lib.rt:84:9
 returns-3 : tie.Need-returns-3
 returns-3 c = translate-says _ _ _ _ (translate-short ((c .before .before .before .before .before .before .args .bytes) .now) ((c .before .before .before .before .before .before .args .word) .now) (c .before .before .before .if1 .left) (c .before .before .have-letters .result) (c .before .before .have-letters .ensures) (not-false _ (c .before .if2 .left)) (c .if3 .taken))
 
--- src/lib.rt:89:5
 write-letters-requires : tie.Need-write-letters-requires
 write-letters-requires c κs = search needs
 
--- src/lib.rt:67:1
 same-length : tie.Need-same-length
 same-length c = search needs
 
--- src/lib.rt:67:1
 returns-4 : tie.Need-returns-4
 returns-4 c = translate-says _ _ _ _ (translate-done ((c .before .before .before .before .before .before .before .before .before .before .args .bytes) .now) ((c .before .before .before .before .before .before .before .before .before .before .args .word) .now) (c .before .before .before .before .before .before .before .if1 .left) (c .before .before .before .before .before .before .have-letters .result) (c .before .before .before .before .before .before .have-letters .ensures) (not-false _ (c .before .before .before .before .before .if2 .left)) (c .before .before .before .before .if3 .left) ((c .before .before .write-letters .last) .1 .0) (c .before .before .write-letters .ensures))
 

@@ -18,39 +18,30 @@ Inv-loop bytes word₀ i₀ word i = (i ≤ length bytes) × (length word ≡ le
 abbrev μ-loop : tie.MeasureT-loop
 μ-loop bytes word₀ i₀ word i = length bytes - i
 
--- src/lib.rt:57:5
 loop-holds : tie.Need-loop-holds Inv-loop μ-loop
 loop-holds c = (omega arith, refl, refl)
 
--- src/lib.rt:58:26
 shared-slice-read-letter : tie.Need-shared-slice-read-letter Inv-loop μ-loop
 shared-slice-read-letter c = omega (arith, (c .before .loop-test .taken))
 
--- src/lib.rt:58:19
 letter-requires : tie.Need-letter-requires Inv-loop μ-loop
 letter-requires c κs = search needs
 
--- src/lib.rt:58:9
 slice-write-word : tie.Need-slice-write-word Inv-loop μ-loop
 slice-write-word c = omega (arith, (c .before .before .loop-test .taken), (c .before .before .before .loop .inv) .1, (c .before .before .before .before .before .before .pre))
 
--- src/lib.rt:59:9
 add-i : tie.Need-add-i Inv-loop μ-loop
 add-i c = omega (arith, (c .before .before .loop-test .taken), (c .before .before .before .before .before .before .good))
 
--- src/lib.rt:57:5
 loop-less : tie.Need-loop-less Inv-loop μ-loop
 loop-less c = omega (arith, (c .before .before .loop-test .taken))
 
--- src/lib.rt:57:5
 loop-again : tie.Need-loop-again Inv-loop μ-loop
 loop-again c = (omega (arith, (c .before .before .loop-test .taken)), length-set (c .before .before .before .loop .word) (c .before .before .before .loop .i) (c .letter .result) ∙ (c .before .before .before .loop .inv) .1, letters-more ((c .before .before .before .before .before .before .args .bytes) .now) (c .before .before .before .loop .word) ((c .before .before .before .before .before .before .args .word) .now) (c .before .before .before .loop .i) (c .letter .result) (c .before .before .loop-test .taken) (c .before .before .before .before .before .before .pre) ((c .before .before .before .loop .inv) .2) (c .letter .ensures))
 
--- src/lib.rt:52:1
 same-length : tie.Need-same-length Inv-loop μ-loop
 same-length c = (c .before .loop .inv) .1
 
--- src/lib.rt:52:1
 returns : tie.Need-returns Inv-loop μ-loop
 returns c = letters-done ((c .before .before .before .before .args .bytes) .now) (c .before .loop .word) ((c .before .before .before .before .args .word) .now) (c .before .loop .i) ((c .before .loop .inv) .0) (c .loop-test .left) ((c .before .loop .inv) .2)
 

@@ -15,35 +15,27 @@ Inv-loop bytes out₀ i₀ out i = (i ≤ length bytes) × (out ≡ put 0 out₀
 abbrev μ-loop : tie.MeasureT-loop
 μ-loop bytes out₀ i₀ out i = length bytes - i
 
--- src/lib.rt:51:5
 loop-holds : tie.Need-loop-holds Inv-loop μ-loop
 loop-holds c = (omega arith, put-nothing 0 ((c) .args .out .now), refl)
 
--- src/lib.rt:52:18
 shared-slice-read-out : tie.Need-shared-slice-read-out Inv-loop μ-loop
 shared-slice-read-out c = omega arith
 
--- src/lib.rt:52:9
 slice-write-out : tie.Need-slice-write-out Inv-loop μ-loop
 slice-write-out c = omega arith
 
--- src/lib.rt:53:9
 add-i : tie.Need-add-i Inv-loop μ-loop
 add-i c = omega arith
 
--- src/lib.rt:51:5
 loop-less : tie.Need-loop-less Inv-loop μ-loop
 loop-less c = omega arith
 
--- src/lib.rt:51:5
 loop-again : tie.Need-loop-again Inv-loop μ-loop
 loop-again c = (omega arith, copied-more ((c .before .before .before) .args .bytes .now) ((c .before .before .before) .args .out .now) ((c .before .before) .loop .out) ((c .before .before) .loop .i) ((c .before .before .before) .pre) ((c .before .before) .loop .inv .1) ((c .before) .loop-test .taken), length-set ((c .before .before) .loop .out) ((c .before .before) .loop .i) _ ∙ (c .before .before) .loop .inv .2)
 
--- src/lib.rt:46:1
 same-length : tie.Need-same-length Inv-loop μ-loop
 same-length c = (c .before) .loop .inv .2
 
--- src/lib.rt:46:1
 returns : tie.Need-returns Inv-loop μ-loop
 returns c = copied ((c .before .before) .args .bytes .now) ((c .before .before) .args .out .now) ((c .before) .loop .out) ((c .before) .loop .i) ((c .before .before) .pre) ((c .before) .loop .inv .1) ((c) .loop-test .left)
 

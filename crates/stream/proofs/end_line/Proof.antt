@@ -11,31 +11,24 @@ use Rattle.stream.proofs.end_line.Lts as lts
 use Rattle.lines.proofs.answer_line.Reads as answer-line-reads
 use Rattle.lines.proofs.write_line.Reads as write-line-reads
 
--- src/lib.rt:115:17
 add-words : tie.Need-add-words
 add-words c = search needs
 
--- src/lib.rt:117:46
 slice-aggregate-answer-line : tie.Need-slice-aggregate-answer-line
 slice-aggregate-answer-line c = sym (length-take-le ((c .before .before .before .before .before .before) .args .p .held .kept) ((c .before .before .before .before .before .before) .args .line .now) ((c .before .before .before .before .before .before) .pre .1 .0))
 
--- src/lib.rt:117:9
 answer-line-requires : tie.Need-answer-line-requires
 answer-line-requires c κs = search needs
 
--- src/lib.rt:118:5
 write-line-requires : tie.Need-write-line-requires
 write-line-requires c κs = search needs
 
--- src/lib.rt:121:15
 add-t18 : tie.Need-add-t18
 add-t18 c = search needs
 
--- src/lib.rt:109:1
 same-length : tie.Need-same-length
 same-length c = search needs
 
--- src/lib.rt:109:1
 returns : tie.Need-returns
 returns c = (refl, line-printed ((c .before .before .before .before .before .before .before .before .before .before .before) .args .m) ((c .before .before .before .before .before .before .before .before .before .before .before) .args .list .now) (take ((c .before .before .before .before .before .before .before .before .before .before .before) .args .p .held .kept) ((c .before .before .before .before .before .before .before .before .before .before .before) .args .line .now)) ((c .before .before .before .before .before .before .before .before .before .before .before) .args .out .now) ((c .before .before) .write-line .last .0) ((c .before .before .before .before .before .before .before .before .before .before .before) .args .p .used) ((c .before .before .before .before .before .before .before .before .before .before .before) .args .p .held .words + 1) ((c .before .before .before .before) .answer-line .result) ((c .before .before .before .before) .answer-line .ensures) ((c .before .before) .write-line .ensures))
 

@@ -6,23 +6,18 @@ use Rattle.stream.proofs.finish.Reads as reads
 use Rattle.stream.proofs.finish.Lts as lts
 use Rattle.stream.proofs.end_line.Reads as end-line-reads
 
--- src/lib.rt:189:9
 returns : tie.Need-returns
 returns c = end-full ((c .before .before .before .before .before .before) .args .m) ((c .before .before .before .before .before .before) .args .list .now) ((c .before .before .before .before .before .before) .args .line .now) ((c .before .before .before .before .before .before) .args .out .now) ((c .before .before .before .before .before .before) .args .held) ((c) .if1 .taken)
 
--- src/lib.rt:192:9
 returns-2 : tie.Need-returns-2
 returns-2 c = end-empty ((c .before .before .before .before .before .before .before .before) .args .m) ((c .before .before .before .before .before .before .before .before) .args .list .now) ((c .before .before .before .before .before .before .before .before) .args .line .now) ((c .before .before .before .before .before .before .before .before) .args .out .now) ((c .before .before .before .before .before .before .before .before) .args .held) ((c .before .before) .if1 .left) ((c) .if2 .taken)
 
--- src/lib.rt:194:9
 end-line-requires : tie.Need-end-line-requires
 end-line-requires c κs = search needs
 
--- src/lib.rt:183:1
 same-length : tie.Need-same-length
 same-length c = search needs
 
--- src/lib.rt:183:1
 returns-3 : tie.Need-returns-3
 returns-3 c = end-last ((c .before .before .before .before .before .before .before .before .before .before .before .before) .args .m) ((c .before .before .before .before .before .before .before .before .before .before .before .before) .args .list .now) ((c .before .before .before .before .before .before .before .before .before .before .before .before) .args .line .now) ((c .before .before .before .before .before .before .before .before .before .before .before .before) .args .out .now) ((c .before .before .before .before .before .before .before .before .before .before .before .before) .args .held) ((c .before .before .before .before .before .before .before .before .before .before .before .before) .pre .1 .0) ((c .before .before .before .before .before .before) .if1 .left) ((c .before .before .before .before) .if2 .left) ((c .before .before) .end-line .result) ((c .before .before) .end-line .last .1 .1 .1 .1 .1 .0) ((c .before .before) .end-line .ensures)
 

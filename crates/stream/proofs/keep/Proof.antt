@@ -5,23 +5,18 @@ use Rattle.stream.proofs.keep.Tie as tie
 use Rattle.stream.proofs.keep.Reads as reads
 use Rattle.stream.proofs.keep.Lts as lts
 
--- src/lib.rt:131:9
 returns : tie.Need-returns
 returns c = kept-full ((c .before) .args .line .now) ((c .before) .args .kept) ((c .before) .args .b) ((c .before) .pre) ((c) .if1 .taken)
 
--- src/lib.rt:133:5
 slice-write-line : tie.Need-slice-write-line
 slice-write-line c = search needs
 
--- src/lib.rt:134:5
 add-result : tie.Need-add-result
 add-result c = search needs
 
--- src/lib.rt:126:1
 same-length : tie.Need-same-length
 same-length c = search needs
 
--- src/lib.rt:126:1
 returns-2 : tie.Need-returns-2
 returns-2 c = kept-more ((c .before) .args .line .now) ((c .before) .args .kept) ((c .before) .args .b) ((c) .if1 .left)
 

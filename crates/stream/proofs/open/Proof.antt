@@ -8,39 +8,30 @@ use Rattle.sheet.proofs.read.read_sheet.Reads as read-sheet-reads
 use Rattle.stream.proofs.write_header.Reads as write-header-reads
 use Rattle.stream.proofs.write_refused.Reads as write-refused-reads
 
--- src/lib.rt:82:9
 read-sheet-requires : tie.Need-read-sheet-requires
 read-sheet-requires c κs = search needs
 
--- src/lib.rt:86:9
 write-refused-requires : tie.Need-write-refused-requires
 write-refused-requires c κs = search needs
 
--- src/lib.rt:87:9
 same-length : tie.Need-same-length
 same-length c = search needs
 
--- src/lib.rt:87:9
 same-length-2 : tie.Need-same-length-2
 same-length-2 c = search needs
 
--- src/lib.rt:87:9
 returns : tie.Need-returns
 returns c = open-refused ((c .before .before .before .before .before .before .before .before .before .before .before .before .before) .args .sheet .now) ((c .before .before .before .before .before .before .before .before .before .before .before .before .before) .args .list .now) ((c .before .before .before .before .before .before .before .before) .read-sheet .last .1 .0) ((c .before .before .before .before .before .before .before .before .before .before .before .before .before) .args .out .now) ((c .before .before .before .before .before .before .before .before .before .before .before .before .before) .pre .0) ((c .before .before .before .before .before .before .before .before) .read-sheet .result) ((c .before .before .before .before .before .before .before .before) .read-sheet .ensures) ((c .before .before .before .before) .if1 .taken) ((c .before .before) .write-refused .last .1 .0) ((c .before .before) .write-refused .ensures)
 
--- src/lib.rt:93:5
 write-header-requires : tie.Need-write-header-requires
 write-header-requires c κs = search needs
 
--- src/lib.rt:78:1
 same-length-3 : tie.Need-same-length-3
 same-length-3 c = search needs
 
--- src/lib.rt:78:1
 same-length-4 : tie.Need-same-length-4
 same-length-4 c = search needs
 
--- src/lib.rt:78:1
 returns-2 : tie.Need-returns-2
 returns-2 c = open-good ((c .before .before .before .before .before .before .before .before .before .before .before .before .before) .args .sheet .now) ((c .before .before .before .before .before .before .before .before .before .before .before .before .before) .args .list .now) ((c .before .before .before .before .before .before .before .before) .read-sheet .last .1 .0) ((c .before .before .before .before .before .before .before .before .before .before .before .before .before) .args .out .now) ((c .before .before .before .before .before .before .before .before .before .before .before .before .before) .pre .0) ((c .before .before .before .before .before .before .before .before) .read-sheet .result) ((c .before .before .before .before .before .before .before .before) .read-sheet .ensures) ((c .before .before .before .before) .if1 .left) ((c .before .before) .write-header .last .0) ((c .before .before) .write-header .ensures)
 

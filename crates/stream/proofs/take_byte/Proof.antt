@@ -7,35 +7,27 @@ use Rattle.stream.proofs.take_byte.Lts as lts
 use Rattle.stream.proofs.end_line.Reads as end-line-reads
 use Rattle.stream.proofs.keep.Reads as keep-reads
 
--- src/lib.rt:144:9
 returns : tie.Need-returns
 returns c = byte-full ((c .before .before .before .before .before .before) .args .m) ((c .before .before .before .before .before .before) .args .list .now) ((c .before .before .before .before .before .before) .args .b) ((c .before .before .before .before .before .before) .args .p) ((c .before .before .before .before .before .before) .args .line .now) ((c .before .before .before .before .before .before) .args .out .now) ((c) .if1 .taken) ((c .before .before .before .before .before .before) .pre .1 .within)
 
--- src/lib.rt:147:9
 end-line-requires : tie.Need-end-line-requires
 end-line-requires c κs = search needs
 
--- src/lib.rt:147:9
 same-length : tie.Need-same-length
 same-length c = search needs
 
--- src/lib.rt:147:9
 same-length-2 : tie.Need-same-length-2
 same-length-2 c = search needs
 
--- src/lib.rt:147:9
 returns-2 : tie.Need-returns-2
 returns-2 c = byte-end ((c .before .before .before .before .before .before .before .before .before .before .before .before) .args .m) ((c .before .before .before .before .before .before .before .before .before .before .before .before) .args .list .now) ((c .before .before .before .before .before .before .before .before .before .before .before .before) .args .b) ((c .before .before .before .before .before .before .before .before .before .before .before .before) .args .p) ((c .before .before .before .before .before .before .before .before .before .before .before .before) .args .line .now) ((c .before .before .before .before .before .before .before .before .before .before .before .before) .args .out .now) ((c .before .before .before .before .before .before) .if1 .left) ((c .before .before .before .before .before) .if2 .taken) ((c .before .before) .end-line .result) ((c .before .before) .end-line .last .1 .1 .1 .1 .1 .0) ((c .before .before) .end-line .ensures)
 
--- src/lib.rt:149:9
 keep-requires : tie.Need-keep-requires
 keep-requires c κs = search needs
 
--- src/lib.rt:138:1
 same-length-3 : tie.Need-same-length-3
 same-length-3 c = search needs
 
--- src/lib.rt:138:1
 returns-3 : tie.Need-returns-3
 returns-3 c = byte-more ((c .before .before .before .before .before .before .before .before .before .before .before) .args .m) ((c .before .before .before .before .before .before .before .before .before .before .before) .args .list .now) ((c .before .before .before .before .before .before .before .before .before .before .before) .args .b) ((c .before .before .before .before .before .before .before .before .before .before .before) .args .p) ((c .before .before .before .before .before .before .before .before .before .before .before) .args .line .now) ((c .before .before .before .before .before .before .before .before .before .before .before) .args .out .now) ((c .before .before .before .before .before .before .before .before .before .before .before) .pre .1 .room) ((c .before .before .before .before .before) .if1 .left) ((c .before .before .before .before) .if2 .left) ((c .before .before) .keep .result) ((c .before .before) .keep .last .0) ((c .before .before) .keep .ensures)
 

@@ -16,39 +16,30 @@ Inv-loop m list targets kinds piece line₀ out₀ p₀ i₀ line out p i = (i �
 abbrev μ-loop : tie.MeasureT-loop
 μ-loop m list targets kinds piece line₀ out₀ p₀ i₀ line out p i = length piece - i
 
--- src/lib.rt:174:5
 loop-holds : tie.Need-loop-holds Inv-loop μ-loop
 loop-holds c = (omega arith, piece-none ((c .before .before .before .before .before) .args .m) ((c .before .before .before .before .before) .args .list .now) ((c .before .before .before .before .before) .args .piece .now) ((c .before .before .before .before .before) .args .held) ((c .before .before .before .before .before) .args .line .now) ((c .before .before .before .before .before) .args .out .now) ((c .before .before .before .before .before) .pre .1 .1), refl, refl)
 
--- src/lib.rt:175:32
 shared-slice-read-take-byte : tie.Need-shared-slice-read-take-byte Inv-loop μ-loop
 shared-slice-read-take-byte c = omega arith
 
--- src/lib.rt:175:9
 take-byte-requires : tie.Need-take-byte-requires Inv-loop μ-loop
 take-byte-requires c κs = ((c .before .before .before .before .before .before .before .before .before .before) .pre .0, piece-lent ((c .before .before .before .before .before .before .before .before .before .before) .args .m) ((c .before .before .before .before .before .before .before .before .before .before) .args .list .now) ((c .before .before .before .before .before .before .before .before .before .before) .args .piece .now) ((c .before .before .before .before .before .before .before .before .before .before) .args .held) ((c .before .before .before .before .before .before .before .before .before .before) .args .line .now) ((c .before .before .before .before .before .before .before .before .before .before) .args .out .now) ((c .before .before .before .before) .loop .i) ((c .before .before .before .before) .loop .p) ((c .before .before .before .before) .loop .line) ((c .before .before .before .before) .loop .out) ((c .before .before .before .before) .loop .inv .1) ((c .before .before .before) .loop-test .taken) ((c .before .before .before .before .before .before .before .before .before .before) .pre .1 .2) ((c .before .before .before .before) .loop .inv .2 ∙ (c .before .before .before .before .before .before .before .before .before .before) .pre .1 .0) ((c .before .before .before .before) .loop .inv .3))
 
--- src/lib.rt:176:9
 add-i : tie.Need-add-i Inv-loop μ-loop
 add-i c = omega arith
 
--- src/lib.rt:174:5
 loop-less : tie.Need-loop-less Inv-loop μ-loop
 loop-less c = omega arith
 
--- src/lib.rt:174:5
 loop-again : tie.Need-loop-again Inv-loop μ-loop
 loop-again c = (omega arith, piece-more ((c .before .before .before .before .before .before .before .before .before .before .before .before .before .before .before) .args .m) ((c .before .before .before .before .before .before .before .before .before .before .before .before .before .before .before) .args .list .now) ((c .before .before .before .before .before .before .before .before .before .before .before .before .before .before .before) .args .piece .now) ((c .before .before .before .before .before .before .before .before .before .before .before .before .before .before .before) .args .held) ((c .before .before .before .before .before .before .before .before .before .before .before .before .before .before .before) .args .line .now) ((c .before .before .before .before .before .before .before .before .before .before .before .before .before .before .before) .args .out .now) ((c .before .before .before .before .before .before .before .before .before) .loop .i) ((c .before .before .before .before .before .before .before .before .before) .loop .p) ((c .before .before .before .before .before .before .before .before .before) .loop .line) ((c .before .before .before .before .before .before .before .before .before) .loop .out) ((c .before .before .before .before .before .before .before .before .before) .loop .inv .1) ((c .before .before .before .before .before .before .before .before) .loop-test .taken) ((c .before .before .before .before .before .before .before .before .before .before .before .before .before .before .before) .pre .1 .2) ((c .before .before .before .before) .take-byte .result) ((c .before .before .before .before) .take-byte .last .1 .1 .1 .1 .1 .0) ((c .before .before .before .before) .take-byte .last .1 .1 .1 .1 .1 .1 .0) ((c .before .before .before .before) .take-byte .ensures), (c .before .before .before) .line .given ∙ (c .before .before .before .before .before .before .before .before .before) .loop .inv .2, (c .before) .out .given ∙ (c .before .before .before .before .before .before .before .before .before) .loop .inv .3)
 
--- src/lib.rt:160:1
 same-length : tie.Need-same-length Inv-loop μ-loop
 same-length c = (c .before) .loop .inv .2
 
--- src/lib.rt:160:1
 same-length-2 : tie.Need-same-length-2 Inv-loop μ-loop
 same-length-2 c = (c .before) .loop .inv .3
 
--- src/lib.rt:160:1
 returns : tie.Need-returns Inv-loop μ-loop
 returns c = piece-done ((c .before .before .before .before .before .before .before) .args .m) ((c .before .before .before .before .before .before .before) .args .list .now) ((c .before .before .before .before .before .before .before) .args .piece .now) ((c .before .before .before .before .before .before .before) .args .held) ((c .before .before .before .before .before .before .before) .args .line .now) ((c .before .before .before .before .before .before .before) .args .out .now) ((c .before) .loop .i) ((c .before) .loop .p) ((c .before) .loop .line) ((c .before) .loop .out) ((c .before) .loop .inv .1) ((c) .loop-test .left)
 

@@ -6,19 +6,15 @@ use Rattle.stream.proofs.write_header.Reads as reads
 use Rattle.stream.proofs.write_header.Lts as lts
 use Rattle.stream.proofs.copy.Reads as copy-reads
 
--- src/lib.rt:72:10
 slice-aggregate-copy : tie.Need-slice-aggregate-copy
 slice-aggregate-copy c = search needs
 
--- src/lib.rt:72:5
 copy-requires : tie.Need-copy-requires
 copy-requires c κs = search needs
 
--- src/lib.rt:68:1
 same-length : tie.Need-same-length
 same-length c = search needs
 
--- src/lib.rt:68:1
 returns : tie.Need-returns
 unfolding header
 returns c = (c .before .before) .copy .ensures

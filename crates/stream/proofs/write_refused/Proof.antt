@@ -10,27 +10,21 @@ use Rattle.stream.proofs.write_refused.Lts as lts
 use Rattle.columns.proofs.write_number.Reads as write-number-reads
 use Rattle.stream.proofs.copy.Reads as copy-reads
 
--- src/lib.rt:62:10
 slice-aggregate-copy : tie.Need-slice-aggregate-copy
 slice-aggregate-copy c = search needs
 
--- src/lib.rt:62:5
 copy-requires : tie.Need-copy-requires
 copy-requires c κs = search needs
 
--- src/lib.rt:63:5
 write-number-requires : tie.Need-write-number-requires
 write-number-requires c κs = search needs
 
--- src/lib.rt:64:5
 slice-write-out : tie.Need-slice-write-out
 slice-write-out c = search needs
 
--- src/lib.rt:58:1
 same-length : tie.Need-same-length
 same-length c = length-set ((c .before .before) .write-number .last .0) 18 10 ∙ ((c .before) .out2 .given ∙ (c .before .before .before .before .before) .out .given)
 
--- src/lib.rt:58:1
 returns : tie.Need-returns
 unfolding sheetRefused
 returns c = refused-written ((c .before .before .before .before .before .before .before .before .before .before) .args .out .now) ((c .before .before .before .before .before .before) .copy .last .1 .0) ((c .before .before) .write-number .last .0) ((c .before .before .before .before .before .before .before .before .before .before) .args .number) ((c .before .before .before .before .before .before .before .before .before .before) .pre) ((c .before .before .before .before .before .before) .copy .ensures) ((c .before .before) .write-number .ensures)

@@ -7,15 +7,12 @@ use Rattle.targets.proofs.add_source.Reads as reads
 use Rattle.targets.proofs.add_source.Lts as lts
 use Rattle.stateset.proofs.add.Reads as add-reads
 
--- src/lib.rt:87:9
 returns : tie.Need-returns
 returns c = search needs
 
--- src/lib.rt:89:5
 add-requires : tie.Need-add-requires
 add-requires c κs = search needs
 
--- src/lib.rt:83:1
 returns-2 : tie.Need-returns-2
 returns-2 c = (λ q h. (c .add .ensures) .members q .1 (inl h), λ n lt. (c .add .ensures) .members _ .1 (inr (refl, lt)))
 

@@ -9,23 +9,18 @@ use Rattle.targets.proofs.fill.Lts as lts
 use Rattle.targets.proofs.fill_rows.Reads as fill-rows-reads
 use Rattle.targets.proofs.sources.Reads as sources-reads
 
--- src/lib.rt:114:5
 fill-rows-requires : tie.Need-fill-rows-requires
 fill-rows-requires c κs = search needs
 
--- src/lib.rt:115:18
 sources-requires : tie.Need-sources-requires
 sources-requires c κs = (rules ((c .before .before .before .before .before .before .before) .args .m) (((c .before .before .before .before .before .before .before) .args .list) .now) (((c .before .before .before .before .before .before .before) .pre) .0) .states-fit, omega (arith, ((c .before .before .before) .fill-rows .ensures) .room))
 
--- src/lib.rt:115:5
 slice-write-targets : tie.Need-slice-write-targets
 slice-write-targets c = search needs
 
--- src/lib.rt:110:1
 same-length : tie.Need-same-length
 same-length c = search needs
 
--- src/lib.rt:110:1
 returns : tie.Need-returns
 returns c = made ((c .before .before .before .before .before .before .before .before) .args .m) _ _ _ _ (((c .before .before .before .before .before .before .before .before) .pre) .0) ((c .before .before .before .before) .fill-rows .ensures) ((c) .sources .ensures)
 

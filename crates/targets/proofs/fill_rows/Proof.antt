@@ -18,31 +18,24 @@ Inv-loop m list wanted targets₀ k₀ targets k = (wellFormed m list ≡ true) 
 abbrev μ-loop : tie.MeasureT-loop
 μ-loop m list wanted targets₀ k₀ targets k = m .transitions - k
 
--- src/lib.rt:76:5
 loop-holds : tie.Need-loop-holds Inv-loop μ-loop
 loop-holds c = (((c .before .before) .pre) .0, omega arith, refl, filled-start ((c .before .before) .args .m) _ _ _ (((c .before .before) .pre) .1) (((c .before .before) .pre) .2))
 
--- src/lib.rt:77:9
 put-requires : tie.Need-put-requires Inv-loop μ-loop
 put-requires c κs = (inside-at ((c .before .before .before .before .before .before) .args .m) (((c .before .before .before .before .before .before) .args .list) .now) (((c .before .before .before) .loop .inv) .0) _ ((c .before) .if1 .taken), ((c .before .before .before) .loop .inv) .3)
 
--- src/lib.rt:78:9
 add-k : tie.Need-add-k Inv-loop μ-loop
 add-k c = omega (arith, (c .before .before .before .before) .if1 .taken)
 
--- src/lib.rt:76:5
 loop-less : tie.Need-loop-less Inv-loop μ-loop
 loop-less c = omega (arith, (c .before .before .before .before) .if1 .taken)
 
--- src/lib.rt:76:5
 loop-again : tie.Need-loop-again Inv-loop μ-loop
 loop-again c = (((c .before .before .before .before .before .before) .loop .inv) .0, omega (arith, (c .before .before .before .before) .if1 .taken), ((c .before) .targets .given) ∙ ((c .before .before .before .before .before .before) .loop .inv) .2, ((c .before .before) .put .ensures))
 
--- src/lib.rt:71:1
 same-length : tie.Need-same-length Inv-loop μ-loop
 same-length c = ((c .before .before) .loop .inv) .2
 
--- src/lib.rt:71:1
 returns : tie.Need-returns Inv-loop μ-loop
 returns c = subst (Filled ((c .before .before .before .before .before) .args .m) (((c .before .before .before .before .before) .args .list) .now) (((c .before .before .before .before .before) .args .wanted) .now) ((c .before .before) .loop .targets)) (omega (arith, ((c .before .before) .loop .inv) .1, (c) .if1 .left)) (((c .before .before) .loop .inv) .3)
 

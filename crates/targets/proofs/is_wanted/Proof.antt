@@ -5,19 +5,15 @@ use Rattle.targets.proofs.is_wanted.Tie as tie
 use Rattle.targets.proofs.is_wanted.Reads as reads
 use Rattle.targets.proofs.is_wanted.Lts as lts
 
--- src/lib.rt:50:9
 returns : tie.Need-returns
 returns c = wanted-zero (((c .before) .args .wanted) .now) ((c .before) .args .x) ((c) .if1 .taken)
 
--- src/lib.rt:52:8
 element-copy-out-if2 : tie.Need-element-copy-out-if2
 element-copy-out-if2 c = search needs
 
--- src/lib.rt:53:9
 returns-2 : tie.Need-returns-2
 returns-2 c = wanted-none (((c .before .before .before) .args .wanted) .now) ((c .before .before .before) .args .x) ((c .before .before) .if1 .left) ((c) .if2 .taken)
 
--- src/lib.rt:45:1
 returns-3 : tie.Need-returns-3
 returns-3 c = wanted-some (((c .before .before .before) .args .wanted) .now) ((c .before .before .before) .args .x) ((c) .if2 .left)
 

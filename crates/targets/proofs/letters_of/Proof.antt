@@ -14,35 +14,27 @@ Inv-loop word wanted₀ i₀ wanted i = (length wanted ≡ 256) × (i ≤ length
 abbrev μ-loop : tie.MeasureT-loop
 μ-loop word wanted₀ i₀ wanted i = length word - i
 
--- src/lib.rt:37:5
 loop-holds : tie.Need-loop-holds Inv-loop μ-loop
 loop-holds c = (refl, omega arith, λ j (lt : j < 0). absurd (omega arith))
 
--- src/lib.rt:38:16
 shared-slice-read-wanted : tie.Need-shared-slice-read-wanted Inv-loop μ-loop
 shared-slice-read-wanted c = (c .before) .loop-test .taken
 
--- src/lib.rt:38:16
 cast-wanted : tie.Need-cast-wanted Inv-loop μ-loop
 cast-wanted c = omega (arith, ((c) .shared-slice-known .given) ((c .before .before) .loop .i))
 
--- src/lib.rt:38:9
 array-write-wanted : tie.Need-array-write-wanted Inv-loop μ-loop
 array-write-wanted c = omega (arith, ((c) .shared-slice-known .given) ((c .before .before) .loop .i))
 
--- src/lib.rt:39:9
 add-i : tie.Need-add-i Inv-loop μ-loop
 add-i c = omega (arith, (c .before) .loop-test .taken, (c .before .before .before) .good)
 
--- src/lib.rt:37:5
 loop-less : tie.Need-loop-less Inv-loop μ-loop
 loop-less c = omega (arith, (c .before) .loop-test .taken)
 
--- src/lib.rt:37:5
 loop-again : tie.Need-loop-again Inv-loop μ-loop
 loop-again c = (length-set ((c .before .before) .loop .wanted) _ 1 ∙ ((c .before .before) .loop .inv) .0, omega (arith, (c .before) .loop-test .taken), marked-turn (((c .before .before .before) .args .word) .now) ((c .before .before) .loop .wanted) ((c .before .before) .loop .i) (omega (arith, ((c .before .before) .loop .inv) .0, ((c) .shared-slice-known .given) ((c .before .before) .loop .i))) (((c .before .before) .loop .inv) .2))
 
--- src/lib.rt:32:1
 returns : tie.Need-returns Inv-loop μ-loop
 returns c = λ i lt. ((c .before) .loop .inv) .2 i (omega (arith, (c) .loop-test .left))
 

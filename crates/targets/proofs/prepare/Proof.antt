@@ -11,15 +11,12 @@ use Rattle.targets.proofs.prepare.Reads as reads
 use Rattle.targets.proofs.prepare.Lts as lts
 use Rattle.targets.proofs.fill.Reads as fill-reads
 
--- src/lib.rt:125:5
 fill-requires : tie.Need-fill-requires
 fill-requires c κs = search needs
 
--- src/lib.rt:120:1
 same-length : tie.Need-same-length
 same-length c = search needs
 
--- src/lib.rt:120:1
 returns : tie.Need-returns
 returns c = made-whole ((c .before .before .before .before .before .before .before) .args .m) _ _ _ ((c .before .before) .fill .ensures) (λ x le. subst (λ (n : ℕ). 0 < n) (sym (getD-replicate 256 x 1 0 (omega (arith, rules ((c .before .before .before .before .before .before .before) .args .m) (((c .before .before .before .before .before .before .before) .args .list) .now) (((c .before .before .before .before .before .before .before) .pre) .0) .letters-fit)))) (omega arith))
 

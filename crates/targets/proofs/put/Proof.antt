@@ -11,107 +11,81 @@ use Rattle.targets.proofs.put.Lts as lts
 use Rattle.stateset.proofs.add.Reads as add-reads
 use Rattle.targets.proofs.is_wanted.Reads as is-wanted-reads
 
--- src/lib.rt:60:18
 mul-p : tie.Need-mul-p
 mul-p c = search needs
 
--- src/lib.rt:60:13
 mul-p-2 : tie.Need-mul-p-2
 mul-p-2 c = search needs
 
--- src/lib.rt:60:13
 shared-slice-read-p : tie.Need-shared-slice-read-p
 shared-slice-read-p c = search needs
 
--- src/lib.rt:60:13
 cast-p : tie.Need-cast-p
 cast-p c = search needs
 
--- src/lib.rt:61:18
 mul-x : tie.Need-mul-x
 mul-x c = search needs
 
--- src/lib.rt:61:18
 add-x : tie.Need-add-x
 add-x c = search needs
 
--- src/lib.rt:61:13
 mul-x-2 : tie.Need-mul-x-2
 mul-x-2 c = search needs
 
--- src/lib.rt:61:13
 shared-slice-read-x : tie.Need-shared-slice-read-x
 shared-slice-read-x c = search needs
 
--- src/lib.rt:61:13
 cast-x : tie.Need-cast-x
 cast-x c = search needs
 
--- src/lib.rt:62:18
 mul-q : tie.Need-mul-q
 mul-q c = search needs
 
--- src/lib.rt:62:18
 add-q : tie.Need-add-q
 add-q c = search needs
 
--- src/lib.rt:62:13
 mul-q-2 : tie.Need-mul-q-2
 mul-q-2 c = search needs
 
--- src/lib.rt:62:13
 shared-slice-read-q : tie.Need-shared-slice-read-q
 shared-slice-read-q c = search needs
 
--- src/lib.rt:62:13
 cast-q : tie.Need-cast-q
 cast-q c = search needs
 
--- src/lib.rt:63:9
 is-wanted-requires : tie.Need-is-wanted-requires
 is-wanted-requires c κs = search needs
 
--- src/lib.rt:64:9
 returns : tie.Need-returns
 returns c = put-none ((c .before .before .before .before .before .before .before) .args .m) _ _ _ _ (((c .before .before .before .before .before .before .before) .pre) .0) (((c .before .before .before .before .before .before .before) .pre) .1) _ ((c .before) .is-wanted .ensures) (not-true _ ((c) .if1 .taken))
 
--- src/lib.rt:66:18
 mul-at : tie.Need-mul-at
 mul-at c = omega (arith, ((c .before .before .before .before .before .before .before .before) .pre) .0 .letter, ((c .before .before .before .before .before .before .before .before) .pre) .0 .letters, product-small ((c .before .before .before .before .before .before .before .before) .args .m .states) (transitionAt (((c .before .before .before .before .before .before .before .before) .args .list) .now) ((c .before .before .before .before .before .before .before .before) .args .k) .letter) (((c .before .before .before .before .before .before .before .before) .pre) .0 .few) (omega (arith, ((c .before .before .before .before .before .before .before .before) .pre) .0 .letter, ((c .before .before .before .before .before .before .before .before) .pre) .0 .letters)))
 
--- src/lib.rt:66:14
 add-at : tie.Need-add-at
 add-at c = omega (arith, ((c .before .before .before .before .before .before .before .before) .pre) .0 .letter, ((c .before .before .before .before .before .before .before .before) .pre) .0 .letters, product-small ((c .before .before .before .before .before .before .before .before) .args .m .states) (transitionAt (((c .before .before .before .before .before .before .before .before) .args .list) .now) ((c .before .before .before .before .before .before .before .before) .args .k) .letter) (((c .before .before .before .before .before .before .before .before) .pre) .0 .few) (omega (arith, ((c .before .before .before .before .before .before .before .before) .pre) .0 .letter, ((c .before .before .before .before .before .before .before .before) .pre) .0 .letters)))
 
--- src/lib.rt:66:14
 add-at-2 : tie.Need-add-at-2
 add-at-2 c = omega (arith, ((c .before .before .before .before .before .before .before .before) .pre) .0 .few, ((c .before .before .before .before .before .before .before .before) .pre) .0 .from, ((c .before .before .before .before .before .before .before .before) .pre) .0 .letter, ((c .before .before .before .before .before .before .before .before) .pre) .0 .letters, product-small ((c .before .before .before .before .before .before .before .before) .args .m .states) (transitionAt (((c .before .before .before .before .before .before .before .before) .args .list) .now) ((c .before .before .before .before .before .before .before .before) .args .k) .letter) (((c .before .before .before .before .before .before .before .before) .pre) .0 .few) (omega (arith, ((c .before .before .before .before .before .before .before .before) .pre) .0 .letter, ((c .before .before .before .before .before .before .before .before) .pre) .0 .letters)))
 
--- src/lib.rt:67:33
 mul-add : tie.Need-mul-add
 mul-add c = omega (arith, ((c .before .before .before .before .before .before .before .before) .pre) .0 .few, ((c .before .before .before .before .before .before .before .before) .pre) .0 .from, ((c .before .before .before .before .before .before .before .before) .pre) .0 .letter, ((c .before .before .before .before .before .before .before .before) .pre) .0 .letters, product-small ((c .before .before .before .before .before .before .before .before) .args .m .states) (transitionAt (((c .before .before .before .before .before .before .before .before) .args .list) .now) ((c .before .before .before .before .before .before .before .before) .args .k) .letter) (((c .before .before .before .before .before .before .before .before) .pre) .0 .few) (omega (arith, ((c .before .before .before .before .before .before .before .before) .pre) .0 .letter, ((c .before .before .before .before .before .before .before .before) .pre) .0 .letters)))
 
--- src/lib.rt:67:33
 slice-read-add : tie.Need-slice-read-add
 slice-read-add c = put-room ((c .before .before .before .before .before .before .before .before .before) .args .m) _ _ _ _ (((c .before .before .before .before .before .before .before .before .before) .pre) .0) (((c .before .before .before .before .before .before .before .before .before) .pre) .1)
 
--- src/lib.rt:67:19
 add-requires : tie.Need-add-requires
 add-requires c κs = search needs
 
--- src/lib.rt:67:5
 mul-targets : tie.Need-mul-targets
 mul-targets c = omega (arith, ((c .before .before .before .before .before .before .before .before .before .before) .pre) .0 .few, ((c .before .before .before .before .before .before .before .before .before .before) .pre) .0 .from, ((c .before .before .before .before .before .before .before .before .before .before) .pre) .0 .letter, ((c .before .before .before .before .before .before .before .before .before .before) .pre) .0 .letters, product-small ((c .before .before .before .before .before .before .before .before .before .before) .args .m .states) (transitionAt (((c .before .before .before .before .before .before .before .before .before .before) .args .list) .now) ((c .before .before .before .before .before .before .before .before .before .before) .args .k) .letter) (((c .before .before .before .before .before .before .before .before .before .before) .pre) .0 .few) (omega (arith, ((c .before .before .before .before .before .before .before .before .before .before) .pre) .0 .letter, ((c .before .before .before .before .before .before .before .before .before .before) .pre) .0 .letters)))
 
--- src/lib.rt:67:5
 slice-write-targets : tie.Need-slice-write-targets
 slice-write-targets c = put-room ((c .before .before .before .before .before .before .before .before .before .before) .args .m) _ _ _ _ (((c .before .before .before .before .before .before .before .before .before .before) .pre) .0) (((c .before .before .before .before .before .before .before .before .before .before) .pre) .1)
 
--- src/lib.rt:56:1
 same-length : tie.Need-same-length
 same-length c = search needs
 
--- src/lib.rt:56:1
 returns-2 : tie.Need-returns-2
 returns-2 c = put-some ((c .before .before .before .before .before .before .before .before .before .before) .args .m) _ _ _ _ (((c .before .before .before .before .before .before .before .before .before .before) .pre) .0) (((c .before .before .before .before .before .before .before .before .before .before) .pre) .1) _ _ _ _ ((c .before .before .before .before) .is-wanted .ensures) (not-false _ ((c .before .before .before) .if1 .left)) refl ((c) .add .ensures)
 

@@ -6,19 +6,15 @@ use Rattle.targets.proofs.sets_of.Tie as tie
 use Rattle.targets.proofs.sets_of.Reads as reads
 use Rattle.targets.proofs.sets_of.Lts as lts
 
--- src/lib.rt:28:9
 mul-result : tie.Need-mul-result
 mul-result c = omega (arith, product-small ((c .before) .args .m .states) ((c .before) .args .m .letters) (((c .before) .pre) .0) (((c .before) .pre) .1))
 
--- src/lib.rt:28:5
 add-result : tie.Need-add-result
 add-result c = omega (arith, product-small ((c .before) .args .m .states) ((c .before) .args .m .letters) (((c .before) .pre) .0) (((c .before) .pre) .1))
 
--- src/lib.rt:28:5
 add-result-2 : tie.Need-add-result-2
 add-result-2 c = omega (arith, ((c .before .before) .pre) .0, product-small ((c .before .before) .args .m .states) ((c .before .before) .args .m .letters) (((c .before .before) .pre) .0) (((c .before .before) .pre) .1))
 
--- src/lib.rt:24:1
 returns : tie.Need-returns
 returns c = search needs
 

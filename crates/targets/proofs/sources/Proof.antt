@@ -18,43 +18,33 @@ Inv-loop targets states set₀ p₀ set p = (states ≤ width) × (1 + states �
 abbrev μ-loop : tie.MeasureT-loop
 μ-loop targets states set₀ p₀ set p = states - p
 
--- src/lib.rt:97:9
 empty-requires : tie.Need-empty-requires Inv-loop μ-loop
 empty-requires c κs = search needs
 
--- src/lib.rt:99:5
 loop-holds : tie.Need-loop-holds Inv-loop μ-loop
 loop-holds c = (((c .before .before) .pre) .0, ((c .before .before) .pre) .1, sources-start (((c .before .before) .args .targets) .now) (c .empty .result))
 
--- src/lib.rt:100:42
 add-add-source : tie.Need-add-add-source Inv-loop μ-loop
 add-add-source c = search needs
 
--- src/lib.rt:100:34
 mul-add-source : tie.Need-mul-add-source Inv-loop μ-loop
 mul-add-source c = search needs
 
--- src/lib.rt:100:34
 shared-slice-read-add-source : tie.Need-shared-slice-read-add-source Inv-loop μ-loop
 shared-slice-read-add-source c = omega (arith, ((c .before .before) .loop .inv) .1, (c .before) .loop-test .taken)
 
--- src/lib.rt:100:9
 add-source-requires : tie.Need-add-source-requires Inv-loop μ-loop
 add-source-requires c κs = search needs
 
--- src/lib.rt:101:9
 add-p : tie.Need-add-p Inv-loop μ-loop
 add-p c = search needs
 
--- src/lib.rt:99:5
 loop-less : tie.Need-loop-less Inv-loop μ-loop
 loop-less c = search needs
 
--- src/lib.rt:99:5
 loop-again : tie.Need-loop-again Inv-loop μ-loop
 loop-again c = (((c .before .before .before) .loop .inv) .0, ((c .before .before .before) .loop .inv) .1, sources-turn (((c .before .before .before .before .before .before) .args .targets) .now) ((c .before .before .before) .loop .p) ((c .before .before .before) .loop .set) (c .add-source .result) (omega (arith, (c .before .before) .loop-test .taken, ((c .before .before .before) .loop .inv) .0)) (((c .before .before .before) .loop .inv) .2) (c .add-source .ensures))
 
--- src/lib.rt:93:1
 returns : tie.Need-returns Inv-loop μ-loop
 returns c = λ p q lt h. ((c .before) .loop .inv) .2 p q (omega (arith, (c) .loop-test .left)) h
 

@@ -7,19 +7,15 @@ use Rattle.blocks.proofs.block.begin.Reads as reads
 use Rattle.blocks.proofs.block.begin.Lts as lts
 use Rattle.blocks.proofs.numbers.lower.Reads as lower-reads
 
--- src/block.rt:93:9
 returns : tie.Need-returns
 returns c = begin-not _ _ _ _ _ _ (c .if1 .taken)
 
--- src/block.rt:95:36
 add-lower : tie.Need-add-lower
 add-lower c = omega (arith, (c .before .before) .if1 .left, (c .before .before .before) .pre .1 .2)
 
--- src/block.rt:95:5
 lower-requires : tie.Need-lower-requires
 lower-requires c κs = ((c .before .before .before) .pre .0, ((c .before .before .before) .pre .1 .0, (c .before .before .before) .pre .1 .1))
 
--- src/block.rt:87:1
 returns-2 : tie.Need-returns-2
 returns-2 c = begin-is (omega (arith, (c .before .before .before) .if1 .left)) (c .lower .ensures)
 

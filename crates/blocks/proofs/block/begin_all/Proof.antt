@@ -21,43 +21,33 @@ Inv-loop b₀ d₀ set guess costs top rest₀ b d rest = Rest set rest × Lower
 abbrev μ-loop : tie.MeasureT-loop
 μ-loop b₀ d₀ set guess costs top rest₀ b d rest = ones rest
 
--- src/block.rt:105:5
 loop-holds : tie.Need-loop-holds Inv-loop μ-loop
 loop-holds c = (rest-start _ (omega (arith, c .fits .set)), begins-start _ _ _ _ _ _)
 
--- src/block.rt:106:17
 lowest-requires : tie.Need-lowest-requires Inv-loop μ-loop
 lowest-requires c κs = search needs
 
--- src/block.rt:106:17
 cast-q : tie.Need-cast-q Inv-loop μ-loop
 cast-q c = search needs
 
--- src/block.rt:107:9
 without-lowest-requires : tie.Need-without-lowest-requires Inv-loop μ-loop
 without-lowest-requires c κs = search needs
 
--- src/block.rt:108:31
 mul-begin : tie.Need-mul-begin Inv-loop μ-loop
 mul-begin c = omega (arith, lowest-inside _ _ ((c .before .before .before .before .before) .loop .inv .0 .fits) ((c .before .before .before .before) .loop-test .taken) ((c .before .before .before) .lowest .ensures))
 
--- src/block.rt:108:31
 element-copy-out-begin : tie.Need-element-copy-out-begin Inv-loop μ-loop
 element-copy-out-begin c = omega (arith, lowest-inside _ _ ((c .before .before .before .before .before) .loop .inv .0 .fits) ((c .before .before .before .before) .loop-test .taken) ((c .before .before .before) .lowest .ensures))
 
--- src/block.rt:108:9
 begin-requires : tie.Need-begin-requires Inv-loop μ-loop
 begin-requires c κs = (sized-after ((c .before .before .before .before .before .before .before) .pre .0) ((c .before .before .before .before .before .before) .loop .inv .1 .steps), (lowest-inside _ _ ((c .before .before .before .before .before .before) .loop .inv .0 .fits) ((c .before .before .before .before .before) .loop-test .taken) ((c .before .before .before .before) .lowest .ensures), (c .before .before .before .before .before .before .before) .pre .1 .0, (c .before .before .before .before .before .before .before) .pre .1 .1))
 
--- src/block.rt:105:5
 loop-less : tie.Need-loop-less Inv-loop μ-loop
 loop-less c = taken ((c .before .before .before .before .before .before .before) .loop .inv .0 .fits) ((c .before .before .before .before .before .before) .loop-test .taken) ((c .before .before .before .before .before) .lowest .ensures) ((c .before .before .before .before) .without-lowest .ensures) .fewer
 
--- src/block.rt:105:5
 loop-again : tie.Need-loop-again Inv-loop μ-loop
 loop-again c = let k = taken ((c .before .before .before .before .before .before .before) .loop .inv .0 .fits) ((c .before .before .before .before .before .before) .loop-test .taken) ((c .before .before .before .before .before) .lowest .ensures) ((c .before .before .before .before) .without-lowest .ensures) in (rest-more ((c .before .before .before .before .before .before .before) .loop .inv .0) k, begins-more _ _ _ ((c .before .before .before .before .before .before .before) .loop .inv .0) k (sym (cost-inside _ _ (lowest-inside _ _ ((c .before .before .before .before .before .before .before) .loop .inv .0 .fits) ((c .before .before .before .before .before .before) .loop-test .taken) ((c .before .before .before .before .before) .lowest .ensures)))) ((c .before .before .before .before .before .before .before) .loop .inv .1) (c .begin .ensures))
 
--- src/block.rt:99:1
 returns : tie.Need-returns Inv-loop μ-loop
 returns c = begins-end _ _ _ _ _ (c .loop-test .left) ((c .before) .loop .inv .1)
 

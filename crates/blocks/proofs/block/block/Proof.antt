@@ -7,15 +7,12 @@ use Rattle.blocks.proofs.block.block.Lts as lts
 use Rattle.blocks.proofs.block.block_by.Reads as block-by-reads
 use Rattle.blocks.proofs.readers.readers.Reads as readers-reads
 
--- src/block.rt:166:19
 readers-requires : tie.Need-readers-requires
 readers-requires c κs = ((c .before) .pre .0 .0 .good, (c .before) .pre .0 .0 .matches)
 
--- src/block.rt:167:5
 block-by-requires : tie.Need-block-by-requires
 block-by-requires c κs = (((c .before .before .before .before) .pre .0 .0, (c .before .before .before .before) .pre .0 .1, (c .before .before) .readers .ensures), ((c .before .before .before .before) .pre .1 .0, (c .before .before .before .before) .pre .1 .1, (c .before .before .before .before) .pre .1 .2, omega arith))
 
--- src/block.rt:151:1
 returns : tie.Need-returns
 returns c = c .block-by .ensures
 

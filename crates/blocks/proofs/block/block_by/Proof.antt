@@ -14,35 +14,27 @@ use Rattle.blocks.proofs.block.work.Reads as work-reads
 use Rattle.blocks.proofs.block.zeros.Reads as zeros-reads
 use Rattle.stateset.proofs.intersection.Reads as intersection-reads
 
--- src/block.rt:138:14
 mul-clear : tie.Need-mul-clear
 mul-clear c = omega (arith, ready-states ((c .before .before .before) .pre .0 .0))
 
--- src/block.rt:138:5
 clear-requires : tie.Need-clear-requires
 clear-requires c κs = ((c .before .before .before) .pre .1 .0, omega (arith, ready-states ((c .before .before .before) .pre .0 .0)))
 
--- src/block.rt:139:9
 intersection-requires : tie.Need-intersection-requires
 intersection-requires c κs = search needs
 
--- src/block.rt:140:17
 zeros-requires : tie.Need-zeros-requires
 zeros-requires c κs = search needs
 
--- src/block.rt:141:17
 zeros-requires-2 : tie.Need-zeros-requires-2
 zeros-requires-2 c κs = search needs
 
--- src/block.rt:142:5
 begin-all-requires : tie.Need-begin-all-requires
 begin-all-requires c κs = search needs
 
--- src/block.rt:143:5
 work-requires : tie.Need-work-requires
 work-requires c κs = ((c .before .before .before .before .before .before .before .before .before .before .before .before .before) .pre .0, (sized-after (record { numbers = (c .before .before .before .before .before .before .before .before .before) .clear .ensures .size ∙ (c .before .before .before .before .before .before .before .before .before .before .before .before .before) .pre .1 .0; rows = (c .before .before .before .before .before .before .before) .zeros .ensures }) ((c .before .before .before) .begin-all .ensures .steps), (c .before .before .before .before .before .before) .zeros2 .ensures, (c .before .before .before .before .before .before .before .before .before .before .before .before .before) .pre .1 .3))
 
--- src/block.rt:123:1
 returns : tie.Need-returns
 returns c = block-done _ _ _ ((c .before .before .before .before .before .before .before .before .before .before .before .before .before .before) .pre .0 .1) _ _ _ ((c .before .before .before .before .before .before .before .before .before .before .before .before .before .before) .pre .1 .3) _ ((c .before .before .before .before .before .before .before .before .before .before .before .before .before .before) .pre .1 .1) ((c .before .before .before .before .before .before .before .before .before .before) .clear .ensures) ((c .before .before .before .before .before .before .before .before .before) .intersection .ensures) ((c .before .before .before .before) .begin-all .ensures) ((c .before .before .before .before .before .before .before .before .before .before .before .before .before .before) .pre .0 .0 .good) ((c .before .before .before .before .before .before .before .before .before .before .before .before .before .before) .pre .1 .0) (c .work .ensures)
 

@@ -13,31 +13,24 @@ Inv-loop b₀ n i₀ b i = (i ≤ n) × Cleared i b₀ b
 abbrev μ-loop : tie.MeasureT-loop
 μ-loop b₀ n i₀ b i = n - i
 
--- src/block.rt:80:5
 loop-holds : tie.Need-loop-holds Inv-loop μ-loop
 loop-holds c = (omega arith, clear-start _)
 
--- src/block.rt:81:9
 mul-b : tie.Need-mul-b Inv-loop μ-loop
 mul-b c = omega (arith, (c .before .before) .pre .1, c .loop-test .taken)
 
--- src/block.rt:81:9
 element-write-b : tie.Need-element-write-b Inv-loop μ-loop
 element-write-b c = omega (arith, (c .before .before) .pre .0, (c .before .before) .pre .1, c .loop-test .taken, (c .before) .loop .inv .1 .size)
 
--- src/block.rt:82:9
 add-i : tie.Need-add-i Inv-loop μ-loop
 add-i c = omega (arith, (c .before .before) .pre .1, c .loop-test .taken)
 
--- src/block.rt:80:5
 loop-less : tie.Need-loop-less Inv-loop μ-loop
 loop-less c = omega (arith, c .loop-test .taken)
 
--- src/block.rt:80:5
 loop-again : tie.Need-loop-again Inv-loop μ-loop
 loop-again c = (omega (arith, c .loop-test .taken), clear-more (omega (arith, (c .before .before) .pre .0, (c .before .before) .pre .1, c .loop-test .taken)) ((c .before) .loop .inv .1))
 
--- src/block.rt:75:1
 returns : tie.Need-returns Inv-loop μ-loop
 returns c = clear-end ((c .before) .loop .inv .0) (c .loop-test .left) ((c .before) .loop .inv .1)
 

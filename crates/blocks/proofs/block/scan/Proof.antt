@@ -14,35 +14,27 @@ Inv-loop d k n r₀ r = (q : ℕ) → k ≤ q → q < r → getD d q 0 ≡ 0
 abbrev μ-loop : tie.MeasureT-loop
 μ-loop d k n r₀ r = n - r
 
--- src/block.rt:26:5
 loop-holds : tie.Need-loop-holds Inv-loop μ-loop
 loop-holds c = λ q le lt. absurd (omega arith)
 
--- src/block.rt:27:12
 mul-if1 : tie.Need-mul-if1 Inv-loop μ-loop
 mul-if1 c = omega (arith, (c .before .before) .pre, c .loop-test .taken)
 
--- src/block.rt:27:12
 element-copy-out-if1 : tie.Need-element-copy-out-if1 Inv-loop μ-loop
 element-copy-out-if1 c = omega (arith, (c .before .before) .pre, c .loop-test .taken)
 
--- src/block.rt:28:13
 returns : tie.Need-returns Inv-loop μ-loop
 returns c = scan-found _ _ _ _ (c .if1 .taken) ((c .before .before) .loop-test .taken)
 
--- src/block.rt:30:9
 add-r : tie.Need-add-r Inv-loop μ-loop
 add-r c = omega (arith, (c .before .before) .loop-test .taken, (c .before .before .before .before) .pre)
 
--- src/block.rt:26:5
 loop-less : tie.Need-loop-less Inv-loop μ-loop
 loop-less c = omega (arith, (c .before .before) .loop-test .taken)
 
--- src/block.rt:26:5
 loop-again : tie.Need-loop-again Inv-loop μ-loop
 loop-again c = scan-on ((c .before .before .before .before) .args .d .now) _ ((c .before .before .before .before) .args .n) _ ((c .before .before .before) .loop .inv) (c .if1 .left)
 
--- src/block.rt:21:1
 returns-2 : tie.Need-returns-2 Inv-loop μ-loop
 returns-2 c = scan-none _ _ _ _ ((c .before) .loop .inv) (c .loop-test .left)
 

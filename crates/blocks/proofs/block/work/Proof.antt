@@ -20,43 +20,33 @@ Inv-loop m list index readers g h b₀ d₀ p₀ top s₀ b d p s = (length p �
 abbrev μ-loop : tie.MeasureT-loop
 μ-loop m list index readers g h b₀ d₀ p₀ top s₀ b d p s = 2 * total b + marked d
 
--- src/block.rt:63:5
 loop-holds : tie.Need-loop-holds Inv-loop μ-loop
 loop-holds c = ((c .before) .pre .1 .1, (c .before) .pre .1 .0, take-none _ _ _ _ _)
 
--- src/block.rt:64:9
 next-row-requires : tie.Need-next-row-requires Inv-loop μ-loop
 next-row-requires c κs = ready-states ((c .before .before .before) .pre .0 .0)
 
--- src/block.rt:66:13
 returns : tie.Need-returns Inv-loop μ-loop
 returns c = work-done ((c .before .before .before .before .before .before) .pre .0 .0 .good) ((c .before .before .before .before) .loop .inv .2) ((c .before .before) .next-row .ensures) (c .if1 .taken)
 
--- src/block.rt:68:19
 mul-set : tie.Need-mul-set Inv-loop μ-loop
 mul-set c = omega (arith, ready-state ((c .before .before .before .before .before .before) .pre .0 .0) _ (c .if1 .left))
 
--- src/block.rt:68:19
 element-copy-out-set : tie.Need-element-copy-out-set Inv-loop μ-loop
 element-copy-out-set c = omega (arith, ready-state ((c .before .before .before .before .before .before) .pre .0 .0) _ (c .if1 .left), (c .before .before .before .before) .loop .inv .1 .rows)
 
--- src/block.rt:69:9
 mul-d : tie.Need-mul-d Inv-loop μ-loop
 mul-d c = omega (arith, ready-state ((c .before .before .before .before .before .before .before) .pre .0 .0) _ ((c .before) .if1 .left))
 
--- src/block.rt:69:9
 element-write-d : tie.Need-element-write-d Inv-loop μ-loop
 element-write-d c = omega (arith, ready-state ((c .before .before .before .before .before .before .before) .pre .0 .0) _ ((c .before) .if1 .left), (c .before .before .before .before .before) .loop .inv .1 .rows)
 
--- src/block.rt:70:9
 row-requires : tie.Need-row-requires Inv-loop μ-loop
 row-requires c κs = ((c .before .before .before .before .before .before .before .before .before .before) .pre .0, (sized-set _ _ ((c .before .before .before .before .before .before .before .before) .loop .inv .1), (c .before .before .before .before .before .before .before .before) .loop .inv .0, (c .before .before .before .before) .if1 .left, (c .before .before .before .before .before .before .before .before .before .before) .pre .1 .2))
 
--- src/block.rt:63:5
 loop-less : tie.Need-loop-less Inv-loop μ-loop
 loop-less c = take-less _ _ (omega (arith, ready-state ((c .before .before .before .before .before .before .before .before .before .before .before) .pre .0 .0) _ ((c .before .before .before .before .before) .if1 .left), (c .before .before .before .before .before .before .before .before .before) .loop .inv .1 .rows)) (c .row .ensures .1 .steps) ((c .before .before .before .before .before .before .before) .next-row .ensures .found ((c .before .before .before .before .before) .if1 .left))
 
--- src/block.rt:63:5
 loop-again : tie.Need-loop-again Inv-loop μ-loop
 loop-again c = (c .row .ensures .0, sized-after (sized-set _ _ ((c .before .before .before .before .before .before .before .before .before) .loop .inv .1)) (c .row .ensures .1 .steps), take-row _ _ ((c .before .before .before .before .before .before .before .before .before) .loop .inv .2) (c .row .ensures .1))
 

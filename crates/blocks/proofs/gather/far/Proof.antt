@@ -11,47 +11,36 @@ use Rattle.blocks.proofs.gather.far.Lts as lts
 use Rattle.blocks.proofs.gather.reach.Reads as reach-reads
 use Rattle.blocks.proofs.gather.wide.Reads as wide-reads
 
--- src/gather.rt:69:9
 returns : tie.Need-returns
 returns c = far-none _ _ _ _ _ _ _ _ _ (omega (arith, (c .before .before) .fits .got)) (c .if1 .taken)
 
--- src/gather.rt:71:19
 mul-wide : tie.Need-mul-wide
 mul-wide c = omega (arith, (c .before .before) .pre .1 .0 .0)
 
--- src/gather.rt:71:19
 element-copy-out-wide : tie.Need-element-copy-out-wide
 element-copy-out-wide c = omega (arith, (c .before .before) .pre .1 .0 .0)
 
--- src/gather.rt:71:9
 wide-requires : tie.Need-wide-requires
 wide-requires c κs = search needs
 
--- src/gather.rt:72:25
 add-wide : tie.Need-add-wide
 add-wide c = omega (arith, (c .before .before .before .before) .pre .1 .0 .0)
 
--- src/gather.rt:72:19
 mul-wide-2 : tie.Need-mul-wide-2
 mul-wide-2 c = omega (arith, (c .before .before .before .before) .pre .1 .0 .0)
 
--- src/gather.rt:72:19
 element-copy-out-wide-2 : tie.Need-element-copy-out-wide-2
 element-copy-out-wide-2 c = omega (arith, (c .before .before .before .before) .pre .1 .0 .0)
 
--- src/gather.rt:72:9
 wide-requires-2 : tie.Need-wide-requires-2
 wide-requires-2 c κs = search needs
 
--- src/gather.rt:73:38
 add-reach : tie.Need-add-reach
 add-reach c = omega (arith, (c .before .before .before .before .before) .if1 .left, (c .before .before .before .before .before .before .before) .pre .1 .1 .0, (c .before .before .before .before .before .before .before) .pre .1 .1 .1)
 
--- src/gather.rt:73:5
 reach-requires : tie.Need-reach-requires
 reach-requires c κs = ((c .before .before .before .before .before .before .before) .pre .0, omega (arith, (c .before .before .before .before .before .before .before) .pre .1 .0 .1, (c .before) .wide2 .ensures .0))
 
--- src/gather.rt:53:1
 returns-2 : tie.Need-returns-2
 returns-2 c = far-reach _ _ _ _ _ _ _ (omega (arith, (c .before .before .before .before .before .before) .if1 .left)) ((c .before .before .before .before) .wide .ensures .0) ((c .before .before) .wide2 .ensures .0) (c .reach .ensures)
 

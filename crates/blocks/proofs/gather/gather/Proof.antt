@@ -23,63 +23,48 @@ Inv-loop list index stride x w may b s set p₀ top got₀ rest₀ p got rest = 
 abbrev μ-loop : tie.MeasureT-loop
 μ-loop list index stride x w may b s set p₀ top got₀ rest₀ p got rest = ones rest
 
--- src/gather.rt:95:9
 empty-requires : tie.Need-empty-requires Inv-loop μ-loop
 empty-requires c κs = search needs
 
--- src/gather.rt:97:5
 loop-holds : tie.Need-loop-holds Inv-loop μ-loop
 loop-holds c = (rest-start _ (omega (arith, (c .before .before) .fits .set)), from-start _ _ _ _ _ _ _ _ _ _ _ _ (c .empty .ensures .value))
 
--- src/gather.rt:98:17
 lowest-requires : tie.Need-lowest-requires Inv-loop μ-loop
 lowest-requires c κs = search needs
 
--- src/gather.rt:98:17
 cast-t : tie.Need-cast-t Inv-loop μ-loop
 cast-t c = search needs
 
--- src/gather.rt:99:9
 without-lowest-requires : tie.Need-without-lowest-requires Inv-loop μ-loop
 without-lowest-requires c κs = search needs
 
--- src/gather.rt:100:32
 mul-far : tie.Need-mul-far Inv-loop μ-loop
 mul-far c = omega (arith, key-fits _ _ _ (lowest-inside _ _ ((c .before .before .before) .loop .inv .0 .fits) ((c .before .before) .loop-test .taken) ((c .before) .lowest .ensures)) ((c .before .before .before .before .before .before) .pre .1 .0 .0) ((c .before .before .before .before .before .before) .pre .1 .0 .1))
 
--- src/gather.rt:100:32
 add-far : tie.Need-add-far Inv-loop μ-loop
 add-far c = omega (arith, key-fits _ _ _ (lowest-inside _ _ ((c .before .before .before) .loop .inv .0 .fits) ((c .before .before) .loop-test .taken) ((c .before) .lowest .ensures)) ((c .before .before .before .before .before .before) .pre .1 .0 .0) ((c .before .before .before .before .before .before) .pre .1 .0 .1))
 
--- src/gather.rt:100:63
 mul-far-2 : tie.Need-mul-far-2 Inv-loop μ-loop
 mul-far-2 c = omega (arith, (c .before .before .before .before .before .before .before) .pre .1 .1 .1)
 
--- src/gather.rt:100:63
 add-far-2 : tie.Need-add-far-2 Inv-loop μ-loop
 add-far-2 c = omega (arith, (c .before .before .before .before .before .before .before) .pre .1 .1 .1, lowest-inside _ _ ((c .before .before .before .before) .loop .inv .0 .fits) ((c .before .before .before) .loop-test .taken) ((c .before .before) .lowest .ensures))
 
--- src/gather.rt:100:61
 mul-far-3 : tie.Need-mul-far-3 Inv-loop μ-loop
 mul-far-3 c = omega (arith, (c .before .before .before .before .before .before .before) .pre .1 .1 .1, lowest-inside _ _ ((c .before .before .before .before) .loop .inv .0 .fits) ((c .before .before .before) .loop-test .taken) ((c .before .before) .lowest .ensures))
 
--- src/gather.rt:100:61
 element-copy-out-far : tie.Need-element-copy-out-far Inv-loop μ-loop
 element-copy-out-far c = omega (arith, (c .before .before .before .before .before .before .before) .pre .1 .1 .1, lowest-inside _ _ ((c .before .before .before .before) .loop .inv .0 .fits) ((c .before .before .before) .loop-test .taken) ((c .before .before) .lowest .ensures))
 
--- src/gather.rt:100:9
 far-requires : tie.Need-far-requires Inv-loop μ-loop
 far-requires c κs = ((c .before .before .before .before .before) .loop .inv .1 .size ∙ (c .before .before .before .before .before .before .before .before) .pre .0, ((key-fits _ _ _ (lowest-inside _ _ ((c .before .before .before .before .before) .loop .inv .0 .fits) ((c .before .before .before .before) .loop-test .taken) ((c .before .before .before) .lowest .ensures)) ((c .before .before .before .before .before .before .before .before) .pre .1 .0 .0) ((c .before .before .before .before .before .before .before .before) .pre .1 .0 .1) .1, (c .before .before .before .before .before .before .before .before) .pre .1 .0 .2 _ ((c .before .before .before .before .before) .loop .inv .0 .part _ ((c .before .before .before) .lowest .ensures .member (omega (arith, (c .before .before .before .before) .loop-test .taken))))), ((c .before .before .before .before .before .before .before .before) .pre .1 .1 .0, (c .before .before .before .before .before .before .before .before) .pre .1 .1 .2)))
 
--- src/gather.rt:97:5
 loop-less : tie.Need-loop-less Inv-loop μ-loop
 loop-less c = taken ((c .before .before .before .before .before .before) .loop .inv .0 .fits) ((c .before .before .before .before .before) .loop-test .taken) ((c .before .before .before .before) .lowest .ensures) ((c .before .before .before) .without-lowest .ensures) .fewer
 
--- src/gather.rt:97:5
 loop-again : tie.Need-loop-again Inv-loop μ-loop
 loop-again c = let k = taken ((c .before .before .before .before .before .before) .loop .inv .0 .fits) ((c .before .before .before .before .before) .loop-test .taken) ((c .before .before .before .before) .lowest .ensures) ((c .before .before .before) .without-lowest .ensures) in (rest-more ((c .before .before .before .before .before .before) .loop .inv .0) k, from-more _ _ _ _ _ _ _ _ _ ((c .before .before .before .before .before .before) .loop .inv .0) k (sym (cell-inside _ _ _ ((c .before .before .before .before .before .before .before .before .before) .pre .1 .1 .1) (lowest-inside _ _ ((c .before .before .before .before .before .before) .loop .inv .0 .fits) ((c .before .before .before .before .before) .loop-test .taken) ((c .before .before .before .before) .lowest .ensures)))) refl ((c .before .before .before .before .before .before) .loop .inv .1) (c .far .ensures))
 
--- src/gather.rt:78:1
 returns : tie.Need-returns Inv-loop μ-loop
 returns c = from-end _ _ _ _ _ _ _ _ _ _ _ (c .loop-test .left) ((c .before) .loop .inv .1)
 

@@ -6,19 +6,15 @@ use Rattle.blocks.proofs.gather.near.Reads as reads
 use Rattle.blocks.proofs.gather.near.Lts as lts
 use Rattle.blocks.proofs.gather.pick.Reads as pick-reads
 
--- src/gather.rt:111:9
 returns : tie.Need-returns
 returns c = near-none _ _ _ _ _ _ (omega (arith, (c .before) .fits .got)) (c .if1 .taken)
 
--- src/gather.rt:113:26
 add-pick : tie.Need-add-pick
 add-pick c = omega (arith, (c .before) .if1 .left, (c .before .before) .pre .1)
 
--- src/gather.rt:113:5
 pick-requires : tie.Need-pick-requires
 pick-requires c κs = (c .before .before) .pre .0
 
--- src/gather.rt:106:1
 returns-2 : tie.Need-returns-2
 returns-2 c = near-pick _ _ _ _ (omega (arith, (c .before .before) .if1 .left)) (c .pick .ensures)
 

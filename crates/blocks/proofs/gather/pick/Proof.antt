@@ -13,55 +13,42 @@ use Rattle.blocks.proofs.gather.pick.Lts as lts
 use Rattle.stateset.proofs.add.Reads as add-reads
 use Rattle.stateset.proofs.member.Reads as member-reads
 
--- src/gather.rt:17:9
 member-requires : tie.Need-member-requires
 member-requires c κs = search needs
 
--- src/gather.rt:18:9
 returns : tie.Need-returns
 returns c = pick-shut _ _ _ _ _ (omega (arith, (c .before .before) .fits .got)) (sym ((c .before) .member .ensures) ∙ not-true _ (c .if1 .taken))
 
--- src/gather.rt:20:9
 member-requires-2 : tie.Need-member-requires-2
 member-requires-2 c κs = search needs
 
--- src/gather.rt:21:9
 mul-p : tie.Need-mul-p
 mul-p c = omega (arith, in-lt {w = width} {x = (c .before .before .before .before) .args .may} {q = (c .before .before .before .before) .args .t} (omega (arith, (c .before .before .before .before) .fits .may)) (has-in _ _ .0 (sym ((c .before .before .before) .member .ensures) ∙ not-false _ ((c .before .before) .if1 .left))))
 
--- src/gather.rt:21:9
 element-write-p : tie.Need-element-write-p
 element-write-p c = omega (arith, (c .before .before .before .before) .pre, in-lt {w = width} {x = (c .before .before .before .before) .args .may} {q = (c .before .before .before .before) .args .t} (omega (arith, (c .before .before .before .before) .fits .may)) (has-in _ _ .0 (sym ((c .before .before .before) .member .ensures) ∙ not-false _ ((c .before .before) .if1 .left))))
 
--- src/gather.rt:22:9
 add-requires : tie.Need-add-requires
 add-requires c κs = search needs
 
--- src/gather.rt:22:9
 returns-2 : tie.Need-returns-2
 returns-2 c = let l = in-lt {w = width} {x = (c .before .before .before .before .before) .args .may} {q = (c .before .before .before .before .before) .args .t} (omega (arith, (c .before .before .before .before .before) .fits .may)) (has-in _ _ .0 (sym ((c .before .before .before .before) .member .ensures) ∙ not-false _ ((c .before .before .before) .if1 .left))) in pick-adds _ _ _ _ _ (omega (arith, (c .before .before .before .before .before) .fits .got)) (sym ((c .before .before .before .before) .member .ensures) ∙ not-false _ ((c .before .before .before) .if1 .left)) (omega (arith, (c .before .before .before .before .before) .pre)) (sym ((c .before .before) .member2 .ensures) ∙ not-true _ ((c .before) .if2 .taken)) (c .add .ensures) l
 
--- src/gather.rt:24:12
 mul-if3 : tie.Need-mul-if3
 mul-if3 c = omega (arith, in-lt {w = width} {x = (c .before .before .before .before) .args .may} {q = (c .before .before .before .before) .args .t} (omega (arith, (c .before .before .before .before) .fits .may)) (has-in _ _ .0 (sym ((c .before .before .before) .member .ensures) ∙ not-false _ ((c .before .before) .if1 .left))))
 
--- src/gather.rt:24:12
 element-copy-out-if3 : tie.Need-element-copy-out-if3
 element-copy-out-if3 c = omega (arith, (c .before .before .before .before) .pre, in-lt {w = width} {x = (c .before .before .before .before) .args .may} {q = (c .before .before .before .before) .args .t} (omega (arith, (c .before .before .before .before) .fits .may)) (has-in _ _ .0 (sym ((c .before .before .before) .member .ensures) ∙ not-false _ ((c .before .before) .if1 .left))))
 
--- src/gather.rt:25:9
 mul-p-2 : tie.Need-mul-p-2
 mul-p-2 c = omega (arith, in-lt {w = width} {x = (c .before .before .before .before .before .before) .args .may} {q = (c .before .before .before .before .before .before) .args .t} (omega (arith, (c .before .before .before .before .before .before) .fits .may)) (has-in _ _ .0 (sym ((c .before .before .before .before .before) .member .ensures) ∙ not-false _ ((c .before .before .before .before) .if1 .left))))
 
--- src/gather.rt:25:9
 element-write-p-2 : tie.Need-element-write-p-2
 element-write-p-2 c = omega (arith, (c .before .before .before .before .before .before) .pre, in-lt {w = width} {x = (c .before .before .before .before .before .before) .args .may} {q = (c .before .before .before .before .before .before) .args .t} (omega (arith, (c .before .before .before .before .before .before) .fits .may)) (has-in _ _ .0 (sym ((c .before .before .before .before .before) .member .ensures) ∙ not-false _ ((c .before .before .before .before) .if1 .left))))
 
--- src/gather.rt:13:1
 returns-3 : tie.Need-returns-3
 returns-3 c = let l = in-lt {w = width} {x = (c .before .before .before .before .before .before) .args .may} {q = (c .before .before .before .before .before .before) .args .t} (omega (arith, (c .before .before .before .before .before .before) .fits .may)) (has-in _ _ .0 (sym ((c .before .before .before .before .before) .member .ensures) ∙ not-false _ ((c .before .before .before .before) .if1 .left))) in pick-lowers _ _ _ _ _ (omega (arith, (c .before .before .before .before .before .before) .fits .got)) (sym ((c .before .before .before .before .before) .member .ensures) ∙ not-false _ ((c .before .before .before .before) .if1 .left)) (omega (arith, (c .before .before .before .before .before .before) .pre)) (sym ((c .before .before .before) .member2 .ensures) ∙ not-false _ ((c .before .before) .if2 .left)) (omega (arith, c .if3 .taken))
 
--- src/gather.rt:13:1
 returns-4 : tie.Need-returns-4
 returns-4 c = pick-keeps _ _ _ _ _ (omega (arith, (c .before .before .before .before .before .before) .fits .got)) (sym ((c .before .before .before .before .before) .member .ensures) ∙ not-false _ ((c .before .before .before .before) .if1 .left)) (sym ((c .before .before .before) .member2 .ensures) ∙ not-false _ ((c .before .before) .if2 .left)) (omega (arith, c .if3 .left))
 

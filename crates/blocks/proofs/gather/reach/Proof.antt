@@ -19,47 +19,36 @@ Inv-loop list lo hi may p₀ got v all₀ k₀ p all k = (lo ≤ k) × ((k ≡ l
 abbrev μ-loop : tie.MeasureT-loop
 μ-loop list lo hi may p₀ got v all₀ k₀ p all k = hi - k
 
--- src/gather.rt:38:5
 loop-holds : tie.Need-loop-holds Inv-loop μ-loop
 loop-holds c = (omega arith, inl refl, reach-none _ _ _ _ _ _ _ (omega (arith, (c .before) .fits .got)) (omega arith))
 
--- src/gather.rt:39:38
 mul-pick : tie.Need-mul-pick Inv-loop μ-loop
 mul-pick c = omega (arith, (c .before .before .before .before) .pre .1, (c .before) .loop-test .taken)
 
--- src/gather.rt:39:38
 add-pick : tie.Need-add-pick Inv-loop μ-loop
 add-pick c = omega (arith, (c .before .before .before .before) .pre .1, (c .before) .loop-test .taken)
 
--- src/gather.rt:39:33
 mul-pick-2 : tie.Need-mul-pick-2 Inv-loop μ-loop
 mul-pick-2 c = omega (arith, (c .before .before .before .before) .pre .1, (c .before) .loop-test .taken)
 
--- src/gather.rt:39:33
 shared-slice-read-pick : tie.Need-shared-slice-read-pick Inv-loop μ-loop
 shared-slice-read-pick c = omega (arith, (c .before .before .before .before .before) .pre .1, (c .before .before) .loop-test .taken)
 
--- src/gather.rt:39:33
 cast-pick : tie.Need-cast-pick Inv-loop μ-loop
 cast-pick c = omega (arith, c .shared-slice-known2 .given ((c .before .before .before) .loop .k * 3 + 2))
 
--- src/gather.rt:39:9
 pick-requires : tie.Need-pick-requires Inv-loop μ-loop
 pick-requires c κs = (c .before .before .before) .loop .inv .2 .size ∙ (c .before .before .before .before .before) .pre .0
 
--- src/gather.rt:40:9
 add-k : tie.Need-add-k Inv-loop μ-loop
 add-k c = omega (arith, (c .before .before .before .before .before .before) .pre .1, (c .before .before .before) .loop-test .taken)
 
--- src/gather.rt:38:5
 loop-less : tie.Need-loop-less Inv-loop μ-loop
 loop-less c = omega (arith, (c .before .before .before) .loop-test .taken)
 
--- src/gather.rt:38:5
 loop-again : tie.Need-loop-again Inv-loop μ-loop
 loop-again c = (omega (arith, (c .before .before .before .before) .loop .inv .0), inr (omega (arith, (c .before .before .before) .loop-test .taken)), reach-more _ _ _ ((c .before .before .before .before) .loop .inv .0) refl ((c .before .before .before .before) .loop .inv .2) (c .pick .ensures))
 
--- src/gather.rt:31:1
 returns : tie.Need-returns Inv-loop μ-loop
 returns c = reach-past _ _ _ ((c .before) .loop .inv .1) (c .loop-test .left) ((c .before) .loop .inv .2)
 

@@ -21,55 +21,42 @@ Inv-loop b s set p₀ top got₀ rest₀ p got rest = Rest set rest × Adding (S
 abbrev μ-loop : tie.MeasureT-loop
 μ-loop b s set p₀ top got₀ rest₀ p got rest = ones rest
 
--- src/gather.rt:122:9
 empty-requires : tie.Need-empty-requires Inv-loop μ-loop
 empty-requires c κs = search needs
 
--- src/gather.rt:124:5
 loop-holds : tie.Need-loop-holds Inv-loop μ-loop
 loop-holds c = (rest-start _ (omega (arith, (c .before) .fits .set)), stay-start _ _ _ _ _ _ (c .empty .ensures .value))
 
--- src/gather.rt:125:17
 lowest-requires : tie.Need-lowest-requires Inv-loop μ-loop
 lowest-requires c κs = search needs
 
--- src/gather.rt:125:17
 cast-t : tie.Need-cast-t Inv-loop μ-loop
 cast-t c = search needs
 
--- src/gather.rt:126:9
 without-lowest-requires : tie.Need-without-lowest-requires Inv-loop μ-loop
 without-lowest-requires c κs = search needs
 
--- src/gather.rt:127:38
 mul-near : tie.Need-mul-near Inv-loop μ-loop
 mul-near c = omega (arith, (c .before .before .before .before .before .before) .pre .1 .0)
 
--- src/gather.rt:127:38
 add-near : tie.Need-add-near Inv-loop μ-loop
 add-near c = omega (arith, (c .before .before .before .before .before .before) .pre .1 .0, lowest-inside _ _ ((c .before .before .before .before) .loop .inv .0 .fits) ((c .before .before .before) .loop-test .taken) ((c .before .before) .lowest .ensures))
 
--- src/gather.rt:127:36
 mul-near-2 : tie.Need-mul-near-2 Inv-loop μ-loop
 mul-near-2 c = omega (arith, (c .before .before .before .before .before .before) .pre .1 .0, lowest-inside _ _ ((c .before .before .before .before) .loop .inv .0 .fits) ((c .before .before .before) .loop-test .taken) ((c .before .before) .lowest .ensures))
 
--- src/gather.rt:127:36
 element-copy-out-near : tie.Need-element-copy-out-near Inv-loop μ-loop
 element-copy-out-near c = omega (arith, (c .before .before .before .before .before .before) .pre .1 .0, lowest-inside _ _ ((c .before .before .before .before) .loop .inv .0 .fits) ((c .before .before .before) .loop-test .taken) ((c .before .before) .lowest .ensures))
 
--- src/gather.rt:127:9
 near-requires : tie.Need-near-requires Inv-loop μ-loop
 near-requires c κs = ((c .before .before .before .before .before) .loop .inv .1 .size ∙ (c .before .before .before .before .before .before .before) .pre .0, (c .before .before .before .before .before .before .before) .pre .1 .1)
 
--- src/gather.rt:124:5
 loop-less : tie.Need-loop-less Inv-loop μ-loop
 loop-less c = taken ((c .before .before .before .before .before .before) .loop .inv .0 .fits) ((c .before .before .before .before .before) .loop-test .taken) ((c .before .before .before .before) .lowest .ensures) ((c .before .before .before) .without-lowest .ensures) .fewer
 
--- src/gather.rt:124:5
 loop-again : tie.Need-loop-again Inv-loop μ-loop
 loop-again c = let k = taken ((c .before .before .before .before .before .before) .loop .inv .0 .fits) ((c .before .before .before .before .before) .loop-test .taken) ((c .before .before .before .before) .lowest .ensures) ((c .before .before .before) .without-lowest .ensures) in (rest-more ((c .before .before .before .before .before .before) .loop .inv .0) k, stay-more _ _ _ ((c .before .before .before .before .before .before) .loop .inv .0) k (sym (cell-inside _ _ _ ((c .before .before .before .before .before .before .before .before) .pre .1 .0) (lowest-inside _ _ ((c .before .before .before .before .before .before) .loop .inv .0 .fits) ((c .before .before .before .before .before) .loop-test .taken) ((c .before .before .before .before) .lowest .ensures)))) ((c .before .before .before .before .before .before) .loop .inv .1) (c .near .ensures))
 
--- src/gather.rt:117:1
 returns : tie.Need-returns Inv-loop μ-loop
 returns c = stay-end _ _ _ _ _ (c .loop-test .left) ((c .before) .loop .inv .1)
 

@@ -14,47 +14,36 @@ Inv-loop m list starts₀ stride keys k₀ y₀ starts k y = Built m list starts
 abbrev μ-loop : tie.MeasureT-loop
 μ-loop m list starts₀ stride keys k₀ y₀ starts k y = keys + 1 - y
 
--- src/index.rt:44:18
 add-stride : tie.Need-add-stride Inv-loop μ-loop
 add-stride c = omega (arith, rules _ _ ((c .before .before) .pre .0) .letters-fit)
 
--- src/index.rt:45:16
 mul-keys : tie.Need-mul-keys Inv-loop μ-loop
 mul-keys c = omega (arith, keys-fit _ _ (rules _ _ ((c .before .before .before) .pre .0)))
 
--- src/index.rt:48:5
 loop-holds : tie.Need-loop-holds Inv-loop μ-loop
 loop-holds c = built-start _ _ (rules _ _ ((c .before .before .before) .pre .0)) _ ((c .before .before .before) .pre .1)
 
--- src/index.rt:49:9
 seek-requires : tie.Need-seek-requires Inv-loop μ-loop
 seek-requires c κs = (omega (arith, rules _ _ ((c .before .before .before .before .before) .pre .0) .letters-fit), (c .before) .loop .inv .at-most, rules _ _ ((c .before .before .before .before .before) .pre .0) .list-fits)
 
--- src/index.rt:50:21
 cast-starts : tie.Need-cast-starts Inv-loop μ-loop
 cast-starts c = omega (arith, rules _ _ ((c .before .before .before .before .before .before) .pre .0) .transitions-fit, c .seek .ensures .within)
 
--- src/index.rt:50:9
 mul-starts : tie.Need-mul-starts Inv-loop μ-loop
 mul-starts c = omega (arith, keys-fit _ _ (rules _ _ ((c .before .before .before .before .before .before) .pre .0)), (c .before) .loop-test .taken)
 
--- src/index.rt:50:9
 element-write-starts : tie.Need-element-write-starts Inv-loop μ-loop
 element-write-starts c = omega (arith, keys-fit _ _ (rules _ _ ((c .before .before .before .before .before .before) .pre .0)), (c .before) .loop-test .taken, (c .before .before) .loop .inv .size)
 
--- src/index.rt:51:9
 add-y : tie.Need-add-y Inv-loop μ-loop
 add-y c = omega (arith, keys-fit _ _ (rules _ _ ((c .before .before .before .before .before .before) .pre .0)), (c .before) .loop-test .taken)
 
--- src/index.rt:48:5
 loop-less : tie.Need-loop-less Inv-loop μ-loop
 loop-less c = omega (arith, (c .before) .loop-test .taken)
 
--- src/index.rt:48:5
 loop-again : tie.Need-loop-again Inv-loop μ-loop
 loop-again c = built-turn _ _ (rules _ _ ((c .before .before .before .before .before .before) .pre .0)) _ _ _ _ ((c .before .before) .loop .inv) ((c .before) .loop-test .taken) (c .seek .ensures)
 
--- src/index.rt:39:1
 returns : tie.Need-returns Inv-loop μ-loop
 returns c = built-end _ _ (rules _ _ ((c .before .before .before .before .before) .pre .0)) _ _ _ ((c .before) .loop .inv) (c .loop-test .left)
 

@@ -8,51 +8,39 @@ use Rattle.blocks.proofs.index.key.Tie as tie
 use Rattle.blocks.proofs.index.key.Reads as reads
 use Rattle.blocks.proofs.index.key.Lts as lts
 
--- src/index.rt:19:10
 mul-result : tie.Need-mul-result
 mul-result c = search needs
 
--- src/index.rt:19:5
 mul-result-2 : tie.Need-mul-result-2
 mul-result-2 c = search needs
 
--- src/index.rt:19:5
 shared-slice-read-result : tie.Need-shared-slice-read-result
 shared-slice-read-result c = search needs
 
--- src/index.rt:19:5
 cast-result : tie.Need-cast-result
 cast-result c = omega (arith, c .shared-slice-known .given ((c .before) .args .k * 3))
 
--- src/index.rt:19:5
 mul-result-3 : tie.Need-mul-result-3
 mul-result-3 c = omega (arith, product-fits (getD ((c .before) .args .list .now) ((c .before) .args .k * 3) 0) _ (omega (arith, c .shared-slice-known .given ((c .before) .args .k * 3))) ((c .before) .pre .0))
 
--- src/index.rt:19:42
 mul-result-4 : tie.Need-mul-result-4
 mul-result-4 c = search needs
 
--- src/index.rt:19:42
 add-result : tie.Need-add-result
 add-result c = search needs
 
--- src/index.rt:19:37
 mul-result-5 : tie.Need-mul-result-5
 mul-result-5 c = search needs
 
--- src/index.rt:19:37
 shared-slice-read-result-2 : tie.Need-shared-slice-read-result-2
 shared-slice-read-result-2 c = search needs
 
--- src/index.rt:19:37
 cast-result-2 : tie.Need-cast-result-2
 cast-result-2 c = omega (arith, c .shared-slice-known2 .given ((c .before .before) .args .k * 3 + 1))
 
--- src/index.rt:19:5
 add-result-2 : tie.Need-add-result-2
 add-result-2 c = omega (arith, c .shared-slice-known2 .given ((c .before .before) .args .k * 3 + 1), product-fits (getD ((c .before .before) .args .list .now) ((c .before .before) .args .k * 3) 0) _ (omega (arith, c .shared-slice-known2 .given ((c .before .before) .args .k * 3))) ((c .before .before) .pre .0))
 
--- src/index.rt:15:1
 returns : tie.Need-returns
 returns c = search needs
 

@@ -14,31 +14,24 @@ Inv-loop list stride k n y r₀ r = (k ≤ r) × (r ≤ n) × ((t : ℕ) → k �
 abbrev μ-loop : tie.MeasureT-loop
 μ-loop list stride k n y r₀ r = n - r
 
--- src/index.rt:28:5
 loop-holds : tie.Need-loop-holds Inv-loop μ-loop
 loop-holds c = (omega arith, omega (arith, (c .before) .pre .1), λ t from lt. absurd (omega arith))
 
--- src/index.rt:29:17
 key-requires : tie.Need-key-requires Inv-loop μ-loop
 key-requires c κs = ((c .before .before .before) .pre .0, omega (arith, (c .before .before .before) .pre .2, c .loop-test .taken))
 
--- src/index.rt:30:13
 returns : tie.Need-returns Inv-loop μ-loop
 returns c = found-here _ _ _ _ _ _ _ ((c .before .before .before) .loop .inv .0) ((c .before .before) .loop-test .taken) ((c .before .before .before) .loop .inv .2) ((c .before) .key .ensures) (c .if1 .taken)
 
--- src/index.rt:32:9
 add-r : tie.Need-add-r Inv-loop μ-loop
 add-r c = omega (arith, (c .before .before) .loop-test .taken, (c .before .before .before .before .before) .pre .2)
 
--- src/index.rt:28:5
 loop-less : tie.Need-loop-less Inv-loop μ-loop
 loop-less c = omega (arith, (c .before .before) .loop-test .taken)
 
--- src/index.rt:28:5
 loop-again : tie.Need-loop-again Inv-loop μ-loop
 loop-again c = (omega (arith, (c .before .before .before) .loop .inv .0), omega (arith, (c .before .before) .loop-test .taken), found-on ((c .before .before .before .before .before) .args .list .now) ((c .before .before .before .before .before) .args .stride) _ ((c .before .before .before .before .before) .args .n) _ _ _ ((c .before .before .before) .loop .inv .2) ((c .before) .key .ensures) (c .if1 .left))
 
--- src/index.rt:23:1
 returns-2 : tie.Need-returns-2 Inv-loop μ-loop
 returns-2 c = found-none _ _ _ _ _ _ ((c .before) .loop .inv .0) ((c .before) .loop .inv .1) (c .loop-test .left) ((c .before) .loop .inv .2)
 

@@ -12,19 +12,15 @@ use Rattle.blocks.proofs.numbers.enter.Lts as lts
 use Rattle.blocks.proofs.numbers.put.Reads as put-reads
 use Rattle.stateset.proofs.member.Reads as member-reads
 
--- src/numbers.rt:41:9
 member-requires : tie.Need-member-requires
 member-requires c κs = search needs
 
--- src/numbers.rt:42:9
 returns : tie.Need-returns
 returns c = enter-not _ _ _ _ _ _ (sym ((c .before) .member .ensures) ∙ not-true _ (c .if1 .taken))
 
--- src/numbers.rt:44:5
 put-requires : tie.Need-put-requires
 put-requires c κs = ((c .before .before .before .before) .pre, in-lt {w = width} {x = (c .before .before .before .before) .args .may} {q = (c .before .before .before .before) .args .s} (omega (arith, (c .before .before .before .before) .fits .may)) (has-in _ _ .0 (sym ((c .before .before .before) .member .ensures) ∙ not-false _ ((c .before .before) .if1 .left))))
 
--- src/numbers.rt:37:1
 returns-2 : tie.Need-returns-2
 returns-2 c = enter-is _ _ _ _ (sym ((c .before .before .before .before) .member .ensures) ∙ not-false _ ((c .before .before .before) .if1 .left)) (c .put .ensures)
 

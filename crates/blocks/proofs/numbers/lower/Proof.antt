@@ -7,55 +7,42 @@ use Rattle.blocks.proofs.numbers.lower.Reads as reads
 use Rattle.blocks.proofs.numbers.lower.Lts as lts
 use Rattle.stateset.proofs.add.Reads as add-reads
 
--- src/numbers.rt:14:13
 mul-i : tie.Need-mul-i
 mul-i c = search needs
 
--- src/numbers.rt:14:13
 add-i : tie.Need-add-i
 add-i c = search needs
 
--- src/numbers.rt:15:8
 mul-if1 : tie.Need-mul-if1
 mul-if1 c = search needs
 
--- src/numbers.rt:15:8
 element-copy-out-if1 : tie.Need-element-copy-out-if1
 element-copy-out-if1 c = search needs
 
--- src/numbers.rt:16:9
 returns : tie.Need-returns
 returns c = lower-not _ _ _ _ _ ((c .before .before) .pre .1 .0) ((c .before .before) .pre .1 .1) (c .if1 .taken)
 
--- src/numbers.rt:18:5
 mul-b : tie.Need-mul-b
 mul-b c = search needs
 
--- src/numbers.rt:18:5
 element-write-b : tie.Need-element-write-b
 element-write-b c = search needs
 
--- src/numbers.rt:19:26
 mul-add : tie.Need-mul-add
 mul-add c = search needs
 
--- src/numbers.rt:19:26
 element-copy-out-add : tie.Need-element-copy-out-add
 element-copy-out-add c = search needs
 
--- src/numbers.rt:19:12
 add-requires : tie.Need-add-requires
 add-requires c κs = search needs
 
--- src/numbers.rt:19:5
 mul-d : tie.Need-mul-d
 mul-d c = search needs
 
--- src/numbers.rt:19:5
 element-write-d : tie.Need-element-write-d
 element-write-d c = search needs
 
--- src/numbers.rt:9:1
 returns-2 : tie.Need-returns-2
 returns-2 c = lower-is _ _ _ _ _ ((c .before .before .before .before) .pre .1 .0) ((c .before .before .before .before) .pre .1 .1) ((c .before .before .before .before) .pre .0) (omega (arith, (c .before .before) .if1 .left)) (c .add .ensures)
 

@@ -18,43 +18,33 @@ Inv-loop b₀ d₀ s got p rest₀ b d rest = Rest got rest × Lowers (Put s (Le
 abbrev μ-loop : tie.MeasureT-loop
 μ-loop b₀ d₀ s got p rest₀ b d rest = ones rest
 
--- src/numbers.rt:29:5
 loop-holds : tie.Need-loop-holds Inv-loop μ-loop
 loop-holds c = (rest-start _ (omega (arith, c .fits .got)), put-start _ _ _ _ _)
 
--- src/numbers.rt:30:17
 lowest-requires : tie.Need-lowest-requires Inv-loop μ-loop
 lowest-requires c κs = search needs
 
--- src/numbers.rt:30:17
 cast-t : tie.Need-cast-t Inv-loop μ-loop
 cast-t c = search needs
 
--- src/numbers.rt:31:9
 without-lowest-requires : tie.Need-without-lowest-requires Inv-loop μ-loop
 without-lowest-requires c κs = search needs
 
--- src/numbers.rt:32:27
 mul-lower : tie.Need-mul-lower Inv-loop μ-loop
 mul-lower c = omega (arith, lowest-inside _ _ ((c .before .before .before .before .before) .loop .inv .0 .fits) ((c .before .before .before .before) .loop-test .taken) ((c .before .before .before) .lowest .ensures))
 
--- src/numbers.rt:32:27
 element-copy-out-lower : tie.Need-element-copy-out-lower Inv-loop μ-loop
 element-copy-out-lower c = omega (arith, lowest-inside _ _ ((c .before .before .before .before .before) .loop .inv .0 .fits) ((c .before .before .before .before) .loop-test .taken) ((c .before .before .before) .lowest .ensures))
 
--- src/numbers.rt:32:9
 lower-requires : tie.Need-lower-requires Inv-loop μ-loop
 lower-requires c κs = (sized-after ((c .before .before .before .before .before .before .before) .pre .0) ((c .before .before .before .before .before .before) .loop .inv .1 .steps), ((c .before .before .before .before .before .before .before) .pre .1, lowest-inside _ _ ((c .before .before .before .before .before .before) .loop .inv .0 .fits) ((c .before .before .before .before .before) .loop-test .taken) ((c .before .before .before .before) .lowest .ensures)))
 
--- src/numbers.rt:29:5
 loop-less : tie.Need-loop-less Inv-loop μ-loop
 loop-less c = taken ((c .before .before .before .before .before .before .before) .loop .inv .0 .fits) ((c .before .before .before .before .before .before) .loop-test .taken) ((c .before .before .before .before .before) .lowest .ensures) ((c .before .before .before .before) .without-lowest .ensures) .fewer
 
--- src/numbers.rt:29:5
 loop-again : tie.Need-loop-again Inv-loop μ-loop
 loop-again c = let k = taken ((c .before .before .before .before .before .before .before) .loop .inv .0 .fits) ((c .before .before .before .before .before .before) .loop-test .taken) ((c .before .before .before .before .before) .lowest .ensures) ((c .before .before .before .before) .without-lowest .ensures) in (rest-more ((c .before .before .before .before .before .before .before) .loop .inv .0) k, put-more _ _ ((c .before .before .before .before .before .before .before) .loop .inv .0) k refl ((c .before .before .before .before .before .before .before) .loop .inv .1) (c .lower .ensures))
 
--- src/numbers.rt:23:1
 returns : tie.Need-returns Inv-loop μ-loop
 returns c = put-end _ _ _ _ (c .loop-test .left) ((c .before) .loop .inv .1)
 

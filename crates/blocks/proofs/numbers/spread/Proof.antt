@@ -16,47 +16,36 @@ Inv-loop b₀ d₀ list lo hi may got p k₀ b d k = (lo ≤ k) × ((k ≡ lo) �
 abbrev μ-loop : tie.MeasureT-loop
 μ-loop b₀ d₀ list lo hi may got p k₀ b d k = hi - k
 
--- src/numbers.rt:63:5
 loop-holds : tie.Need-loop-holds Inv-loop μ-loop
 loop-holds c = (omega arith, inl refl, spread-start _ _ _ _ _ _ _)
 
--- src/numbers.rt:64:26
 mul-enter : tie.Need-mul-enter Inv-loop μ-loop
 mul-enter c = omega (arith, (c .before .before .before .before .before) .pre .1, (c .before .before) .loop-test .taken)
 
--- src/numbers.rt:64:26
 add-enter : tie.Need-add-enter Inv-loop μ-loop
 add-enter c = omega (arith, (c .before .before .before .before .before) .pre .1, (c .before .before) .loop-test .taken)
 
--- src/numbers.rt:64:21
 mul-enter-2 : tie.Need-mul-enter-2 Inv-loop μ-loop
 mul-enter-2 c = omega (arith, (c .before .before .before .before .before) .pre .1, (c .before .before) .loop-test .taken)
 
--- src/numbers.rt:64:21
 shared-slice-read-enter : tie.Need-shared-slice-read-enter Inv-loop μ-loop
 shared-slice-read-enter c = omega (arith, (c .before .before .before .before .before .before) .pre .1, (c .before .before .before) .loop-test .taken)
 
--- src/numbers.rt:64:21
 cast-enter : tie.Need-cast-enter Inv-loop μ-loop
 cast-enter c = omega (arith, c .shared-slice-known2 .given ((c .before .before .before .before) .loop .k * 3 + 2))
 
--- src/numbers.rt:64:9
 enter-requires : tie.Need-enter-requires Inv-loop μ-loop
 enter-requires c κs = sized-after ((c .before .before .before .before .before .before) .pre .0) ((c .before .before .before .before) .loop .inv .2 .steps)
 
--- src/numbers.rt:65:9
 add-k : tie.Need-add-k Inv-loop μ-loop
 add-k c = omega (arith, (c .before .before .before .before .before .before .before) .pre .1, (c .before .before .before .before) .loop-test .taken)
 
--- src/numbers.rt:63:5
 loop-less : tie.Need-loop-less Inv-loop μ-loop
 loop-less c = omega (arith, (c .before .before .before .before) .loop-test .taken)
 
--- src/numbers.rt:63:5
 loop-again : tie.Need-loop-again Inv-loop μ-loop
 loop-again c = (omega (arith, (c .before .before .before .before .before) .loop .inv .0), inr (omega (arith, (c .before .before .before .before) .loop-test .taken)), spread-more _ _ _ _ ((c .before .before .before .before .before) .loop .inv .0) refl ((c .before .before .before .before .before) .loop .inv .2) (c .enter .ensures))
 
--- src/numbers.rt:48:1
 returns : tie.Need-returns Inv-loop μ-loop
 returns c = spread-past _ _ _ _ ((c .before) .loop .inv .1) (c .loop-test .left) ((c .before) .loop .inv .2)
 

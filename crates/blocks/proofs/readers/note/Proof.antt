@@ -15,99 +15,75 @@ use Rattle.blocks.proofs.readers.note.Lts as lts
 use Rattle.stateset.proofs.add.Reads as add-reads
 use Rattle.stateset.proofs.member.Reads as member-reads
 
--- src/readers.rt:16:21
 mul-from : tie.Need-mul-from
 mul-from c = search needs
 
--- src/readers.rt:16:16
 mul-from-2 : tie.Need-mul-from-2
 mul-from-2 c = search needs
 
--- src/readers.rt:16:16
 shared-slice-read-from : tie.Need-shared-slice-read-from
 shared-slice-read-from c = search needs
 
--- src/readers.rt:16:16
 cast-from : tie.Need-cast-from
 cast-from c = omega (arith, c .shared-slice-known2 .given ((c .before .before) .args .k * 3))
 
--- src/readers.rt:17:9
 member-requires : tie.Need-member-requires
 member-requires c κs = search needs
 
--- src/readers.rt:18:9
 returns : tie.Need-returns
 returns c = noted-other _ _ _ _ (inl (sym ((c .before) .member .ensures) ∙ not-true _ (c .if1 .taken)))
 
--- src/readers.rt:20:34
 mul-member : tie.Need-mul-member
 mul-member c = search needs
 
--- src/readers.rt:20:34
 add-member : tie.Need-add-member
 add-member c = search needs
 
--- src/readers.rt:20:29
 mul-member-2 : tie.Need-mul-member-2
 mul-member-2 c = search needs
 
--- src/readers.rt:20:29
 shared-slice-read-member : tie.Need-shared-slice-read-member
 shared-slice-read-member c = search needs
 
--- src/readers.rt:20:29
 cast-member : tie.Need-cast-member
 cast-member c = omega (arith, c .shared-slice-known3 .given ((c .before .before .before .before .before) .args .k * 3 + 2))
 
--- src/readers.rt:20:9
 member-requires-2 : tie.Need-member-requires-2
 member-requires-2 c κs = search needs
 
--- src/readers.rt:21:9
 returns-2 : tie.Need-returns-2
 returns-2 c = noted-other _ _ _ _ (inr (sym ((c .before) .member2 .ensures) ∙ not-true _ (c .if2 .taken)))
 
--- src/readers.rt:23:18
 mul-x : tie.Need-mul-x
 mul-x c = search needs
 
--- src/readers.rt:23:18
 add-x : tie.Need-add-x
 add-x c = search needs
 
--- src/readers.rt:23:13
 mul-x-2 : tie.Need-mul-x-2
 mul-x-2 c = search needs
 
--- src/readers.rt:23:13
 shared-slice-read-x : tie.Need-shared-slice-read-x
 shared-slice-read-x c = search needs
 
--- src/readers.rt:23:13
 cast-x : tie.Need-cast-x
 cast-x c = search needs
 
--- src/readers.rt:24:29
 mul-add : tie.Need-mul-add
 mul-add c = search needs
 
--- src/readers.rt:24:29
 element-copy-out-add : tie.Need-element-copy-out-add
 element-copy-out-add c = search needs
 
--- src/readers.rt:24:15
 add-requires : tie.Need-add-requires
 add-requires c κs = search needs
 
--- src/readers.rt:24:5
 mul-sets : tie.Need-mul-sets
 mul-sets c = search needs
 
--- src/readers.rt:24:5
 element-write-sets : tie.Need-element-write-sets
 element-write-sets c = search needs
 
--- src/readers.rt:12:1
 returns-3 : tie.Need-returns-3
 returns-3 c = noted-is _ _ _ _ (omega (arith, (c .before .before .before .before .before .before .before .before .before .before) .pre .1, (c .before .before .before .before .before .before .before .before .before .before) .pre .2)) (in-lt {w = width} {x = (c .before .before .before .before .before .before .before .before .before .before) .args .h} {q = getD ((c .before .before .before .before .before .before .before .before .before .before) .args .list .now) ((c .before .before .before .before .before .before .before .before .before .before) .args .k * 3) 0} (omega (arith, (c .before .before .before .before .before .before .before .before .before .before) .fits .h)) (has-in _ _ .0 (sym ((c .before .before .before .before .before .before .before) .member .ensures) ∙ not-false _ ((c .before .before .before .before .before .before) .if1 .left)))) (sym ((c .before .before .before .before .before .before .before) .member .ensures) ∙ not-false _ ((c .before .before .before .before .before .before) .if1 .left)) (c .add .ensures)
 

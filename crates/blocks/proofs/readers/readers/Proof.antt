@@ -18,27 +18,21 @@ Inv-loop m list h sets₀ k₀ sets k = ReadersBelow m list k sets
 abbrev μ-loop : tie.MeasureT-loop
 μ-loop m list h sets₀ k₀ sets k = m .transitions - k
 
--- src/readers.rt:35:5
 loop-holds : tie.Need-loop-holds Inv-loop μ-loop
 loop-holds c = readers-start _ _ _ (length-replicate {A = ℕ} 251 0) (zeros-at 251)
 
--- src/readers.rt:36:9
 note-requires : tie.Need-note-requires Inv-loop μ-loop
 note-requires c κs = (omega (arith, rules _ _ ((c .before .before .before .before .before) .pre .0) .list-fits, (c .before) .if1 .taken), omega (arith, rules _ _ ((c .before .before .before .before .before) .pre .0) .letters-fit, rules _ _ ((c .before .before .before .before .before) .pre .0) .letter-below _ ((c .before) .if1 .taken)), (c .before .before .before) .loop .inv .size)
 
--- src/readers.rt:37:9
 add-k : tie.Need-add-k Inv-loop μ-loop
 add-k c = omega (arith, rules _ _ ((c .before .before .before .before .before .before) .pre .0) .transitions-fit, (c .before .before) .if1 .taken)
 
--- src/readers.rt:35:5
 loop-less : tie.Need-loop-less Inv-loop μ-loop
 loop-less c = omega (arith, (c .before .before) .if1 .taken)
 
--- src/readers.rt:35:5
 loop-again : tie.Need-loop-again Inv-loop μ-loop
 loop-again c = readers-more _ _ ((c .before .before .before .before .before .before) .pre .1) ((c .before .before .before .before) .loop .inv) (c .note .ensures)
 
--- src/readers.rt:29:1
 returns : tie.Need-returns Inv-loop μ-loop
 returns c = readers-end _ _ (c .if1 .left) ((c .before .before) .loop .inv)
 

@@ -12,27 +12,21 @@ use Rattle.blocks.proofs.gather.gather.Reads as gather-reads
 use Rattle.blocks.proofs.numbers.put.Reads as put-reads
 use Rattle.stateset.proofs.intersection.Reads as intersection-reads
 
--- src/row.rt:76:44
 element-copy-out-intersection : tie.Need-element-copy-out-intersection
 element-copy-out-intersection c = search needs
 
--- src/row.rt:76:9
 intersection-requires : tie.Need-intersection-requires
 intersection-requires c κs = search needs
 
--- src/row.rt:77:43
 add-gather : tie.Need-add-gather
 add-gather c = omega (arith, ready-stride ((c .before .before .before .before) .pre .0 .0))
 
--- src/row.rt:77:9
 gather-requires : tie.Need-gather-requires
 gather-requires c κs = ((c .before .before .before .before .before .before) .pre .1 .1, ((ready-stride ((c .before .before .before .before .before .before) .pre .0 .0), omega arith, λ t k. ready-from ((c .before .before .before .before .before .before) .pre .0 .0) _ _ (omega arith) t ((c .before .before .before) .intersection .ensures .members t .0 k .0) (readers-cover ((c .before .before .before .before .before .before) .pre .0 .0) ((c .before .before .before .before .before .before) .pre .0 .1) 0 (omega arith) .only t ((c .before .before .before) .intersection .ensures .members t .0 k .1))), (omega arith, ready-state ((c .before .before .before .before .before .before) .pre .0 .0) _ ((c .before .before .before .before .before .before) .pre .1 .2), (c .before .before .before .before .before .before) .pre .1 .3)))
 
--- src/row.rt:78:5
 put-requires : tie.Need-put-requires
 put-requires c κs = ((c .before .before .before .before .before .before .before .before .before .before) .pre .1 .0, ready-state ((c .before .before .before .before .before .before .before .before .before .before) .pre .0 .0) _ ((c .before .before .before .before .before .before .before .before .before .before) .pre .1 .2))
 
--- src/row.rt:60:1
 returns : tie.Need-returns
 returns c = ((c .before .before .before .before) .gather .ensures .size ∙ (c .before .before .before .before .before .before .before .before .before .before .before) .pre .1 .1, so-start ((c .before .before .before .before .before .before .before .before .before .before .before) .pre .0 .0) _ _ _ ((c .before .before .before .before .before .before .before .before .before .before .before) .pre .1 .2) (covers-from _ _ (readers-cover ((c .before .before .before .before .before .before .before .before .before .before .before) .pre .0 .0) ((c .before .before .before .before .before .before .before .before .before .before .before) .pre .0 .1) 0 (omega arith)) ((c .before .before .before .before .before .before .before .before) .intersection .ensures) ((c .before .before .before .before) .gather .ensures)) (c .put .ensures))
 

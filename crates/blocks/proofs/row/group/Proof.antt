@@ -12,71 +12,54 @@ use Rattle.blocks.proofs.gather.wide.Reads as wide-reads
 use Rattle.blocks.proofs.numbers.spread.Reads as spread-reads
 use Rattle.blocks.proofs.row.moved.Reads as moved-reads
 
--- src/row.rt:102:18
 mul-x : tie.Need-mul-x
 mul-x c = omega (arith, ready-room ((c .before) .pre .0 .0) _ ((c .before) .pre .1 .1 .0))
 
--- src/row.rt:102:18
 add-x : tie.Need-add-x
 add-x c = omega (arith, ready-room ((c .before) .pre .0 .0) _ ((c .before) .pre .1 .1 .0))
 
--- src/row.rt:102:13
 mul-x-2 : tie.Need-mul-x-2
 mul-x-2 c = omega (arith, ready-room ((c .before) .pre .0 .0) _ ((c .before) .pre .1 .1 .0))
 
--- src/row.rt:102:13
 shared-slice-read-x : tie.Need-shared-slice-read-x
 shared-slice-read-x c = omega (arith, ready-room ((c .before .before) .pre .0 .0) _ ((c .before .before) .pre .1 .1 .0))
 
--- src/row.rt:102:13
 cast-x : tie.Need-cast-x
 cast-x c = omega (arith, ready-letter ((c .before .before) .pre .0 .0) _ ((c .before .before) .pre .1 .1 .0), ready-stride ((c .before .before) .pre .0 .0))
 
--- src/row.rt:103:18
 add-stride : tie.Need-add-stride
 add-stride c = omega (arith, ready-stride ((c .before .before .before) .pre .0 .0))
 
--- src/row.rt:104:33
 mul-wide : tie.Need-mul-wide
 mul-wide c = omega (arith, row-fits ((c .before .before .before) .pre .0 .0) _ ((c .before .before .before) .pre .1 .0 .2) .0)
 
--- src/row.rt:104:33
 add-wide : tie.Need-add-wide
 add-wide c = omega (arith, group-fits ((c .before .before .before) .pre .0 .0) _ ((c .before .before .before) .pre .1 .0 .2) _ ((c .before .before .before) .pre .1 .1 .0))
 
--- src/row.rt:104:33
 add-wide-2 : tie.Need-add-wide-2
 add-wide-2 c = omega (arith, group-fits ((c .before .before .before) .pre .0 .0) _ ((c .before .before .before) .pre .1 .0 .2) _ ((c .before .before .before) .pre .1 .1 .0))
 
--- src/row.rt:104:27
 mul-wide-2 : tie.Need-mul-wide-2
 mul-wide-2 c = omega (arith, group-fits ((c .before .before .before) .pre .0 .0) _ ((c .before .before .before) .pre .1 .0 .2) _ ((c .before .before .before) .pre .1 .1 .0))
 
--- src/row.rt:104:27
 element-copy-out-wide : tie.Need-element-copy-out-wide
 element-copy-out-wide c = omega (arith, group-fits ((c .before .before .before) .pre .0 .0) _ ((c .before .before .before) .pre .1 .0 .2) _ ((c .before .before .before) .pre .1 .1 .0))
 
--- src/row.rt:104:9
 wide-requires : tie.Need-wide-requires
 wide-requires c κs = search needs
 
--- src/row.rt:105:16
 mul-read : tie.Need-mul-read
 mul-read c = omega (arith, ready-letter ((c .before .before .before .before .before) .pre .0 .0) _ ((c .before .before .before .before .before) .pre .1 .1 .0), ready-stride ((c .before .before .before .before .before) .pre .0 .0))
 
--- src/row.rt:105:16
 element-copy-out-read : tie.Need-element-copy-out-read
 element-copy-out-read c = omega (arith, ready-letter ((c .before .before .before .before .before) .pre .0 .0) _ ((c .before .before .before .before .before) .pre .1 .1 .0), ready-stride ((c .before .before .before .before .before) .pre .0 .0))
 
--- src/row.rt:106:9
 moved-requires : tie.Need-moved-requires
 moved-requires c κs = ((c .before .before .before .before .before .before .before .before) .pre .1 .0 .1, ((ready-stride ((c .before .before .before .before .before .before .before .before) .pre .0 .0), ready-letter ((c .before .before .before .before .before .before .before .before) .pre .0 .0) _ ((c .before .before .before .before .before .before .before .before) .pre .1 .1 .0), ready-from ((c .before .before .before .before .before .before .before .before) .pre .0 .0) _ _ (ready-letter ((c .before .before .before .before .before .before .before .before) .pre .0 .0) _ ((c .before .before .before .before .before .before .before .before) .pre .1 .1 .0))), (ready-state ((c .before .before .before .before .before .before .before .before) .pre .0 .0) _ ((c .before .before .before .before .before .before .before .before) .pre .1 .0 .2), (c .before .before .before .before .before .before .before .before) .pre .1 .0 .3, readers-cover ((c .before .before .before .before .before .before .before .before) .pre .0 .0) ((c .before .before .before .before .before .before .before .before) .pre .0 .2) _ (ready-letter ((c .before .before .before .before .before .before .before .before) .pre .0 .0) _ ((c .before .before .before .before .before .before .before .before) .pre .1 .1 .0)))))
 
--- src/row.rt:107:5
 spread-requires : tie.Need-spread-requires
 spread-requires c κs = ((c .before .before .before .before .before .before .before .before .before .before .before .before) .pre .1 .0 .0, omega (arith, (c .before .before .before .before .before .before .before) .wide .ensures .0, ready-next ((c .before .before .before .before .before .before .before .before .before .before .before .before) .pre .0 .0) _ _ ((c .before .before .before .before .before .before .before .before .before .before .before .before) .pre .1 .0 .2) (ready-letter ((c .before .before .before .before .before .before .before .before .before .before .before .before) .pre .0 .0) _ ((c .before .before .before .before .before .before .before .before .before .before .before .before) .pre .1 .1 .0))))
 
--- src/row.rt:83:1
 returns : tie.Need-returns
 returns c = ((c .before .before .before .before) .moved .ensures .size ∙ (c .before .before .before .before .before .before .before .before .before .before .before .before .before) .pre .1 .0 .1, omega (arith, (c .before .before .before .before .before .before .before .before) .wide .ensures .0, group-past ((c .before .before .before .before .before .before .before .before .before .before .before .before .before) .pre .0 .0) _ ((c .before .before .before .before .before .before .before .before .before .before .before .before .before) .pre .1 .0 .2) _ ((c .before .before .before .before .before .before .before .before .before .before .before .before .before) .pre .1 .1 .0) ((c .before .before .before .before .before .before .before .before .before .before .before .before .before) .pre .1 .1 .1)), record { steps = c .spread .ensures .steps; on = λ b₀ d₀ so. so-more ((c .before .before .before .before .before .before .before .before .before .before .before .before .before) .pre .0 .0) _ _ _ ((c .before .before .before .before .before .before .before .before .before .before .before .before .before) .pre .1 .0 .2) ((c .before .before .before .before .before .before .before .before .before .before .before .before .before) .pre .0 .1) ((c .before .before .before .before .before .before .before .before .before .before .before .before .before) .pre .1 .1 .0) ((c .before .before .before .before .before .before .before .before .before .before .before .before .before) .pre .1 .1 .1) refl ((c .before .before .before .before .before .before .before .before) .wide .ensures .0) ((c .before .before .before .before) .moved .ensures) (c .spread .ensures) so })
 

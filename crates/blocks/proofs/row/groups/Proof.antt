@@ -17,23 +17,18 @@ Inv-loop m list index readers h may b₀ d₀ s set lo end p₀ top k₀ b d p k
 abbrev μ-loop : tie.MeasureT-loop
 μ-loop m list index readers h may b₀ d₀ s set lo end p₀ top k₀ b d p k = end - k
 
--- src/row.rt:127:5
 loop-holds : tie.Need-loop-holds Inv-loop μ-loop
 loop-holds c = ((c .before) .pre .1 .0 .1, omega arith, on-none _ _ _ _ _ _ _ _)
 
--- src/row.rt:128:9
 group-requires : tie.Need-group-requires Inv-loop μ-loop
 group-requires c κs = ((c .before .before .before .before .before .before) .pre .0, ((sized-after ((c .before .before .before .before .before .before) .pre .1 .0 .0) ((c .before .before .before .before) .loop .inv .2 .steps), (c .before .before .before .before) .loop .inv .0, (c .before .before .before .before .before .before) .pre .1 .0 .2, (c .before .before .before .before .before .before) .pre .1 .0 .3), (c .before .before .before .before .before .before) .pre .1 .1 _ ((c .before .before .before .before) .loop .inv .1) ((c .before .before .before) .loop-test .taken)))
 
--- src/row.rt:127:5
 loop-less : tie.Need-loop-less Inv-loop μ-loop
 loop-less c = omega (arith, c .group .ensures .1, (c .before .before .before .before) .loop-test .taken)
 
--- src/row.rt:127:5
 loop-again : tie.Need-loop-again Inv-loop μ-loop
 loop-again c = (c .group .ensures .0, omega (arith, c .group .ensures .1, (c .before .before .before .before .before) .loop .inv .1), on-then ((c .before .before .before .before .before) .loop .inv .2) (c .group .ensures .2))
 
--- src/row.rt:107:1
 returns : tie.Need-returns Inv-loop μ-loop
 returns c = ((c .before) .loop .inv .0, c .loop-test .left, (c .before) .loop .inv .2)
 

@@ -10,23 +10,18 @@ use Rattle.blocks.proofs.gather.gather.Reads as gather-reads
 use Rattle.blocks.proofs.gather.stay.Reads as stay-reads
 use Rattle.stateset.proofs.intersection.Reads as intersection-reads
 
--- src/row.rt:51:9
 stay-requires : tie.Need-stay-requires
 stay-requires c κs = search needs
 
--- src/row.rt:51:9
 returns : tie.Need-returns
 returns c = moved-none ((c .before .before) .if1 .taken) (c .stay .ensures)
 
--- src/row.rt:53:9
 intersection-requires : tie.Need-intersection-requires
 intersection-requires c κs = search needs
 
--- src/row.rt:54:5
 gather-requires : tie.Need-gather-requires
 gather-requires c κs = ((c .before .before .before .before) .pre .0, (((c .before .before .before .before) .pre .1 .0 .0, (c .before .before .before .before) .pre .1 .0 .1, λ t k. (c .before .before .before .before) .pre .1 .0 .2 t ((c .before) .intersection .ensures .members t .0 k .0) ((c .before .before .before .before) .pre .1 .1 .2 .only t ((c .before) .intersection .ensures .members t .0 k .1))), (omega arith, (c .before .before .before .before) .pre .1 .1 .0, (c .before .before .before .before) .pre .1 .1 .1)))
 
--- src/row.rt:34:1
 returns-2 : tie.Need-returns-2
 returns-2 c = moved-letter ((c .before .before .before) .if1 .left) (covers-from _ _ ((c .before .before .before .before .before) .pre .1 .1 .2) ((c .before .before) .intersection .ensures) (c .gather .ensures))
 

@@ -13,59 +13,45 @@ use Rattle.blocks.proofs.row.alone.Reads as alone-reads
 use Rattle.blocks.proofs.row.groups.Reads as groups-reads
 use Rattle.blocks.proofs.row.storable.Reads as storable-reads
 
--- src/row.rt:150:5
 alone-requires : tie.Need-alone-requires
 alone-requires c κs = search needs
 
--- src/row.rt:151:18
 add-stride : tie.Need-add-stride
 add-stride c = omega (arith, ready-stride ((c .before .before .before .before .before .before) .pre .0 .0))
 
--- src/row.rt:152:33
 mul-wide : tie.Need-mul-wide
 mul-wide c = omega (arith, row-fits ((c .before .before .before .before .before .before) .pre .0 .0) _ ((c .before .before .before .before .before .before) .pre .1 .2) .0)
 
--- src/row.rt:152:27
 mul-wide-2 : tie.Need-mul-wide-2
 mul-wide-2 c = omega (arith, row-fits ((c .before .before .before .before .before .before) .pre .0 .0) _ ((c .before .before .before .before .before .before) .pre .1 .2) .0)
 
--- src/row.rt:152:27
 element-copy-out-wide : tie.Need-element-copy-out-wide
 element-copy-out-wide c = omega (arith, row-fits ((c .before .before .before .before .before .before) .pre .0 .0) _ ((c .before .before .before .before .before .before) .pre .1 .2) .0)
 
--- src/row.rt:152:9
 wide-requires : tie.Need-wide-requires
 wide-requires c κs = search needs
 
--- src/row.rt:153:34
 mul-wide-3 : tie.Need-mul-wide-3
 mul-wide-3 c = omega (arith, row-fits ((c .before .before .before .before .before .before .before .before) .pre .0 .0) _ ((c .before .before .before .before .before .before .before .before) .pre .1 .2) .0)
 
--- src/row.rt:153:34
 add-wide : tie.Need-add-wide
 add-wide c = omega (arith, row-fits ((c .before .before .before .before .before .before .before .before) .pre .0 .0) _ ((c .before .before .before .before .before .before .before .before) .pre .1 .2) .1)
 
--- src/row.rt:153:28
 mul-wide-4 : tie.Need-mul-wide-4
 mul-wide-4 c = omega (arith, row-fits ((c .before .before .before .before .before .before .before .before) .pre .0 .0) _ ((c .before .before .before .before .before .before .before .before) .pre .1 .2) .1)
 
--- src/row.rt:153:28
 element-copy-out-wide-2 : tie.Need-element-copy-out-wide-2
 element-copy-out-wide-2 c = omega (arith, row-fits ((c .before .before .before .before .before .before .before .before) .pre .0 .0) _ ((c .before .before .before .before .before .before .before .before) .pre .1 .2) .1)
 
--- src/row.rt:153:9
 wide-requires-2 : tie.Need-wide-requires-2
 wide-requires-2 c κs = search needs
 
--- src/row.rt:154:9
 storable-requires : tie.Need-storable-requires
 storable-requires c κs = search needs
 
--- src/row.rt:155:5
 groups-requires : tie.Need-groups-requires
 groups-requires c κs = (((c .before .before .before .before .before .before .before .before .before .before .before .before .before .before) .pre .0 .0, (c .before .before .before) .storable .ensures, (c .before .before .before .before .before .before .before .before .before .before .before .before .before .before) .pre .0 .2), ((sized-after ((c .before .before .before .before .before .before .before .before .before .before .before .before .before .before) .pre .1 .0) ((c .before .before .before .before .before .before .before .before .before) .alone .ensures .1 .steps), (c .before .before .before .before .before .before .before .before .before) .alone .ensures .0, (c .before .before .before .before .before .before .before .before .before .before .before .before .before .before) .pre .1 .2, (c .before .before .before .before .before .before .before .before .before .before .before .before .before .before) .pre .1 .3), row-leaves ((c .before .before .before .before .before .before .before .before .before .before .before .before .before .before) .pre .0 .0) _ ((c .before .before .before .before .before .before .before .before .before .before .before .before .before .before) .pre .1 .2) _ _ ((c .before .before .before .before .before .before) .wide .ensures .0) ((c .before .before .before .before) .wide2 .ensures .0)))
 
--- src/row.rt:134:1
 returns : tie.Need-returns
 returns c = (c .groups .ensures .0, row-done ((c .before .before .before .before .before .before .before .before .before .before .before .before .before .before .before) .pre .0 .0) _ ((c .before .before .before .before .before .before .before .before .before .before .before .before .before .before .before) .pre .1 .2) ((c .before .before .before .before .before .before .before) .wide .ensures .0) ((c .before .before .before .before .before) .wide2 .ensures .0) (c .groups .ensures .1) ((c .before .before .before .before .before .before .before .before .before .before) .alone .ensures .1) (c .groups .ensures .2))
 

@@ -9,27 +9,21 @@ use Rattle.stateset.proofs.difference.Reads as difference-reads
 use Rattle.stateset.proofs.full.Reads as full-reads
 use Rattle.stateset.proofs.member.Reads as member-reads
 
--- src/row.rt:24:37
 full-requires : tie.Need-full-requires
 full-requires c κs = search needs
 
--- src/row.rt:24:9
 difference-requires : tie.Need-difference-requires
 difference-requires c κs = search needs
 
--- src/row.rt:25:8
 member-requires : tie.Need-member-requires
 member-requires c κs = search needs
 
--- src/row.rt:26:9
 difference-requires-2 : tie.Need-difference-requires-2
 difference-requires-2 c κs = search needs
 
--- src/row.rt:26:9
 returns : tie.Need-returns
 returns c = storable-held _ _ _ _ ((c .before .before .before .before .before) .pre .0) ((c .before .before .before .before .before) .pre .1) ((c .before .before .before .before) .full .ensures) ((c .before .before .before) .difference .ensures) (sym ((c .before .before) .member .ensures) ∙ (c .before) .if1 .taken) (c .difference2 .ensures)
 
--- src/row.rt:20:1
 returns-2 : tie.Need-returns-2
 returns-2 c = storable-free _ _ _ _ ((c .before .before .before .before) .pre .0) ((c .before .before .before .before) .pre .1) ((c .before .before .before) .full .ensures) ((c .before .before) .difference .ensures) (sym ((c .before) .member .ensures) ∙ c .if1 .left)
 

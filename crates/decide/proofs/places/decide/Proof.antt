@@ -13,27 +13,21 @@ use Rattle.decide.proofs.places.reach_all.Reads as reach-all-reads
 use Rattle.decide.proofs.places.start_at.Reads as start-at-reads
 use Rattle.stateset.proofs.intersection.Reads as intersection-reads
 
--- src/places.rt:168:17
 start-at-requires : tie.Need-start-at-requires
 start-at-requires c κs = search needs
 
--- src/places.rt:169:5
 reach-all-requires : tie.Need-reach-all-requires
 reach-all-requires c κs = (good-table (((c .before .before .before .before .before) .pre) .2) (((c .before .before .before .before .before) .pre) .0), rooms (((c .before .before .before .before .before) .pre) .2), ((c .before .before .before .before .before) .pre) .1, ((c .before) .start-at .ensures) (graph (((c .before .before .before .before .before) .args .targets) .now) ((c .before .before .before .before .before) .args .m .states) ((c .before .before .before .before .before) .args .kinds .buffering) ((c .before .before .before .before .before) .args .kinds .matching)) (((c .before .before .before .before .before) .args .word) .now) .fitting)
 
--- src/places.rt:177:41
 mul-intersection : tie.Need-mul-intersection
 mul-intersection c = search needs
 
--- src/places.rt:177:41
 element-copy-out-intersection : tie.Need-element-copy-out-intersection
 element-copy-out-intersection c = search needs
 
--- src/places.rt:177:9
 intersection-requires : tie.Need-intersection-requires
 intersection-requires c κs = search needs
 
--- src/places.rt:164:1
 returns : tie.Need-returns
 returns c = (decided ((c .before .before .before .before .before .before .before .before) .args .m) (((c .before .before .before .before .before .before .before .before) .args .list) .now) (((c .before .before .before .before .before .before .before .before) .args .word) .now) (((c .before .before .before .before .before .before .before .before) .args .targets) .now) (((c .before .before .before .before .before .before .before .before) .pre) .0) (((c .before .before .before .before .before .before .before .before) .pre) .2) ((c .before .before .before .before .before .before .before .before) .args .kinds) (((c .before .before .before .before .before .before .before .before) .pre) .3) _ _ (stage-end (graph (((c .before .before .before .before .before .before .before .before) .args .targets) .now) ((c .before .before .before .before .before .before .before .before) .args .m .states) ((c .before .before .before .before .before .before .before .before) .args .kinds .buffering) ((c .before .before .before .before .before .before .before .before) .args .kinds .matching)) (((c .before .before .before .before .before .before .before .before) .args .word) .now) ((c .before .before .before .before .before .before .before .before) .args .kinds .initial) _ (((c .before .before) .reach-all .ensures) ((c .before .before .before .before .before .before .before .before) .args .kinds .initial) (((c .before .before .before .before) .start-at .ensures) _ _))) (members-is ((c) .intersection .ensures)), covered ((c .before .before .before .before .before .before .before .before) .args .m) (((c .before .before .before .before .before .before .before .before) .args .list) .now) (((c .before .before .before .before .before .before .before .before) .args .word) .now) (((c .before .before .before .before .before .before .before .before) .args .targets) .now) (((c .before .before .before .before .before .before .before .before) .pre) .0) (((c .before .before .before .before .before .before .before .before) .pre) .2) ((c .before .before .before .before .before .before .before .before) .args .kinds) (((c .before .before .before .before .before .before .before .before) .pre) .3) _ (((c .before .before) .reach-all .ensures) ((c .before .before .before .before .before .before .before .before) .args .kinds .initial) (((c .before .before .before .before) .start-at .ensures) _ _)))
 

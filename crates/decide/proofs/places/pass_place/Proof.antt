@@ -15,87 +15,66 @@ use Rattle.images.proofs.read_set.Reads as read-set-reads
 use Rattle.stateset.proofs.intersection.Reads as intersection-reads
 use Rattle.stateset.proofs.union.Reads as union-reads
 
--- src/places.rt:89:59
 mul-close-place : tie.Need-mul-close-place
 mul-close-place c = search needs
 
--- src/places.rt:89:59
 element-copy-out-close-place : tie.Need-element-copy-out-close-place
 element-copy-out-close-place c = search needs
 
--- src/places.rt:89:9
 close-place-requires : tie.Need-close-place-requires
 close-place-requires c κs = search needs
 
--- src/places.rt:90:5
 mul-sets : tie.Need-mul-sets
 mul-sets c = search needs
 
--- src/places.rt:90:5
 element-write-sets : tie.Need-element-write-sets
 element-write-sets c = search needs
 
--- src/places.rt:92:9
 returns : tie.Need-returns
 returns c = let p = passed-none (graph (((c .before .before .before .before .before) .args .targets) .now) ((c .before .before .before .before .before) .args .states) ((c .before .before .before .before .before) .args .g) ((c .before .before .before .before .before) .args .h)) (((c .before .before .before .before .before) .args .word) .now) (((c .before .before .before .before .before) .args .sets) .now) ((c .before .before .before .before .before) .args .i) _ (((c .before .before .before .before .before) .pre) .5) (omega (arith, ((c .before .before .before .before .before) .pre) .2, ((c .before .before .before .before .before) .pre) .3)) ((c .before) .close-place .ensures) ((c) .if1 .taken) in (((c .before .before .before .before .before) .pre) .4, p .fitting, p)
 
--- src/places.rt:95:9
 returns-2 : tie.Need-returns-2
 returns-2 c = let p = passed-over (graph (((c .before .before .before .before .before .before) .args .targets) .now) ((c .before .before .before .before .before .before) .args .states) ((c .before .before .before .before .before .before) .args .g) ((c .before .before .before .before .before .before) .args .h)) (((c .before .before .before .before .before .before) .args .word) .now) (((c .before .before .before .before .before .before) .args .sets) .now) ((c .before .before .before .before .before .before) .args .i) _ (((c .before .before .before .before .before .before) .pre) .5) (omega (arith, ((c .before .before .before .before .before .before) .pre) .2, ((c .before .before .before .before .before .before) .pre) .3)) ((c .before .before) .close-place .ensures) ((c) .if2 .taken) in (((c .before .before .before .before .before .before) .pre) .4, p .fitting, p)
 
--- src/places.rt:97:13
 shared-slice-read-x : tie.Need-shared-slice-read-x
 shared-slice-read-x c = search needs
 
--- src/places.rt:98:9
 read-set-requires : tie.Need-read-set-requires
 read-set-requires c κs = (((c .before .before .before .before .before .before .before) .pre) .0, ((c .before .before .before .before .before .before .before) .pre) .1 _ ((c .before) .if2 .left))
 
--- src/places.rt:99:13
 add-k : tie.Need-add-k
 add-k c = search needs
 
--- src/places.rt:100:31
 mul-union : tie.Need-mul-union
 mul-union c = search needs
 
--- src/places.rt:100:31
 element-copy-out-union : tie.Need-element-copy-out-union
 element-copy-out-union c = search needs
 
--- src/places.rt:100:15
 union-requires : tie.Need-union-requires
 union-requires c κs = search needs
 
--- src/places.rt:100:5
 mul-sets-2 : tie.Need-mul-sets-2
 mul-sets-2 c = search needs
 
--- src/places.rt:100:5
 element-write-sets-2 : tie.Need-element-write-sets-2
 element-write-sets-2 c = search needs
 
--- src/places.rt:101:9
 intersection-requires : tie.Need-intersection-requires
 intersection-requires c κs = search needs
 
--- src/places.rt:103:9
 returns-3 : tie.Need-returns-3
 returns-3 c = let p = passed-read (graph (((c .before .before .before .before .before .before .before .before .before .before .before .before) .args .targets) .now) ((c .before .before .before .before .before .before .before .before .before .before .before .before) .args .states) ((c .before .before .before .before .before .before .before .before .before .before .before .before) .args .g) ((c .before .before .before .before .before .before .before .before .before .before .before .before) .args .h)) (((c .before .before .before .before .before .before .before .before .before .before .before .before) .args .word) .now) (((c .before .before .before .before .before .before .before .before .before .before .before .before) .args .sets) .now) ((c .before .before .before .before .before .before .before .before .before .before .before .before) .args .i) _ (((c .before .before .before .before .before .before .before .before .before .before .before .before) .pre) .5) (omega (arith, ((c .before .before .before .before .before .before .before .before .before .before .before .before) .pre) .2, ((c .before .before .before .before .before .before .before .before .before .before .before .before) .pre) .3)) ((c .before .before .before .before .before .before .before .before) .close-place .ensures) _ _ ((c .before .before .before .before .before .before) .if2 .left) (((c .before .before .before .before .before .before .before .before .before .before .before .before) .pre) .3) ((c .before .before .before .before) .read-set .ensures) (members-is ((c .before .before) .union .ensures)) _ (((c .before) .intersection .ensures) .value) ((c) .if3 .taken) in (((c .before .before .before .before .before .before .before .before .before .before .before .before) .pre) .4, p .fitting, p)
 
--- src/places.rt:105:9
 last-square-requires : tie.Need-last-square-requires
 last-square-requires c κs = search needs
 
--- src/places.rt:107:9
 returns-4 : tie.Need-returns-4
 returns-4 c = let p = passed-copies (graph (((c .before .before .before .before .before .before .before .before .before .before .before .before .before .before .before) .args .targets) .now) ((c .before .before .before .before .before .before .before .before .before .before .before .before .before .before .before) .args .states) ((c .before .before .before .before .before .before .before .before .before .before .before .before .before .before .before) .args .g) ((c .before .before .before .before .before .before .before .before .before .before .before .before .before .before .before) .args .h)) (((c .before .before .before .before .before .before .before .before .before .before .before .before .before .before .before) .args .word) .now) (((c .before .before .before .before .before .before .before .before .before .before .before .before .before .before .before) .args .sets) .now) ((c .before .before .before .before .before .before .before .before .before .before .before .before .before .before .before) .args .i) _ (((c .before .before .before .before .before .before .before .before .before .before .before .before .before .before .before) .pre) .5) (omega (arith, ((c .before .before .before .before .before .before .before .before .before .before .before .before .before .before .before) .pre) .2, ((c .before .before .before .before .before .before .before .before .before .before .before .before .before .before .before) .pre) .3)) ((c .before .before .before .before .before .before .before .before .before .before .before) .close-place .ensures) _ _ ((c .before .before .before .before .before .before .before .before .before) .if2 .left) (((c .before .before .before .before .before .before .before .before .before .before .before .before .before .before .before) .pre) .3) ((c .before .before .before .before .before .before .before) .read-set .ensures) (members-is ((c .before .before .before .before .before) .union .ensures)) _ _ (((c .before .before .before .before) .intersection .ensures) .value) (copied-none _ _ _ _ _ _ (((c .before) .last-square .ensures) .1) ((c) .if4 .taken) (read-fitting (graph (((c .before .before .before .before .before .before .before .before .before .before .before .before .before .before .before) .args .targets) .now) ((c .before .before .before .before .before .before .before .before .before .before .before .before .before .before .before) .args .states) ((c .before .before .before .before .before .before .before .before .before .before .before .before .before .before .before) .args .g) ((c .before .before .before .before .before .before .before .before .before .before .before .before .before .before .before) .args .h)) (((c .before .before .before .before .before .before .before .before .before .before .before .before .before .before .before) .args .word) .now) (((c .before .before .before .before .before .before .before .before .before .before .before .before .before .before .before) .args .sets) .now) ((c .before .before .before .before .before .before .before .before .before .before .before .before .before .before .before) .args .i) _ (((c .before .before .before .before .before .before .before .before .before .before .before .before .before .before .before) .pre) .5) (omega (arith, ((c .before .before .before .before .before .before .before .before .before .before .before .before .before .before .before) .pre) .2, ((c .before .before .before .before .before .before .before .before .before .before .before .before .before .before .before) .pre) .3)) ((c .before .before .before .before .before .before .before .before .before .before .before) .close-place .ensures) _ _ ((c .before .before .before .before .before .before .before .before .before) .if2 .left) (((c .before .before .before .before .before .before .before .before .before .before .before .before .before .before .before) .pre) .3) ((c .before .before .before .before .before .before .before) .read-set .ensures) (members-is ((c .before .before .before .before .before) .union .ensures)))) in (((c .before) .last-square .ensures) .0, p .fitting, p)
 
--- src/places.rt:109:5
 copies-from-requires : tie.Need-copies-from-requires
 copies-from-requires c κs = (((c .before .before .before .before .before .before .before .before .before .before .before .before .before .before .before .before .before) .pre) .0, ((c .before .before .before .before .before .before .before .before .before .before .before .before .before .before .before .before .before) .pre) .1, ((c .before .before .before .before .before .before .before .before .before .before .before .before .before .before .before .before .before) .pre) .2, ((c .before .before .before .before .before .before .before .before .before .before .before .before .before .before .before .before .before) .pre) .3, ((c .before .before .before) .last-square .ensures) .0, read-fitting (graph (((c .before .before .before .before .before .before .before .before .before .before .before .before .before .before .before .before .before) .args .targets) .now) ((c .before .before .before .before .before .before .before .before .before .before .before .before .before .before .before .before .before) .args .states) ((c .before .before .before .before .before .before .before .before .before .before .before .before .before .before .before .before .before) .args .g) ((c .before .before .before .before .before .before .before .before .before .before .before .before .before .before .before .before .before) .args .h)) (((c .before .before .before .before .before .before .before .before .before .before .before .before .before .before .before .before .before) .args .word) .now) (((c .before .before .before .before .before .before .before .before .before .before .before .before .before .before .before .before .before) .args .sets) .now) ((c .before .before .before .before .before .before .before .before .before .before .before .before .before .before .before .before .before) .args .i) _ (((c .before .before .before .before .before .before .before .before .before .before .before .before .before .before .before .before .before) .pre) .5) (omega (arith, ((c .before .before .before .before .before .before .before .before .before .before .before .before .before .before .before .before .before) .pre) .2, ((c .before .before .before .before .before .before .before .before .before .before .before .before .before .before .before .before .before) .pre) .3)) ((c .before .before .before .before .before .before .before .before .before .before .before .before .before) .close-place .ensures) _ _ ((c .before .before .before .before .before .before .before .before .before .before .before) .if2 .left) (((c .before .before .before .before .before .before .before .before .before .before .before .before .before .before .before .before .before) .pre) .3) ((c .before .before .before .before .before .before .before .before .before) .read-set .ensures) (members-is ((c .before .before .before .before .before .before .before) .union .ensures)), ((c .before .before .before) .last-square .ensures) .1)
 
--- src/places.rt:75:1
 returns-5 : tie.Need-returns-5
 returns-5 c = (((c) .copies-from .ensures) .0, ((c) .copies-from .ensures) .1, passed-copies (graph (((c .before .before .before .before .before .before .before .before .before .before .before .before .before .before .before .before .before .before) .args .targets) .now) ((c .before .before .before .before .before .before .before .before .before .before .before .before .before .before .before .before .before .before) .args .states) ((c .before .before .before .before .before .before .before .before .before .before .before .before .before .before .before .before .before .before) .args .g) ((c .before .before .before .before .before .before .before .before .before .before .before .before .before .before .before .before .before .before) .args .h)) (((c .before .before .before .before .before .before .before .before .before .before .before .before .before .before .before .before .before .before) .args .word) .now) (((c .before .before .before .before .before .before .before .before .before .before .before .before .before .before .before .before .before .before) .args .sets) .now) ((c .before .before .before .before .before .before .before .before .before .before .before .before .before .before .before .before .before .before) .args .i) _ (((c .before .before .before .before .before .before .before .before .before .before .before .before .before .before .before .before .before .before) .pre) .5) (omega (arith, ((c .before .before .before .before .before .before .before .before .before .before .before .before .before .before .before .before .before .before) .pre) .2, ((c .before .before .before .before .before .before .before .before .before .before .before .before .before .before .before .before .before .before) .pre) .3)) ((c .before .before .before .before .before .before .before .before .before .before .before .before .before .before) .close-place .ensures) _ _ ((c .before .before .before .before .before .before .before .before .before .before .before .before) .if2 .left) (((c .before .before .before .before .before .before .before .before .before .before .before .before .before .before .before .before .before .before) .pre) .3) ((c .before .before .before .before .before .before .before .before .before .before) .read-set .ensures) (members-is ((c .before .before .before .before .before .before .before .before) .union .ensures)) _ _ (((c .before .before .before .before .before .before .before) .intersection .ensures) .value) (((c) .copies-from .ensures) .2))
 

@@ -18,27 +18,21 @@ Inv-loop targets states g h word sets₀ ends₀ i₀ sets ends i = Good targets
 abbrev μ-loop : tie.MeasureT-loop
 μ-loop targets states g h word sets₀ ends₀ i₀ sets ends i = length word + 1 - i
 
--- src/places.rt:150:5
 loop-holds : tie.Need-loop-holds Inv-loop μ-loop
 loop-holds c = (((c .before .before) .pre) .0, ((c .before .before) .pre) .1, ((c .before .before) .pre) .2, omega arith, ends-start _ _ (λ d far. omega arith), ((c .before .before) .pre) .3, λ q s. s)
 
--- src/places.rt:151:9
 pass-place-requires : tie.Need-pass-place-requires Inv-loop μ-loop
 pass-place-requires c κs = (((c .before .before .before) .loop .inv) .0, ((c .before .before .before) .loop .inv) .1, omega arith, ((c .before .before .before) .loop .inv) .2, ((c .before .before .before) .loop .inv) .4, ((c .before .before .before) .loop .inv) .5)
 
--- src/places.rt:152:9
 add-i : tie.Need-add-i Inv-loop μ-loop
 add-i c = omega arith
 
--- src/places.rt:150:5
 loop-less : tie.Need-loop-less Inv-loop μ-loop
 loop-less c = omega arith
 
--- src/places.rt:150:5
 loop-again : tie.Need-loop-again Inv-loop μ-loop
 loop-again c = (((c .before .before .before .before) .loop .inv) .0, ((c .before .before .before .before) .loop .inv) .1, ((c .before .before .before .before) .loop .inv) .2, omega arith, ends-later _ _ _ _ (λ d. omega arith) (((c) .pass-place .ensures) .0), ((c) .pass-place .ensures) .1, λ q s. stage-turn (graph (((c .before .before .before .before .before .before .before) .args .targets) .now) ((c .before .before .before .before .before .before .before) .args .states) ((c .before .before .before .before .before .before .before) .args .g) ((c .before .before .before .before .before .before .before) .args .h)) (((c .before .before .before .before .before .before .before) .args .word) .now) q ((c .before .before .before .before) .loop .sets) _ ((c .before .before .before .before) .loop .i) (((c .before .before .before .before) .loop .inv) .6 q s) (((c) .pass-place .ensures) .2) (omega arith) (((c .before .before .before .before) .loop .inv) .2))
 
--- src/places.rt:136:1
 returns : tie.Need-returns Inv-loop μ-loop
 returns c = λ q s. stage-to (graph (((c .before .before .before .before) .args .targets) .now) ((c .before .before .before .before) .args .states) ((c .before .before .before .before) .args .g) ((c .before .before .before .before) .args .h)) (((c .before .before .before .before) .args .word) .now) q _ _ _ (omega arith) (((c .before) .loop .inv) .6 q s)
 

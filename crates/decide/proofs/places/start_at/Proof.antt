@@ -6,11 +6,9 @@ use Rattle.decide.proofs.places.start_at.Tie as tie
 use Rattle.decide.proofs.places.start_at.Reads as reads
 use Rattle.decide.proofs.places.start_at.Lts as lts
 
--- src/places.rt:120:5
 array-write-sets : tie.Need-array-write-sets
 array-write-sets c = search needs
 
--- src/places.rt:116:1
 returns : tie.Need-returns
 returns c = λ G w. stage-start G w _ (omega arith)
 

@@ -18,39 +18,30 @@ Inv-loop word ends₀ i j₀ ends j = (i ≤ j) × (j + (j - i) ≤ length word)
 abbrev μ-loop : tie.MeasureT-loop
 μ-loop word ends₀ i j₀ ends j = j - i
 
--- src/squares.rt:55:22
 sub-j : tie.Need-sub-j Inv-loop μ-loop
 sub-j c = omega arith
 
--- src/squares.rt:55:17
 add-j : tie.Need-add-j Inv-loop μ-loop
 add-j c = omega (arith, (c .before .good))
 
--- src/squares.rt:56:5
 loop-holds : tie.Need-loop-holds Inv-loop μ-loop
 loop-holds c = (omega arith, omega arith, (c .before .pre) .1, (c .before .pre) .2, λ k (lt : (c .before .args .i) + (length ((c .before .args .word) .now) - (c .before .args .i)) / 2 < k) (room : k + (k - (c .before .args .i)) ≤ length ((c .before .args .word) .now)) m. absurd (omega arith))
 
--- src/squares.rt:57:12
 is-square-requires : tie.Need-is-square-requires Inv-loop μ-loop
 is-square-requires c κs = ((c .before .loop-test .taken), (c .before .before .loop .inv) .1, (c .before .before .loop .inv) .2, (λ d. (c .before .before .before .before .args .i) + d, omega arith, (c .before .before .loop .inv) .3))
 
--- src/squares.rt:58:13
 returns : tie.Need-returns Inv-loop μ-loop
 returns c = ((c .before .is-square .ensures) .kept _ (omega arith) ((c .before .before .before .before .loop .inv) .3), record { from = (c .before .before .before .before .loop .inv) .0; room = (c .before .before .before .before .loop .inv) .1; last = (c .before .before .before .before .loop .inv) .4 })
 
--- src/squares.rt:60:9
 sub-j-2 : tie.Need-sub-j-2 Inv-loop μ-loop
 sub-j-2 c = omega arith
 
--- src/squares.rt:56:5
 loop-less : tie.Need-loop-less Inv-loop μ-loop
 loop-less c = omega arith
 
--- src/squares.rt:56:5
 loop-again : tie.Need-loop-again Inv-loop μ-loop
 loop-again c = (omega arith, omega arith, (c .before .before .before .before .loop .inv) .2, (c .before .is-square .ensures) .kept _ (omega arith) ((c .before .before .before .before .loop .inv) .3), last-down ((c .before .before .before .before .before .before .args .word) .now) _ _ (c .before .before .before .loop-test .taken) (λ m. not-both ((c .before .is-square .ensures) .says .1 m) (c .if1 .left)) ((c .before .before .before .before .loop .inv) .4))
 
--- src/squares.rt:51:1
 returns-2 : tie.Need-returns-2 Inv-loop μ-loop
 returns-2 c = ((c .before .loop .inv) .3, record { from = (c .before .loop .inv) .0; room = (c .before .loop .inv) .1; last = (c .before .loop .inv) .4 })
 

@@ -10,23 +10,18 @@ use Rattle.decide.proofs.squares.turning.Lts as lts
 use Rattle.decide.proofs.squares.is_square.Reads as is-square-reads
 use Rattle.stateset.proofs.intersection.Reads as intersection-reads
 
--- src/squares.rt:70:9
 intersection-requires : tie.Need-intersection-requires
 intersection-requires c κs = search needs
 
--- src/squares.rt:72:9
 returns : tie.Need-returns
 returns c = turning-none _ _ _ _ _ _ _ (members-is (c .before .intersection .ensures)) (c .if1 .taken)
 
--- src/squares.rt:74:8
 is-square-requires : tie.Need-is-square-requires
 is-square-requires c κs = search needs
 
--- src/squares.rt:75:9
 returns-2 : tie.Need-returns-2
 returns-2 c = turning-some _ _ _ _ _ _ _ (members-is (c .before .before .before .before .intersection .ensures)) _ ((c .before .is-square .ensures) .kept) ((c .before .is-square .ensures) .says .0 (c .if2 .taken))
 
--- src/squares.rt:66:1
 returns-3 : tie.Need-returns-3
 returns-3 c = turning-apart _ _ _ _ _ _ _ (members-is (c .before .before .before .before .intersection .ensures)) _ ((c .before .is-square .ensures) .kept) (λ m. not-both ((c .before .is-square .ensures) .says .1 m) (c .if2 .left))
 

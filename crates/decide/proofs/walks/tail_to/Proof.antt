@@ -5,23 +5,18 @@ use native.Mathlib.Omega.{arith}
 use Rattle.decide.proofs.walks.tail_to.Statement.{statement}
 use Rattle.decide.proofs.walks.tail_to.Tie as tie
 
--- src/walks.rt:65:13
 walk-on-requires : tie.Need-walk-on-requires
 walk-on-requires c κs = ((c .before .before .before .before .pre) .0, (c .before .before .before .before .pre) .1, omega (arith, (c .before .before .before .before .pre) .3), omega (arith, (c .before .before .before .before .pre) .3, (c .before .before .before .before .pre) .4))
 
--- src/walks.rt:66:9
 returns : tie.Need-returns
 returns c = (tailed-on (graph ((c .before .before .before .before .before .args .targets) .now) (c .before .before .before .before .before .args .states) (c .before .before .before .before .before .args .g) (c .before .before .before .before .before .args .h)) ((c .before .before .before .before .before .args .word) .now) (c .before .before .before .before .before .args .i) (c .before .before .before .before .before .args .tail) _ _ _ ((c .before .before .before .before .before .pre) .2) (c .before .if1 .taken) ((c .before .before .before .before .before .pre) .3) (c .walk-on .ensures), refl, refl)
 
--- src/walks.rt:72:9
 close-set-requires : tie.Need-close-set-requires
 close-set-requires c κs = (c .before .before .before .before .pre) .0
 
--- src/walks.rt:73:9
 walk-on-requires-2 : tie.Need-walk-on-requires-2
 walk-on-requires-2 c κs = ((c .before .before .before .before .before .pre) .0, (c .before .before .before .before .before .pre) .1, omega (arith, (c .before .before .before .before .before .pre) .2 .from, (c .before .before .before .before .before .pre) .3), omega (arith, (c .before .before .before .before .before .pre) .2 .from, (c .before .before .before .before .before .pre) .3, (c .before .before .before .before .before .pre) .4))
 
--- src/walks.rt:50:1
 returns-2 : tie.Need-returns-2
 returns-2 c = (tailed-anew (graph ((c .before .before .before .before .before .before .args .targets) .now) (c .before .before .before .before .before .before .args .states) (c .before .before .before .before .before .before .args .g) (c .before .before .before .before .before .before .args .h)) ((c .before .before .before .before .before .before .args .word) .now) (c .before .before .before .before .before .before .args .i) _ _ _ _ (omega (arith, (c .before .before .before .before .before .before .pre) .2 .from, (c .before .before .before .before .before .before .pre) .3)) (c .before .close-set .ensures) (c .walk-on2 .ensures), refl, refl)
 

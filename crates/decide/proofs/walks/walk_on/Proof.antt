@@ -14,35 +14,27 @@ Inv-loop targets states g h mode word k j s near₀ at₀ near at = Good targets
 abbrev μ-loop : tie.MeasureT-loop
 μ-loop targets states g h mode word k j s near₀ at₀ near at = j - at
 
--- src/walks.rt:30:5
 loop-holds : tie.Need-loop-holds Inv-loop μ-loop
 loop-holds c = ((c .before .before .pre) .0, (c .before .before .pre) .1, omega arith, (c .before .before .pre) .2, (c .before .before .pre) .3, λ i set le m. m)
 
--- src/walks.rt:32:13
 returns : tie.Need-returns Inv-loop μ-loop
 returns c = λ i set le m. walks-dead (graph ((c .before .before .before .before .before .args .targets) .now) (c .before .before .before .before .before .args .states) (c .before .before .before .before .before .args .g) (c .before .before .before .before .before .args .h)) ((c .before .before .before .before .before .args .word) .now) (c .before .before .before .before .before .args .mode) i set _ _ _ (omega (arith, (c .before .before .loop .inv) .2, le)) ((c .before .before .loop .inv) .3) (c .if1 .taken) ((c .before .before .loop .inv) .5 i set le m)
 
--- src/walks.rt:34:17
 shared-slice-read-x : tie.Need-shared-slice-read-x Inv-loop μ-loop
 shared-slice-read-x c = search needs
 
--- src/walks.rt:35:9
 advance-requires : tie.Need-advance-requires Inv-loop μ-loop
 advance-requires c κs = ((c .before .before .before .loop .inv) .0, (c .before .before .before .loop .inv) .1 _ (omega (arith, c .before .before .loop-test .taken, (c .before .before .before .loop .inv) .4)))
 
--- src/walks.rt:36:9
 add-at : tie.Need-add-at Inv-loop μ-loop
 add-at c = omega (arith, (c .before .before .before .before .before .before .before .good))
 
--- src/walks.rt:30:5
 loop-less : tie.Need-loop-less Inv-loop μ-loop
 loop-less c = omega arith
 
--- src/walks.rt:30:5
 loop-again : tie.Need-loop-again Inv-loop μ-loop
 loop-again c = ((c .before .before .before .before .loop .inv) .0, (c .before .before .before .before .loop .inv) .1, omega arith, omega arith, (c .before .before .before .before .loop .inv) .4, λ i set le m. walks-turn (graph ((c .before .before .before .before .before .before .before .args .targets) .now) (c .before .before .before .before .before .before .before .args .states) (c .before .before .before .before .before .before .before .args .g) (c .before .before .before .before .before .before .before .args .h)) ((c .before .before .before .before .before .before .before .args .word) .now) (c .before .before .before .before .before .before .before .args .mode) i set _ _ _ (omega (arith, (c .before .before .before .before .loop .inv) .2, le)) (omega arith) ((c .before .before .before .before .loop .inv) .5 i set le m) (c .advance .ensures))
 
--- src/walks.rt:13:1
 returns-2 : tie.Need-returns-2 Inv-loop μ-loop
 returns-2 c = λ i set le m. walks-to (graph ((c .before .before .before .before .args .targets) .now) (c .before .before .before .before .args .states) (c .before .before .before .before .args .g) (c .before .before .before .before .args .h)) ((c .before .before .before .before .args .word) .now) (c .before .before .before .before .args .mode) i set _ _ _ (omega arith) ((c .before .loop .inv) .5 i set le m)
 

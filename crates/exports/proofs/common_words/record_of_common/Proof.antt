@@ -8,27 +8,21 @@ use Rattle.exports.proofs.common_words.record_of_common.Tie as tie
 use Rattle.exports.proofs.common_words.record_of_common.Reads as reads
 use Rattle.exports.proofs.common_words.record_of_common.Lts as lts
 
--- src/common_words.rt:24:25
 enum-known-answer : tie.Need-enum-known-answer
 enum-known-answer c = search needs
 
--- src/common_words.rt:32:33
 enum-told : tie.Need-enum-told
 enum-told c = search needs
 
--- src/common_words.rt:40:23
 enum-known-answer-2 : tie.Need-enum-known-answer-2
 enum-known-answer-2 c = search needs
 
--- src/common_words.rt:20:1
 returns : tie.Need-returns
 returns c = ap (λ (a : Common). commonRecord (commonValues a)) (sym (c .before .answer .given .1))
 
--- src/common_words.rt:20:1
 returns-2 : tie.Need-returns-2
 returns-2 c = ap (λ (a : Common). commonRecord (commonValues a)) (sym (c .enum-told .given .1))
 
--- src/common_words.rt:20:1
 returns-3 : tie.Need-returns-3
 returns-3 c = ap (λ (a : Common). commonRecord (commonValues a)) (sym (c .before .answer2 .given .1))
 

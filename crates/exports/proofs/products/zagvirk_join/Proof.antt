@@ -7,15 +7,12 @@ use Rattle.exports.proofs.products.zagvirk_join.Reads as reads
 use Rattle.exports.proofs.products.zagvirk_join.Lts as lts
 use Rattle.product.proofs.join.Reads as join-reads
 
--- src/products.rt:39:9
 join-requires : tie.Need-join-requires
 join-requires c κs = search needs
 
--- src/products.rt:28:1
 same-length : tie.Need-same-length
 same-length c = search needs
 
--- src/products.rt:28:1
 returns : tie.Need-returns
 returns c = (ap joinedOf ((c .before .before .before .before .join .ensures) .0), (c .before .before .before .before .join .ensures) .1)
 

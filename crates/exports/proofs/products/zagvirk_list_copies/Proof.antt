@@ -9,31 +9,24 @@ use Rattle.exports.proofs.products.zagvirk_list_copies.Reads as reads
 use Rattle.exports.proofs.products.zagvirk_list_copies.Lts as lts
 use Rattle.copies.proofs.list_copies.Reads as list-copies-reads
 
--- src/products.rt:61:9
 list-copies-requires : tie.Need-list-copies-requires
 list-copies-requires c κs = search needs
 
--- src/products.rt:63:25
 enum-known-answer : tie.Need-enum-known-answer
 enum-known-answer c = search needs
 
--- src/products.rt:69:26
 enum-known-answer-2 : tie.Need-enum-known-answer-2
 enum-known-answer-2 c = search needs
 
--- src/products.rt:50:1
 same-length : tie.Need-same-length
 same-length c = search needs
 
--- src/products.rt:50:1
 returns : tie.Need-returns
 returns c = (ap (λ (a : Copied). copyListRecord (copiedValues a)) (sym ((c .before .answer .given) .1)) ∙ ap copyListRecord ((c .before .before .before .before .before .list-copies .ensures) .2), (c .before .before .before .before .before .list-copies .ensures) .1)
 
--- src/products.rt:50:1
 same-length-2 : tie.Need-same-length-2
 same-length-2 c = search needs
 
--- src/products.rt:50:1
 returns-2 : tie.Need-returns-2
 returns-2 c = (ap (λ (a : Copied). copyListRecord (copiedValues a)) (sym ((c .before .answer2 .given) .1)) ∙ ap copyListRecord ((c .before .before .before .before .before .list-copies .ensures) .2), (c .before .before .before .before .before .list-copies .ensures) .1)
 

@@ -8,27 +8,21 @@ use Rattle.exports.proofs.recognition.record_of_answer.Tie as tie
 use Rattle.exports.proofs.recognition.record_of_answer.Reads as reads
 use Rattle.exports.proofs.recognition.record_of_answer.Lts as lts
 
--- src/recognition.rt:20:29
 enum-known-answer : tie.Need-enum-known-answer
 enum-known-answer c = search needs
 
--- src/recognition.rt:26:27
 enum-told : tie.Need-enum-told
 enum-told c = search needs
 
--- src/recognition.rt:32:25
 enum-known-answer-2 : tie.Need-enum-known-answer-2
 enum-known-answer-2 c = search needs
 
--- src/recognition.rt:16:1
 returns : tie.Need-returns
 returns c = ap (λ (a : Recognized). recognizedRecord (recognizedValues a)) (sym (c .before .answer .given .1))
 
--- src/recognition.rt:16:1
 returns-2 : tie.Need-returns-2
 returns-2 c = ap (λ (a : Recognized). recognizedRecord (recognizedValues a)) (sym (c .enum-told .given .1))
 
--- src/recognition.rt:16:1
 returns-3 : tie.Need-returns-3
 returns-3 c = ap (λ (a : Recognized). recognizedRecord (recognizedValues a)) (sym (c .before .answer2 .given .1))
 

@@ -8,11 +8,9 @@ use Rattle.exports.proofs.run.config_of.Reads as reads
 use Rattle.exports.proofs.run.config_of.Lts as lts
 use Rattle.exports.proofs.run.mode_of.Reads as mode-of-reads
 
--- src/run.rt:65:15
 mode-of-requires : tie.Need-mode-of-requires
 mode-of-requires c κs = search needs
 
--- src/run.rt:59:1
 returns : tie.Need-returns
 returns c = ap {B = Config} (λ (z : Mode). record { position = (c .before .args .c) .position; state = (c .before .args .c) .state; mode = z; start = (c .before .args .c) .start; end = (c .before .args .c) .end }) (c .mode-of .ensures)
 

@@ -6,15 +6,12 @@ use Rattle.exports.proofs.run.mode_of.Tie as tie
 use Rattle.exports.proofs.run.mode_of.Reads as reads
 use Rattle.exports.proofs.run.mode_of.Lts as lts
 
--- src/run.rt:41:9
 returns : tie.Need-returns
 returns c = first _ (eq-eqb _ _ (c .if1 .taken)) refl
 
--- src/run.rt:44:9
 returns-2 : tie.Need-returns-2
 returns-2 c = second _ (ne-eqb _ _ (c .before .if1 .left)) (first _ (eq-eqb _ _ (c .if2 .taken)) refl)
 
--- src/run.rt:37:1
 returns-3 : tie.Need-returns-3
 returns-3 c = second _ (ne-eqb _ _ (c .before .if1 .left)) (second _ (ne-eqb _ _ (c .if2 .left)) refl)
 

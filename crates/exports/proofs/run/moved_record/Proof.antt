@@ -10,15 +10,12 @@ use Rattle.exports.proofs.run.moved_record.Reads as reads
 use Rattle.exports.proofs.run.moved_record.Lts as lts
 use Rattle.exports.proofs.run.record_of.Reads as record-of-reads
 
--- src/run.rt:108:9
 returns : tie.Need-returns
 returns c = first _ (lt-ltb _ _ (c .if1 .taken)) refl
 
--- src/run.rt:117:17
 record-of-requires : tie.Need-record-of-requires
 record-of-requires c κs = search needs
 
--- src/run.rt:104:1
 returns-2 : tie.Need-returns-2
 returns-2 c = second _ (le-ltb _ _ (c .before .if1 .left)) (ap {B = SteppedRecord} (λ (z : ConfigRecord). record { refusal = 0; allowed = 1; config = z }) (c .record-of .ensures))
 

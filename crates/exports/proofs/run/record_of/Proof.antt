@@ -8,11 +8,9 @@ use Rattle.exports.proofs.run.record_of.Reads as reads
 use Rattle.exports.proofs.run.record_of.Lts as lts
 use Rattle.exports.proofs.run.mode_number.Reads as mode-number-reads
 
--- src/run.rt:78:15
 mode-number-requires : tie.Need-mode-number-requires
 mode-number-requires c κs = search needs
 
--- src/run.rt:71:1
 returns : tie.Need-returns
 returns c = ap {B = ConfigRecord} (λ (z : ℕ). record { position = (c .before .args .c) .position; state = (c .before .args .c) .state; mode = z; start = (c .before .args .c) .start; end = (c .before .args .c) .end }) (c .mode-number .ensures)
 

@@ -9,31 +9,24 @@ use Rattle.exports.proofs.run.zagvirk_check_run.Reads as reads
 use Rattle.exports.proofs.run.zagvirk_check_run.Lts as lts
 use Rattle.fsbm.proofs.run.check_run.Reads as check-run-reads
 
--- src/run.rt:126:11
 check-run-requires : tie.Need-check-run-requires
 check-run-requires c κs = search needs
 
--- src/run.rt:127:26
 enum-known-refusal : tie.Need-enum-known-refusal
 enum-known-refusal c = search needs
 
--- src/run.rt:131:34
 enum-told : tie.Need-enum-told
 enum-told c = search needs
 
--- src/run.rt:135:31
 enum-told-2 : tie.Need-enum-told-2
 enum-told-2 c = search needs
 
--- src/run.rt:122:1
 returns : tie.Need-returns
 returns c = ap (λ (a : Checked). checkedRecord (checkedValues a)) (sym (c .before .refusal .given .1)) ∙ ap checkedRecord (c .before .before .before .check-run .ensures .1)
 
--- src/run.rt:122:1
 returns-2 : tie.Need-returns-2
 returns-2 c = ap (λ (a : Checked). checkedRecord (checkedValues a)) (sym (c .enum-told .given .1)) ∙ ap checkedRecord (c .before .before .check-run .ensures .1)
 
--- src/run.rt:122:1
 returns-3 : tie.Need-returns-3
 returns-3 c = ap (λ (a : Checked). checkedRecord (checkedValues a)) (sym (c .enum-told2 .given .1)) ∙ ap checkedRecord (c .before .before .check-run .ensures .1)
 

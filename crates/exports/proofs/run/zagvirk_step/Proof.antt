@@ -12,39 +12,30 @@ use Rattle.exports.proofs.run.config_of.Reads as config-of-reads
 use Rattle.exports.proofs.run.moved_record.Reads as moved-record-reads
 use Rattle.fsbm.proofs.config.Config.step.Reads as step-reads
 
--- src/run.rt:89:11
 config-of-requires : tie.Need-config-of-requires
 config-of-requires c κs = search needs
 
--- src/run.rt:89:11
 step-requires : tie.Need-step-requires
 step-requires c κs = search needs
 
--- src/run.rt:90:26
 enum-known-refusal : tie.Need-enum-known-refusal
 enum-known-refusal c = search needs
 
--- src/run.rt:95:32
 enum-told : tie.Need-enum-told
 enum-told c = search needs
 
--- src/run.rt:100:24
 enum-known-next : tie.Need-enum-known-next
 enum-known-next c = search needs
 
--- src/run.rt:100:33
 moved-record-requires : tie.Need-moved-record-requires
 moved-record-requires c κs = search needs
 
--- src/run.rt:85:1
 returns : tie.Need-returns
 returns c = ap (λ (a : Stepped). steppedRecord (c .before .before .before .before .before .before .before .args .config) (steppedValues (c .before .before .before .before .config-of .result) a)) (sym (c .before .refusal .given .1)) ∙ (ap (steppedRecord (c .before .before .before .before .before .before .before .args .config)) (c .before .before .before .step .ensures .1) ∙ ap (λ (z : Config). steppedRecord (c .before .before .before .before .before .before .before .args .config) (stepValues (c .before .before .before .before .before .before .before .args .machine) ((c .before .before .before .before .before .before .before .args .list) .now) ((c .before .before .before .before .before .before .before .args .word) .now) z (c .before .before .before .before .before .before .before .args .entry))) (c .before .before .before .before .config-of .ensures))
 
--- src/run.rt:85:1
 returns-2 : tie.Need-returns-2
 returns-2 c = ap (λ (a : Stepped). steppedRecord (c .before .before .before .before .before .before .args .config) (steppedValues (c .before .before .before .config-of .result) a)) (sym (c .enum-told .given .1)) ∙ (ap (steppedRecord (c .before .before .before .before .before .before .args .config)) (c .before .before .step .ensures .1) ∙ ap (λ (z : Config). steppedRecord (c .before .before .before .before .before .before .args .config) (stepValues (c .before .before .before .before .before .before .args .machine) ((c .before .before .before .before .before .before .args .list) .now) ((c .before .before .before .before .before .before .args .word) .now) z (c .before .before .before .before .before .before .args .entry))) (c .before .before .before .config-of .ensures))
 
--- src/run.rt:85:1
 returns-3 : tie.Need-returns-3
 returns-3 c = (c .moved-record .ensures) ∙ ap (λ (a : Stepped). steppedRecord (c .before .before .before .before .before .before .before .before .args .config) (steppedValues (c .before .before .before .before .before .config-of .result) a)) (sym (c .before .before .next .given .1)) ∙ (ap (steppedRecord (c .before .before .before .before .before .before .before .before .args .config)) (c .before .before .before .before .step .ensures .1) ∙ ap (λ (z : Config). steppedRecord (c .before .before .before .before .before .before .before .before .args .config) (stepValues (c .before .before .before .before .before .before .before .before .args .machine) ((c .before .before .before .before .before .before .before .before .args .list) .now) ((c .before .before .before .before .before .before .before .before .args .word) .now) z (c .before .before .before .before .before .before .before .before .args .entry))) (c .before .before .before .before .before .config-of .ensures))
 

@@ -7,15 +7,12 @@ use Rattle.exports.proofs.sheets.zagvirk_read_sheet.Reads as reads
 use Rattle.exports.proofs.sheets.zagvirk_read_sheet.Lts as lts
 use Rattle.sheet.proofs.read.read_sheet.Reads as read-sheet-reads
 
--- src/sheets.rt:43:9
 read-sheet-requires : tie.Need-read-sheet-requires
 read-sheet-requires c κs = search needs
 
--- src/sheets.rt:39:1
 same-length : tie.Need-same-length
 same-length c = search needs
 
--- src/sheets.rt:39:1
 returns : tie.Need-returns
 returns c = (ap readRecord ((c .before .before .before .read-sheet .ensures) .0), (c .before .before .before .read-sheet .ensures) .1)
 

@@ -9,31 +9,24 @@ use Rattle.exports.proofs.sheets.zagvirk_translate.Reads as reads
 use Rattle.exports.proofs.sheets.zagvirk_translate.Lts as lts
 use Rattle.spelling.proofs.translate.Reads as translate-reads
 
--- src/sheets.rt:77:9
 translate-requires : tie.Need-translate-requires
 translate-requires c κs = search needs
 
--- src/sheets.rt:79:29
 enum-known-answer : tie.Need-enum-known-answer
 enum-known-answer c = search needs
 
--- src/sheets.rt:84:29
 enum-known-answer-2 : tie.Need-enum-known-answer-2
 enum-known-answer-2 c = search needs
 
--- src/sheets.rt:73:1
 same-length : tie.Need-same-length
 same-length c = search needs
 
--- src/sheets.rt:73:1
 returns : tie.Need-returns
 returns c = (ap (λ (a : Translated). translationRecord (translatedValues a)) (sym ((c .before .answer .given) .1)) ∙ ap translationRecord ((c .before .before .before .before .before .translate .ensures) .2), (c .before .before .before .before .before .translate .ensures) .1)
 
--- src/sheets.rt:73:1
 same-length-2 : tie.Need-same-length-2
 same-length-2 c = search needs
 
--- src/sheets.rt:73:1
 returns-2 : tie.Need-returns-2
 returns-2 c = (ap (λ (a : Translated). translationRecord (translatedValues a)) (sym ((c .before .answer2 .given) .1)) ∙ ap translationRecord ((c .before .before .before .before .before .translate .ensures) .2), (c .before .before .before .before .before .translate .ensures) .1)
 

@@ -9,31 +9,24 @@ use Rattle.exports.proofs.sheets.zagvirk_write_sheet.Reads as reads
 use Rattle.exports.proofs.sheets.zagvirk_write_sheet.Lts as lts
 use Rattle.sheet.proofs.write.write_sheet.Reads as write-sheet-reads
 
--- src/sheets.rt:57:9
 write-sheet-requires : tie.Need-write-sheet-requires
 write-sheet-requires c κs = search needs
 
--- src/sheets.rt:59:26
 enum-known-answer : tie.Need-enum-known-answer
 enum-known-answer c = search needs
 
--- src/sheets.rt:64:24
 enum-known-answer-2 : tie.Need-enum-known-answer-2
 enum-known-answer-2 c = search needs
 
--- src/sheets.rt:53:1
 same-length : tie.Need-same-length
 same-length c = search needs
 
--- src/sheets.rt:53:1
 returns : tie.Need-returns
 returns c = (ap (λ (a : Written). writtenRecord (writtenValues a)) (sym ((c .before .answer .given) .1)) ∙ ap writtenRecord ((c .before .before .before .before .before .write-sheet .ensures) .2), (c .before .before .before .before .before .write-sheet .ensures) .1)
 
--- src/sheets.rt:53:1
 same-length-2 : tie.Need-same-length-2
 same-length-2 c = search needs
 
--- src/sheets.rt:53:1
 returns-2 : tie.Need-returns-2
 returns-2 c = (ap (λ (a : Written). writtenRecord (writtenValues a)) (sym ((c .before .answer2 .given) .1)) ∙ ap writtenRecord ((c .before .before .before .before .before .write-sheet .ensures) .2), (c .before .before .before .before .before .write-sheet .ensures) .1)
 

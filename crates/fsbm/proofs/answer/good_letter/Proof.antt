@@ -6,11 +6,9 @@ use Rattle.fsbm.proofs.answer.good_letter.Tie as tie
 use Rattle.fsbm.proofs.answer.good_letter.Reads as reads
 use Rattle.fsbm.proofs.answer.good_letter.Lts as lts
 
--- src/answer.rt:34:9
 returns : tie.Need-returns
 returns c = stop _ (lt-leb _ _ (c .if1 .taken))
 
--- src/answer.rt:30:1
 returns-2 : tie.Need-returns-2
 returns-2 c = pass (le-leb _ _ (c .if1 .left)) refl
 

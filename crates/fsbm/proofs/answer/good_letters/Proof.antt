@@ -19,35 +19,27 @@ Inv-loop letters word i₀ i = (i ≤ length word) × (allIn (goodLetter letters
 abbrev μ-loop : tie.MeasureT-loop
 μ-loop letters word i₀ i = length word - i
 
--- src/answer.rt:44:5
 loop-holds : tie.Need-loop-holds Inv-loop μ-loop
 loop-holds c = (omega arith, refl)
 
--- src/answer.rt:45:34
 shared-slice-read-good-letter : tie.Need-shared-slice-read-good-letter Inv-loop μ-loop
 shared-slice-read-good-letter c = omega arith
 
--- src/answer.rt:45:13
 good-letter-requires : tie.Need-good-letter-requires Inv-loop μ-loop
 good-letter-requires c κs = search needs
 
--- src/answer.rt:46:13
 returns : tie.Need-returns Inv-loop μ-loop
 returns c = in-fails (goodLetter (c .before .before .before .before .before .before .args .letters)) ((c .before .before .before .before .before .before .args .word) .now) (c .before .before .before .before .loop .i) 0 (c .before .good-letter .result) ((c .before .before .before .before .loop .inv) .1) (c .before .before .before .loop-test .taken) (c .before .good-letter .ensures) (not-true _ (c .if1 .taken))
 
--- src/answer.rt:48:9
 add-i : tie.Need-add-i Inv-loop μ-loop
 add-i c = omega arith
 
--- src/answer.rt:44:5
 loop-less : tie.Need-loop-less Inv-loop μ-loop
 loop-less c = omega arith
 
--- src/answer.rt:44:5
 loop-again : tie.Need-loop-again Inv-loop μ-loop
 loop-again c = (omega arith, in-goes-on (goodLetter (c .before .before .before .before .before .before .args .letters)) ((c .before .before .before .before .before .before .args .word) .now) (c .before .before .before .before .loop .i) 0 (c .before .good-letter .result) ((c .before .before .before .before .loop .inv) .1) (c .before .before .before .loop-test .taken) (c .before .good-letter .ensures) (not-false _ (c .if1 .left)))
 
--- src/answer.rt:40:1
 returns-2 : tie.Need-returns-2 Inv-loop μ-loop
 returns-2 c = in-done (goodLetter (c .before .before .before .args .letters)) ((c .before .before .before .args .word) .now) (c .before .loop .i) ((c .before .loop .inv) .1) (c .loop-test .left)
 

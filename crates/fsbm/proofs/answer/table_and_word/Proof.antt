@@ -10,30 +10,24 @@ use Rattle.fsbm.proofs.answer.table_and_word.Lts as lts
 use Rattle.fsbm.proofs.answer.good_letters.Reads as good-letters-reads
 use Rattle.fsbm.proofs.machine.is_well_formed.Reads as is-well-formed-reads
 
--- src/answer.rt:59:9
 is-well-formed-requires : tie.Need-is-well-formed-requires
 is-well-formed-requires c κs = search needs
 
--- src/answer.rt:60:9
 returns : tie.Need-returns
 unfolding tableAndWord
 returns c = second _ (sym (c .before .is-well-formed .ensures) ∙ not-true _ (c .if1 .taken)) refl
 
--- src/answer.rt:63:9
 returns-2 : tie.Need-returns-2
 unfolding tableAndWord
 returns-2 c = first _ (sym (c .before .before .is-well-formed .ensures) ∙ not-false _ (c .before .if1 .left)) (second _ (lt-leb _ _ (c .if2 .taken)) refl)
 
--- src/answer.rt:65:9
 good-letters-requires : tie.Need-good-letters-requires
 good-letters-requires c κs = search needs
 
--- src/answer.rt:66:9
 returns-3 : tie.Need-returns-3
 unfolding tableAndWord
 returns-3 c = first _ (sym (c .before .before .before .before .is-well-formed .ensures) ∙ not-false _ (c .before .before .before .if1 .left)) (first _ (le-leb _ _ (c .before .before .if2 .left)) (second _ (sym (c .before .good-letters .ensures) ∙ not-true _ (c .if3 .taken)) refl))
 
--- src/answer.rt:56:1
 returns-4 : tie.Need-returns-4
 unfolding tableAndWord
 returns-4 c = first _ (sym (c .before .before .before .before .is-well-formed .ensures) ∙ not-false _ (c .before .before .before .if1 .left)) (first _ (le-leb _ _ (c .before .before .if2 .left)) (first _ (sym (c .before .good-letters .ensures) ∙ not-false _ (c .if3 .left)) refl))

@@ -5,15 +5,12 @@ use Rattle.fsbm.proofs.config.advance.Tie as tie
 use Rattle.fsbm.proofs.config.advance.Reads as reads
 use Rattle.fsbm.proofs.config.advance.Lts as lts
 
--- src/config.rt:59:9
 returns : tie.Need-returns
 returns c = advanced-epsilon (c .before .args .p) (c .before .args .x) (c .if1 .taken)
 
--- src/config.rt:61:5
 add-result : tie.Need-add-result
 add-result c = record { fits = (c .before .pre) (c .if1 .left) }
 
--- src/config.rt:54:1
 returns-2 : tie.Need-returns-2
 returns-2 c = advanced-letter (c .before .args .p) (c .before .args .x) (c .if1 .left)
 

@@ -9,15 +9,12 @@ use Rattle.fsbm.proofs.config.is_open.Reads as reads
 use Rattle.fsbm.proofs.config.is_open.Lts as lts
 use Rattle.fsbm.proofs.machine.is_buffering.Reads as is-buffering-reads
 
--- src/config.rt:74:9
 returns : tie.Need-returns
 returns c = stop _ (ap not (c .if1 .taken))
 
--- src/config.rt:76:6
 is-buffering-requires : tie.Need-is-buffering-requires
 is-buffering-requires c κs = search needs
 
--- src/config.rt:70:1
 returns-2 : tie.Need-returns-2
 returns-2 c = pass (ap not (c .before .if1 .left)) (ap not (c .is-buffering .ensures))
 

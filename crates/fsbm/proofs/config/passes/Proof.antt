@@ -12,49 +12,38 @@ use Rattle.fsbm.proofs.config.passes.Lts as lts
 use Rattle.fsbm.proofs.config.is_open.Reads as is-open-reads
 use Rattle.fsbm.proofs.machine.both_matching.Reads as both-matching-reads
 
--- src/config.rt:83:9
 both-matching-requires : tie.Need-both-matching-requires
 both-matching-requires c κs = search needs
 
--- src/config.rt:85:46
 enum-told : tie.Need-enum-told
 enum-told c = search needs
 
--- src/config.rt:85:46
 cast-is-open : tie.Need-cast-is-open
 cast-is-open c = search needs
 
--- src/config.rt:85:25
 is-open-requires : tie.Need-is-open-requires
 is-open-requires c κs = search needs
 
--- src/config.rt:86:49
 enum-told-2 : tie.Need-enum-told-2
 enum-told-2 c = search needs
 
--- src/config.rt:86:49
 cast-is-open-2 : tie.Need-cast-is-open-2
 cast-is-open-2 c = search needs
 
--- src/config.rt:86:28
 is-open-requires-2 : tie.Need-is-open-requires-2
 is-open-requires-2 c κs = search needs
 
--- src/config.rt:87:27
 enum-told-3 : tie.Need-enum-told-3
 enum-told-3 c = search needs
 
--- src/config.rt:80:1
 returns : tie.Need-returns
 unfolding passes
 returns c = (c .is-open .ensures) ∙ (ap (λ (b : Bool). not b && not (buffering ((c .before .before .before .before .before .args .marks) .now) ((c .before .before .before .before .before .args .t) .from))) (c .before .before .before .before .both-matching .ensures) ∙ ap (λ (z : Mode). passes ((c .before .before .before .before .before .args .marks) .now) (c .before .before .before .before .before .args .t) z) (sym (c .before .before .enum-told .given .1)))
 
--- src/config.rt:80:1
 returns-2 : tie.Need-returns-2
 unfolding passes
 returns-2 c = (c .is-open2 .ensures) ∙ (ap (λ (b : Bool). not b && not (buffering ((c .before .before .before .before .before .args .marks) .now) ((c .before .before .before .before .before .args .t) .to))) (c .before .before .before .before .both-matching .ensures) ∙ ap (λ (z : Mode). passes ((c .before .before .before .before .before .args .marks) .now) (c .before .before .before .before .before .args .t) z) (sym (c .before .before .enum-told2 .given .1)))
 
--- src/config.rt:80:1
 returns-3 : tie.Need-returns-3
 unfolding passes
 returns-3 c = (c .before .before .both-matching .ensures) ∙ ap (λ (z : Mode). passes ((c .before .before .before .args .marks) .now) (c .before .before .before .args .t) z) (sym (c .enum-told3 .given .1))

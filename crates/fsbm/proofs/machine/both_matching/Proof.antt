@@ -9,27 +9,21 @@ use Rattle.fsbm.proofs.machine.both_matching.Reads as reads
 use Rattle.fsbm.proofs.machine.both_matching.Lts as lts
 use Rattle.fsbm.proofs.machine.is_matching.Reads as is-matching-reads
 
--- src/machine.rt:65:27
 cast-is-matching : tie.Need-cast-is-matching
 cast-is-matching c = search needs
 
--- src/machine.rt:65:8
 is-matching-requires : tie.Need-is-matching-requires
 is-matching-requires c κs = search needs
 
--- src/machine.rt:66:35
 cast-is-matching-2 : tie.Need-cast-is-matching-2
 cast-is-matching-2 c = search needs
 
--- src/machine.rt:66:9
 is-matching-requires-2 : tie.Need-is-matching-requires-2
 is-matching-requires-2 c κs = search needs
 
--- src/machine.rt:66:9
 returns : tie.Need-returns
 returns c = pass (sym (c .before .before .before .is-matching .ensures) ∙ (c .before .before .if1 .taken)) (c .is-matching2 .ensures)
 
--- src/machine.rt:62:1
 returns-2 : tie.Need-returns-2
 returns-2 c = stop _ (sym (c .before .is-matching .ensures) ∙ (c .if1 .left))
 

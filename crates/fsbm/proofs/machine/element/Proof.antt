@@ -6,19 +6,15 @@ use Rattle.fsbm.proofs.machine.element.Tie as tie
 use Rattle.fsbm.proofs.machine.element.Reads as reads
 use Rattle.fsbm.proofs.machine.element.Lts as lts
 
--- src/machine.rt:76:16
 mul-result : tie.Need-mul-result
 mul-result c = search needs
 
--- src/machine.rt:76:16
 shared-slice-read-result : tie.Need-shared-slice-read-result
 shared-slice-read-result c = search needs
 
--- src/machine.rt:76:9
 returns : tie.Need-returns
 returns c = search needs
 
--- src/machine.rt:72:1
 returns-2 : tie.Need-returns-2
 returns-2 c = sym (List·getD-eq-default ((c .before .args .list) .now) 0 (c .if1 .left))
 

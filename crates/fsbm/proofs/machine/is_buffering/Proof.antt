@@ -5,11 +5,9 @@ use Rattle.fsbm.proofs.machine.is_buffering.Reads as reads
 use Rattle.fsbm.proofs.machine.is_buffering.Lts as lts
 use Rattle.fsbm.proofs.machine.mark.Reads as mark-reads
 
--- src/machine.rt:52:5
 mark-requires : tie.Need-mark-requires
 mark-requires c κs = search needs
 
--- src/machine.rt:49:1
 returns : tie.Need-returns
 returns c = simp (c .mark .ensures)
 

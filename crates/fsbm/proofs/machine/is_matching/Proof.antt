@@ -5,11 +5,9 @@ use Rattle.fsbm.proofs.machine.is_matching.Reads as reads
 use Rattle.fsbm.proofs.machine.is_matching.Lts as lts
 use Rattle.fsbm.proofs.machine.mark.Reads as mark-reads
 
--- src/machine.rt:58:5
 mark-requires : tie.Need-mark-requires
 mark-requires c κs = search needs
 
--- src/machine.rt:55:1
 returns : tie.Need-returns
 returns c = simp (c .mark .ensures)
 

@@ -6,27 +6,21 @@ use Rattle.fsbm.proofs.machine.is_named.Tie as tie
 use Rattle.fsbm.proofs.machine.is_named.Reads as reads
 use Rattle.fsbm.proofs.machine.is_named.Lts as lts
 
--- src/machine.rt:135:18
 cast-if1 : tie.Need-cast-if1
 cast-if1 c = search needs
 
--- src/machine.rt:136:9
 returns : tie.Need-returns
 returns c = named-from (c .before .before .args .states) (c .before .before .args .letters) (c .before .before .args .t) (c .if1 .taken)
 
--- src/machine.rt:138:18
 cast-if2 : tie.Need-cast-if2
 cast-if2 c = search needs
 
--- src/machine.rt:139:9
 returns-2 : tie.Need-returns-2
 returns-2 c = named-letter (c .before .before .before .before .args .states) (c .before .before .before .before .args .letters) (c .before .before .before .before .args .t) (c .before .before .if1 .left) (c .if2 .taken)
 
--- src/machine.rt:141:6
 cast-result : tie.Need-cast-result
 cast-result c = search needs
 
--- src/machine.rt:132:1
 returns-3 : tie.Need-returns-3
 returns-3 c = named-to (c .before .before .before .before .before .args .states) (c .before .before .before .before .before .args .letters) (c .before .before .before .before .before .args .t) (c .before .before .before .if1 .left) (c .before .if2 .left)
 

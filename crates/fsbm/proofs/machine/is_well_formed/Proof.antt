@@ -11,49 +11,39 @@ use Rattle.fsbm.proofs.machine.is_well_formed.Lts as lts
 use Rattle.fsbm.proofs.machine.good_marks.Reads as good-marks-reads
 use Rattle.fsbm.proofs.machine.good_transitions.Reads as good-transitions-reads
 
--- src/machine.rt:191:9
 returns : tie.Need-returns
 unfolding wellFormed
 returns c = stop _ (lt-leb _ _ (c .if1 .taken))
 
--- src/machine.rt:194:9
 returns-2 : tie.Need-returns-2
 unfolding wellFormed
 returns-2 c = pass (le-leb _ _ (c .before .if1 .left)) (stop _ (lt-leb _ _ (c .if2 .taken)))
 
--- src/machine.rt:197:9
 returns-3 : tie.Need-returns-3
 unfolding wellFormed
 returns-3 c = pass (le-leb _ _ (c .before .before .if1 .left)) (pass (le-leb _ _ (c .before .if2 .left)) (stop _ (lt-leb _ _ (c .if3 .taken))))
 
--- src/machine.rt:200:9
 returns-4 : tie.Need-returns-4
 unfolding wellFormed
 returns-4 c = pass (le-leb _ _ (c .before .before .before .if1 .left)) (pass (le-leb _ _ (c .before .before .if2 .left)) (pass (le-leb _ _ (c .before .if3 .left)) (stop _ (lt-leb _ _ (c .if4 .taken)))))
 
--- src/machine.rt:202:21
 mul-if5 : tie.Need-mul-if5
 mul-if5 c = search needs
 
--- src/machine.rt:203:9
 returns-5 : tie.Need-returns-5
 unfolding wellFormed
 returns-5 c = pass (le-leb _ _ (c .before .before .before .before .if1 .left)) (pass (le-leb _ _ (c .before .before .before .if2 .left)) (pass (le-leb _ _ (c .before .before .if3 .left)) (pass (le-leb _ _ (c .before .if4 .left)) (stop _ (lt-leb _ _ (c .if5 .taken))))))
 
--- src/machine.rt:205:9
 good-marks-requires : tie.Need-good-marks-requires
 good-marks-requires c κs = search needs
 
--- src/machine.rt:206:9
 returns-6 : tie.Need-returns-6
 unfolding wellFormed
 returns-6 c = pass (le-leb _ _ (c .before .before .before .before .before .before .before .before .if1 .left)) (pass (le-leb _ _ (c .before .before .before .before .before .before .before .if2 .left)) (pass (le-leb _ _ (c .before .before .before .before .before .before .if3 .left)) (pass (le-leb _ _ (c .before .before .before .before .before .if4 .left)) (pass (le-leb _ _ (c .before .before .before .before .if5 .left)) (stop _ (sym ((c .before .good-marks .ensures) ((c .before .before .before .before .before .before .before .before .before .before .args) .t1) refl refl) ∙ not-true _ (c .if6 .taken)))))))
 
--- src/machine.rt:208:5
 good-transitions-requires : tie.Need-good-transitions-requires
 good-transitions-requires c κs = omega (arith, (c .before .before .before .before .if5 .left))
 
--- src/machine.rt:187:1
 returns-7 : tie.Need-returns-7
 unfolding wellFormed
 returns-7 c = pass (le-leb _ _ (c .before .before .before .before .before .before .before .before .before .if1 .left)) (pass (le-leb _ _ (c .before .before .before .before .before .before .before .before .if2 .left)) (pass (le-leb _ _ (c .before .before .before .before .before .before .before .if3 .left)) (pass (le-leb _ _ (c .before .before .before .before .before .before .if4 .left)) (pass (le-leb _ _ (c .before .before .before .before .before .if5 .left)) (pass (sym ((c .before .before .good-marks .ensures) ((c .before .before .before .before .before .before .before .before .before .before .before .args) .t1) refl refl) ∙ not-false _ (c .before .if6 .left)) (c .good-transitions .ensures))))))

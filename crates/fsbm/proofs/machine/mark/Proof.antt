@@ -5,15 +5,12 @@ use Rattle.fsbm.proofs.machine.mark.Tie as tie
 use Rattle.fsbm.proofs.machine.mark.Reads as reads
 use Rattle.fsbm.proofs.machine.mark.Lts as lts
 
--- src/machine.rt:32:16
 element-copy-out-result : tie.Need-element-copy-out-result
 element-copy-out-result c = search needs
 
--- src/machine.rt:32:9
 returns : tie.Need-returns
 returns c = simp (lt-ltb _ _ (c .before .if1 .taken))
 
--- src/machine.rt:28:1
 returns-2 : tie.Need-returns-2
 returns-2 c = simp (le-ltb _ _ (c .if1 .left))
 

@@ -7,15 +7,12 @@ use Rattle.fsbm.proofs.machine.states_for.Tie as tie
 use Rattle.fsbm.proofs.machine.states_for.Reads as reads
 use Rattle.fsbm.proofs.machine.states_for.Lts as lts
 
--- src/machine.rt:121:9
 returns : tie.Need-returns
 returns c = first _ (eq-eqb _ _ (c .if1 .taken)) refl
 
--- src/machine.rt:123:5
 add-result : tie.Need-add-result
 add-result c = search needs
 
--- src/machine.rt:116:1
 returns-2 : tie.Need-returns-2
 returns-2 c = second 0 (ne-eqb _ _ (c .if1 .left)) refl
 

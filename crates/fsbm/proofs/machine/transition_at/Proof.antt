@@ -8,35 +8,27 @@ use Rattle.fsbm.proofs.machine.transition_at.Reads as reads
 use Rattle.fsbm.proofs.machine.transition_at.Lts as lts
 use Rattle.fsbm.proofs.machine.element.Reads as element-reads
 
--- src/machine.rt:86:9
 returns : tie.Need-returns
 returns c = transition-past ((c .before .before .args .list) .now) (c .before .before .args .k) (c .if1 .taken)
 
--- src/machine.rt:92:13
 mul-i : tie.Need-mul-i
 mul-i c = search needs
 
--- src/machine.rt:94:15
 element-requires : tie.Need-element-requires
 element-requires c κs = search needs
 
--- src/machine.rt:95:31
 add-element : tie.Need-add-element
 add-element c = search needs
 
--- src/machine.rt:95:17
 element-requires-2 : tie.Need-element-requires-2
 element-requires-2 c κs = search needs
 
--- src/machine.rt:96:27
 add-element-2 : tie.Need-add-element-2
 add-element-2 c = search needs
 
--- src/machine.rt:96:13
 element-requires-3 : tie.Need-element-requires-3
 element-requires-3 c κs = search needs
 
--- src/machine.rt:82:1
 returns-2 : tie.Need-returns-2
 returns-2 c = simp (c .before .before .element .ensures, c .before .element2 .ensures, c .element3 .ensures)
 

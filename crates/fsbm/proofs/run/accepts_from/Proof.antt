@@ -24,71 +24,54 @@ Inv-loop list word run count m c₀ i₀ c i = (wellPlaced (m .states) (length w
 abbrev μ-loop : tie.MeasureT-loop
 μ-loop list word run count m c₀ i₀ c i = count - i
 
--- src/run.rt:23:5
 loop-holds : tie.Need-loop-holds Inv-loop μ-loop
 loop-holds c = ((c .before .before .before .pre) .1, refl)
 
--- src/run.rt:24:21
 mul-entry : tie.Need-mul-entry Inv-loop μ-loop
 mul-entry c = omega (arith, (c .loop-test .taken), (c .before .before .before .before .before .pre) .2, (c .before .before .before .before .before .good))
 
--- src/run.rt:24:21
 shared-slice-read-entry : tie.Need-shared-slice-read-entry Inv-loop μ-loop
 shared-slice-read-entry c = omega (arith, (c .before .loop-test .taken), (c .before .before .before .before .before .before .pre) .2)
 
--- src/run.rt:25:9
 add-i : tie.Need-add-i Inv-loop μ-loop
 add-i c = omega (arith, (c .before .loop-test .taken), (c .before .before .before .before .before .before .fits .count))
 
--- src/run.rt:26:17
 cast-k : tie.Need-cast-k Inv-loop μ-loop
 cast-k c = omega (arith, (c .shared-slice-known4 .given) (c .before .before .loop .i))
 
--- src/run.rt:28:17
 change-mode-requires : tie.Need-change-mode-requires Inv-loop μ-loop
 change-mode-requires c κs = search needs
 
--- src/run.rt:30:17
 returns : tie.Need-returns Inv-loop μ-loop
 returns c = run-off (c .before .before .before .before .before .before .before .before .before .before .before .before .args .t1) ((c .before .before .before .before .before .before .before .before .before .before .before .before .args .list) .now) ((c .before .before .before .before .before .before .before .before .before .before .before .before .args .word) .now) ((c .before .before .before .before .before .before .before .before .before .before .before .before .args .run) .now) (c .before .before .before .before .before .before .before .before .before .before .before .before .args .count) ((c .before .before .before .before .before .before .before .before .before .before .before .before .pre) .2) (c .before .before .before .before .before .before .before .before .loop .c) (c .before .before .before .before .before .before .before .before .loop .i) (c .before .before .change-mode .result) ((c .before .before .change-mode .ensures) ∙ move-change (c .before .before .before .before .before .before .before .before .before .before .before .before .args .t1) _ _ _ refl refl refl ((c .before .before .before .before .before .before .before .before .before .before .before .before .args .list) .now) ((c .before .before .before .before .before .before .before .before .before .before .before .before .args .word) .now) (c .before .before .before .before .before .before .before .before .loop .c) _ ((c .before .before .before .before .before .before .before .before .loop .inv) .0) (c .before .before .before .before .before .if1 .taken)) (c .before .before .before .before .before .before .before .loop-test .taken) ((c .before .before .before .before .before .before .before .before .loop .inv) .1) (not-true _ (c .if2 .taken))
 
--- src/run.rt:23:5
 loop-less : tie.Need-loop-less Inv-loop μ-loop
 loop-less c = omega arith
 
--- src/run.rt:23:5
 loop-again : tie.Need-loop-again Inv-loop μ-loop
 loop-again c = run-on (c .before .before .before .before .before .before .before .before .before .before .before .before .before .args .t1) ((c .before .before .before .before .before .before .before .before .before .before .before .before .before .args .list) .now) ((c .before .before .before .before .before .before .before .before .before .before .before .before .before .args .word) .now) ((c .before .before .before .before .before .before .before .before .before .before .before .before .before .args .run) .now) (c .before .before .before .before .before .before .before .before .before .before .before .before .before .args .count) ((c .before .before .before .before .before .before .before .before .before .before .before .before .before .pre) .2) (c .before .before .before .before .before .before .before .before .before .loop .c) (c .before .before .before .before .before .before .before .before .before .loop .i) (c .before .before .before .change-mode .result) ((c .before .before .before .change-mode .ensures) ∙ move-change (c .before .before .before .before .before .before .before .before .before .before .before .before .before .args .t1) _ _ _ refl refl refl ((c .before .before .before .before .before .before .before .before .before .before .before .before .before .args .list) .now) ((c .before .before .before .before .before .before .before .before .before .before .before .before .before .args .word) .now) (c .before .before .before .before .before .before .before .before .before .loop .c) _ ((c .before .before .before .before .before .before .before .before .before .loop .inv) .0) (c .before .before .before .before .before .before .if1 .taken)) (c .before .before .before .before .before .before .before .before .loop-test .taken) ((c .before .before .before .before .before .before .before .before .before .loop .inv) .1) ((c .before .before .before .before .before .before .before .before .before .before .before .before .before .pre) .0) (not-false _ (c .before .if2 .left))
 
--- src/run.rt:35:17
 present-transition-requires : tie.Need-present-transition-requires Inv-loop μ-loop
 present-transition-requires c κs = omega (arith, rules (c .before .before .before .before .before .before .before .args .t1) ((c .before .before .before .before .before .before .before .args .list) .now) ((c .before .before .before .before .before .before .before .pre) .0) .list-fits, (c .if1 .left))
 
--- src/run.rt:36:17
 may-take-requires : tie.Need-may-take-requires Inv-loop μ-loop
 may-take-requires c κs = search needs
 
--- src/run.rt:37:17
 returns-2 : tie.Need-returns-2 Inv-loop μ-loop
 returns-2 c = run-off (c .before .before .before .before .before .before .before .before .before .before .before .before .args .t1) ((c .before .before .before .before .before .before .before .before .before .before .before .before .args .list) .now) ((c .before .before .before .before .before .before .before .before .before .before .before .before .args .word) .now) ((c .before .before .before .before .before .before .before .before .before .before .before .before .args .run) .now) (c .before .before .before .before .before .before .before .before .before .before .before .before .args .count) ((c .before .before .before .before .before .before .before .before .before .before .before .before .pre) .2) (c .before .before .before .before .before .before .before .before .loop .c) (c .before .before .before .before .before .before .before .before .loop .i) _ (move-not-taken (c .before .before .before .before .before .before .before .before .before .before .before .before .args .t1) _ _ _ refl refl refl ((c .before .before .before .before .before .before .before .before .before .before .before .before .args .list) .now) ((c .before .before .before .before .before .before .before .before .before .before .before .before .args .word) .now) (c .before .before .before .before .before .before .before .before .loop .c) _ ((c .before .before .before .before .before .before .before .before .loop .inv) .0) (c .before .before .before .before .before .if1 .left) (c .before .before .before .before .present-transition .result) (c .before .before .before .before .present-transition .ensures) (sym (c .before .may-take .ensures) ∙ not-true _ (c .if3 .taken))) (c .before .before .before .before .before .before .before .loop-test .taken) ((c .before .before .before .before .before .before .before .before .loop .inv) .1) refl
 
--- src/run.rt:39:17
 after-requires : tie.Need-after-requires Inv-loop μ-loop
 after-requires c κs = let p = ranges _ ((c .before .before .before .before .before .before .before .before .before .before .before .before .args .word) .now) (c .before .before .before .before .before .before .before .before .loop .c) ((c .before .before .before .before .before .before .before .before .loop .inv) .0) in (omega (arith, p .0, (c .before .before .before .before .before .before .before .before .before .before .before .before .good)), p .1, p .2)
 
--- src/run.rt:23:5
 loop-less-2 : tie.Need-loop-less-2 Inv-loop μ-loop
 loop-less-2 c = omega arith
 
--- src/run.rt:23:5
 loop-again-2 : tie.Need-loop-again-2 Inv-loop μ-loop
 loop-again-2 c = run-on (c .before .before .before .before .before .before .before .before .before .before .before .before .before .args .t1) ((c .before .before .before .before .before .before .before .before .before .before .before .before .before .args .list) .now) ((c .before .before .before .before .before .before .before .before .before .before .before .before .before .args .word) .now) ((c .before .before .before .before .before .before .before .before .before .before .before .before .before .args .run) .now) (c .before .before .before .before .before .before .before .before .before .before .before .before .before .args .count) ((c .before .before .before .before .before .before .before .before .before .before .before .before .before .pre) .2) (c .before .before .before .before .before .before .before .before .before .loop .c) (c .before .before .before .before .before .before .before .before .before .loop .i) _ (move-taken (c .before .before .before .before .before .before .before .before .before .before .before .before .before .args .t1) _ _ _ refl refl refl ((c .before .before .before .before .before .before .before .before .before .before .before .before .before .args .list) .now) ((c .before .before .before .before .before .before .before .before .before .before .before .before .before .args .word) .now) (c .before .before .before .before .before .before .before .before .before .loop .c) _ ((c .before .before .before .before .before .before .before .before .before .loop .inv) .0) (c .before .before .before .before .before .before .if1 .left) (c .before .before .before .before .before .present-transition .result) (c .before .before .before .before .before .present-transition .ensures) (sym (c .before .before .may-take .ensures) ∙ not-false _ (c .before .if3 .left)) (c .after .result) (c .after .ensures)) (c .before .before .before .before .before .before .before .before .loop-test .taken) ((c .before .before .before .before .before .before .before .before .before .loop .inv) .1) ((c .before .before .before .before .before .before .before .before .before .before .before .before .before .pre) .0) refl
 
--- src/run.rt:43:5
 is-accepting-requires : tie.Need-is-accepting-requires Inv-loop μ-loop
 is-accepting-requires c κs = search needs
 
--- src/run.rt:17:1
 returns-3 : tie.Need-returns-3 Inv-loop μ-loop
 returns-3 c = (c .is-accepting .ensures) ∙ (run-end (c .before .before .before .before .before .before .before .before .args .t1) ((c .before .before .before .before .before .before .before .before .args .list) .now) ((c .before .before .before .before .before .before .before .before .args .word) .now) ((c .before .before .before .before .before .before .before .before .args .run) .now) (c .before .before .before .before .before .before .before .before .args .count) ((c .before .before .before .before .before .before .before .before .pre) .2) (c .before .before .before .before .loop .c) (c .before .before .before .before .loop .i) (c .before .before .before .loop-test .left) ∙ ((c .before .before .before .before .loop .inv) .1))
 

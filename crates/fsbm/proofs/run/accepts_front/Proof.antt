@@ -16,39 +16,30 @@ use Rattle.fsbm.proofs.config.Config.start_at.Reads as start-at-reads
 use Rattle.fsbm.proofs.machine.is_initial.Reads as is-initial-reads
 use Rattle.fsbm.proofs.run.accepts_from.Reads as accepts-from-reads
 
--- src/run.rt:53:9
 returns : tie.Need-returns
 returns c = run-none (c .before .before .before .before .args .t1) ((c .before .before .before .before .args .list) .now) ((c .before .before .before .before .args .word) .now) ((c .before .before .before .before .args .run) .now) (c .before .before .before .before .args .count) (c .if1 .taken)
 
--- src/run.rt:55:13
 shared-slice-read-q : tie.Need-shared-slice-read-q
 shared-slice-read-q c = omega (arith, (c .before .before .before .before .before .pre) .1, (c .before .if1 .left))
 
--- src/run.rt:55:13
 cast-q : tie.Need-cast-q
 cast-q c = omega (arith, (c .shared-slice-known4 .given) 0)
 
--- src/run.rt:57:9
 returns-2 : tie.Need-returns-2
 returns-2 c = stop _ (le-ltb _ _ (c .if2 .taken)) ∙ run-first (c .before .before .before .before .before .before .args .t1) ((c .before .before .before .before .before .before .args .list) .now) ((c .before .before .before .before .before .before .args .word) .now) ((c .before .before .before .before .before .before .args .run) .now) (c .before .before .before .before .before .before .args .count) ((c .before .before .before .before .before .before .pre) .1) (c .before .before .if1 .left)
 
--- src/run.rt:59:9
 is-initial-requires : tie.Need-is-initial-requires
 is-initial-requires c κs = search needs
 
--- src/run.rt:60:9
 returns-3 : tie.Need-returns-3
 returns-3 c = pass (lt-ltb _ _ (c .before .before .before .before .if2 .left)) (stop _ (sym (c .before .is-initial .ensures) ∙ not-true _ (c .if3 .taken))) ∙ run-first (c .before .before .before .before .before .before .before .before .before .before .args .t1) ((c .before .before .before .before .before .before .before .before .before .before .args .list) .now) ((c .before .before .before .before .before .before .before .before .before .before .args .word) .now) ((c .before .before .before .before .before .before .before .before .before .before .args .run) .now) (c .before .before .before .before .before .before .before .before .before .before .args .count) ((c .before .before .before .before .before .before .before .before .before .before .pre) .1) (c .before .before .before .before .before .before .if1 .left)
 
--- src/run.rt:62:33
 start-at-requires : tie.Need-start-at-requires
 start-at-requires c κs = search needs
 
--- src/run.rt:62:5
 accepts-from-requires : tie.Need-accepts-from-requires
 accepts-from-requires c κs = ((c .before .before .before .before .before .before .before .before .before .before .before .pre) .0, ap (λ (z : Config). wellPlaced ((c .before .before .before .before .before .before .before .before .before .before .before .args .t1) .states) (length ((c .before .before .before .before .before .before .before .before .before .before .before .args .word) .now)) z) (c .start-at .ensures) ∙ start-well-placed (c .before .before .before .before .before .before .before .before .before .before .before .args .t1) ((c .before .before .before .before .before .before .before .before .before .before .before .args .word) .now) _ (c .before .before .before .before .before .if2 .left), (c .before .before .before .before .before .before .before .before .before .before .before .pre) .1)
 
--- src/run.rt:48:1
 returns-4 : tie.Need-returns-4
 returns-4 c = pass (lt-ltb _ _ (c .before .before .before .before .before .before .if2 .left)) (pass (sym (c .before .before .before .is-initial .ensures) ∙ not-false _ (c .before .before .if3 .left)) ((c .accepts-from .ensures) ∙ ap (λ (z : Config). acceptingFrom (c .before .before .before .before .before .before .before .before .before .before .before .before .args .t1) ((c .before .before .before .before .before .before .before .before .before .before .before .before .args .list) .now) ((c .before .before .before .before .before .before .before .before .before .before .before .before .args .word) .now) z (drop 1 (take (c .before .before .before .before .before .before .before .before .before .before .before .before .args .count) ((c .before .before .before .before .before .before .before .before .before .before .before .before .args .run) .now)))) (c .before .start-at .ensures))) ∙ run-first (c .before .before .before .before .before .before .before .before .before .before .before .before .args .t1) ((c .before .before .before .before .before .before .before .before .before .before .before .before .args .list) .now) ((c .before .before .before .before .before .before .before .before .before .before .before .before .args .word) .now) ((c .before .before .before .before .before .before .before .before .before .before .before .before .args .run) .now) (c .before .before .before .before .before .before .before .before .before .before .before .before .args .count) ((c .before .before .before .before .before .before .before .before .before .before .before .before .pre) .1) (c .before .before .before .before .before .before .before .before .if1 .left)
 

@@ -10,23 +10,18 @@ use Rattle.fsbm.proofs.run.check_run.Lts as lts
 use Rattle.fsbm.proofs.answer.table_and_word.Reads as table-and-word-reads
 use Rattle.fsbm.proofs.run.is_accepting_run.Reads as is-accepting-run-reads
 
--- src/run.rt:80:9
 table-and-word-requires : tie.Need-table-and-word-requires
 table-and-word-requires c κs = search needs
 
--- src/run.rt:82:9
 returns : tie.Need-returns
 returns c = check-says _ _ _ _ _ (check-refused (c .before .before .before .before .before .args .m) ((c .before .before .before .before .before .args .list) .now) ((c .before .before .before .before .before .args .word) .now) (c .before .table-and-word .result) (c .before .table-and-word .ensures) ((c .before .before .before .before .before .args .run) .now) (c .if1 .taken))
 
--- src/run.rt:84:8
 is-accepting-run-requires : tie.Need-is-accepting-run-requires
 is-accepting-run-requires c κs = table-good 1048576 (c .before .before .before .before .before .args .m) ((c .before .before .before .before .before .args .list) .now) ((c .before .before .before .before .before .args .word) .now) (sym (c .before .table-and-word .ensures) ∙ (c .if1 .left)) .0
 
--- src/run.rt:85:9
 returns-2 : tie.Need-returns-2
 returns-2 c = check-says _ _ _ _ _ (ap checkedBy (sym (c .if2 .taken)) ∙ check-tried (c .before .before .before .before .before .before .before .args .m) ((c .before .before .before .before .before .before .before .args .list) .now) ((c .before .before .before .before .before .before .before .args .word) .now) (c .before .before .before .table-and-word .result) (c .before .before .before .table-and-word .ensures) ((c .before .before .before .before .before .before .before .args .run) .now) (c .before .before .if1 .left) (c .before .is-accepting-run .result) (c .before .is-accepting-run .ensures))
 
--- src/run.rt:77:1
 returns-3 : tie.Need-returns-3
 returns-3 c = check-says _ _ _ _ _ (ap checkedBy (sym (c .if2 .left)) ∙ check-tried (c .before .before .before .before .before .before .before .args .m) ((c .before .before .before .before .before .before .before .args .list) .now) ((c .before .before .before .before .before .before .before .args .word) .now) (c .before .before .before .table-and-word .result) (c .before .before .before .table-and-word .ensures) ((c .before .before .before .before .before .before .before .args .run) .now) (c .before .before .if1 .left) (c .before .is-accepting-run .result) (c .before .is-accepting-run .ensures))
 

@@ -11,11 +11,9 @@ use Rattle.fsbm.proofs.run.is_accepting_run.Reads as reads
 use Rattle.fsbm.proofs.run.is_accepting_run.Lts as lts
 use Rattle.fsbm.proofs.run.accepts_front.Reads as accepts-front-reads
 
--- src/run.rt:71:5
 accepts-front-requires : tie.Need-accepts-front-requires
 accepts-front-requires c κs = search needs
 
--- src/run.rt:67:1
 returns : tie.Need-returns
 returns c = (c .accepts-front .ensures) ∙ ap (λ (z : List ℕ). accepting (c .before .before .before .before .args .m) ((c .before .before .before .before .args .list) .now) ((c .before .before .before .before .args .word) .now) z) (take-length ((c .before .before .before .before .args .run) .now))
 

@@ -5,7 +5,6 @@ use Rattle.layers.proofs.layer.blank.Tie as tie
 use Rattle.layers.proofs.layer.blank.Reads as reads
 use Rattle.layers.proofs.layer.blank.Lts as lts
 
--- src/layer.rt:20:1
 returns : tie.Need-returns
 returns c = blank-is
 

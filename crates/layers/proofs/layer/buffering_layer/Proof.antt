@@ -10,27 +10,21 @@ use Rattle.layers.proofs.row.change.Reads as change-reads
 use Rattle.layers.proofs.row.read.Reads as read-reads
 use Rattle.stateset.proofs.full.Reads as full-reads
 
--- src/layer.rt:112:9
 full-requires : tie.Need-full-requires
 full-requires c κs = search needs
 
--- src/layer.rt:113:9
 change-requires : tie.Need-change-requires
 change-requires c κs = search needs
 
--- src/layer.rt:114:9
 read-requires : tie.Need-read-requires
 read-requires c κs = ((c .before .before .before .before .before .before .pre) .0, (c .before .before .before .before .before .before .pre) .1, λ q i. (c .before .before .before .full) .ensures .members q .0 i .0)
 
--- src/layer.rt:117:13
 returns : tie.Need-returns
 returns c = buffering-none _ _ _ _ _ ((c .before .before .before .before .before .before .before .before .before .pre) .0) _ _ _ _ _ _ ((c .before .before .before .before .before .before .before .before .before .pre) .2) _ _ _ ((c .before .before .before .before .before .before .full) .ensures) ((c .before .before .before .before .change) .ensures) ((c .before .before .read) .ensures) (not-true _ ((c .before .if1) .taken)) (not-true _ ((c .if2) .taken))
 
--- src/layer.rt:120:5
 close-buffering-requires : tie.Need-close-buffering-requires
 close-buffering-requires c κs = (c .before .before .before .before .before .before .before .before .before .pre) .0
 
--- src/layer.rt:98:1
 returns-2 : tie.Need-returns-2
 returns-2 c = lives (buffering-made _ _ _ _ _ ((c .before .before .before .before .before .before .before .before .before .before .pre) .0) _ _ _ _ _ _ ((c .before .before .before .before .before .before .before .before .before .before .pre) .2) _ _ _ ((c .before .before .before .before .before .before .before .full) .ensures) ((c .before .before .before .before .before .change) .ensures) ((c .before .before .before .read) .ensures) _ ((c .close-buffering) .ensures))
 

@@ -7,15 +7,12 @@ use Rattle.layers.proofs.layer.close_buffering.Lts as lts
 use Rattle.layers.proofs.row.close.Reads as close-reads
 use Rattle.stateset.proofs.full.Reads as full-reads
 
--- src/layer.rt:67:9
 full-requires : tie.Need-full-requires
 full-requires c κs = search needs
 
--- src/layer.rt:60:5
 close-requires : tie.Need-close-requires
 close-requires c κs = ((c .before .before .before .before .pre), λ q i. (c .before .full) .ensures .members q .0 i .0)
 
--- src/layer.rt:56:1
 returns : tie.Need-returns
 returns c = closed-buffering _ _ _ _ _ (c .before .before .before .before .before .pre) _ ((c .before .before .full) .ensures) _ _ ((c .close) .ensures)
 

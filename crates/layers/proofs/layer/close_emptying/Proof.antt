@@ -5,11 +5,9 @@ use Rattle.layers.proofs.layer.close_emptying.Reads as reads
 use Rattle.layers.proofs.layer.close_emptying.Lts as lts
 use Rattle.layers.proofs.row.close.Reads as close-reads
 
--- src/layer.rt:77:5
 close-requires : tie.Need-close-requires
 close-requires c κs = ((c .before .before .before .pre), matching-inside _ _ _ _ _ (c .before .before .before .pre))
 
--- src/layer.rt:73:1
 returns : tie.Need-returns
 returns c = closed-emptying _ _ _ _ _ (c .before .before .before .before .pre) _ _ ((c .close) .ensures)
 

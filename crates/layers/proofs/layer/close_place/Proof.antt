@@ -16,31 +16,24 @@ Inv-loop m list targets g h near starts normal₀ buffering₀ emptying₀ norma
 abbrev μ-loop : tie.MeasureT-loop
 μ-loop m list targets g h near starts normal₀ buffering₀ emptying₀ normal buffering emptying = weight normal + weight buffering + weight emptying
 
--- src/layer.rt:197:9
 close-shut-requires : tie.Need-close-shut-requires Inv-loop μ-loop
 close-shut-requires c κs = (c .before .before .before .before .before .pre)
 
--- src/layer.rt:198:9
 returns : tie.Need-returns Inv-loop μ-loop
 returns c = shut-place _ _ _ _ _ ((c .before .before .before .before .before .before .pre) .0) _ _ _ _ _ _ _ ((c .before .before .before .if1) .taken) ((c .close-shut) .ensures)
 
--- src/layer.rt:200:5
 loop-holds : tie.Need-loop-holds Inv-loop μ-loop
 loop-holds c = lower-here _ _ _ _ _ ((c .before .before .before .pre) .0) _ _ _ _ _
 
--- src/layer.rt:201:13
 round-requires : tie.Need-round-requires Inv-loop μ-loop
 round-requires c κs = (c .before .before .before .before .before .before .before .pre)
 
--- src/layer.rt:204:13
 returns-2 : tie.Need-returns-2 Inv-loop μ-loop
 returns-2 c = closed-after _ _ _ _ _ ((c .before .before .before .before .before .before .before .before .before .pre) .0) _ _ _ _ _ _ _ _ _ _ _ _ ((c .before .before .before .before .before .loop) .inv) ((c .before .round) .ensures) (not-true _ ((c .if2) .taken))
 
--- src/layer.rt:200:5
 loop-less : tie.Need-loop-less Inv-loop μ-loop
 loop-less c = ((c .before .round) .ensures) .less (not-false _ ((c .if2) .left))
 
--- src/layer.rt:200:5
 loop-again : tie.Need-loop-again Inv-loop μ-loop
 loop-again c = lower-then _ _ _ _ _ ((c .before .before .before .before .before .before .before .before .before .pre) .0) _ _ _ _ _ _ _ _ _ _ _ ((c .before .before .before .before .before .loop) .inv) (((c .before .round) .ensures) .lower)
 

@@ -8,19 +8,15 @@ use Rattle.layers.proofs.layer.close_emptying.Reads as close-emptying-r
 use Rattle.layers.proofs.row.change.Reads as change-reads
 use Rattle.layers.proofs.row.close.Reads as close-reads
 
--- src/layer.rt:175:5
 close-requires : tie.Need-close-requires
 close-requires c κs = (c .before .before .before .pre)
 
--- src/layer.rt:176:5
 change-requires : tie.Need-change-requires
 change-requires c κs = search needs
 
--- src/layer.rt:177:5
 close-emptying-requires : tie.Need-close-emptying-requires
 close-emptying-requires c κs = (c .before .before .before .before .before .before .before .before .pre) .0
 
--- src/layer.rt:162:1
 returns : tie.Need-returns
 returns c = shut-made _ _ _ _ _ ((c .before .before .before .before .before .before .before .before .before .pre) .0) _ _ _ _ _ _ _ ((c .before .before .before .before .before .close) .ensures) ((c .before .before .change) .ensures) ((c .close-emptying) .ensures)
 

@@ -8,19 +8,15 @@ use Rattle.layers.proofs.layer.emptying_layer.Lts as lts
 use Rattle.layers.proofs.layer.close_emptying.Reads as close-emptying-reads
 use Rattle.layers.proofs.row.read.Reads as read-reads
 
--- src/layer.rt:95:9
 read-requires : tie.Need-read-requires
 read-requires c κs = ((c .before .before .before .pre) .0, (c .before .before .before .pre) .1, matching-inside _ _ _ _ _ ((c .before .before .before .pre) .0))
 
--- src/layer.rt:96:9
 returns : tie.Need-returns
 returns c = emptying-none _ _ _ _ _ ((c .before .before .before .before .before .pre) .0) _ _ _ _ ((c .before .before .before .before .before .pre) .2) _ ((c .before .read) .ensures) (not-true _ ((c .if1) .taken))
 
--- src/layer.rt:98:5
 close-emptying-requires : tie.Need-close-emptying-requires
 close-emptying-requires c κs = (c .before .before .before .before .before .before .pre) .0
 
--- src/layer.rt:82:1
 returns-2 : tie.Need-returns-2
 returns-2 c = lives (emptying-made _ _ _ _ _ ((c .before .before .before .before .before .before .before .pre) .0) _ _ _ _ ((c .before .before .before .before .before .before .before .pre) .2) _ ((c .before .before .before .read) .ensures) _ ((c .close-emptying) .ensures))
 

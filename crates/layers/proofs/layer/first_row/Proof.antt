@@ -9,19 +9,15 @@ use Rattle.layers.proofs.layer.first_row.Lts as lts
 use Rattle.layers.proofs.layer.blank.Reads as blank-reads
 use Rattle.layers.proofs.layer.seeds.Reads as seeds-reads
 
--- src/layer.rt:113:9
 seeds-requires : tie.Need-seeds-requires
 seeds-requires c κs = search needs
 
--- src/layer.rt:113:9
 returns : tie.Need-returns
 returns c = first-last _ _ _ (c .before .if1 .taken) (c .seeds .ensures)
 
--- src/layer.rt:115:5
 blank-requires : tie.Need-blank-requires
 blank-requires c κs = search needs
 
--- src/layer.rt:108:1
 returns-2 : tie.Need-returns-2
 returns-2 c = first-not _ _ _ (c .before .if1 .left) (c .blank .ensures)
 

@@ -14,43 +14,33 @@ use Rattle.layers.proofs.row.is_blank.Reads as is-blank-reads
 use Rattle.layers.proofs.row.read.Reads as read-reads
 use Rattle.stateset.proofs.intersection.Reads as intersection-reads
 
--- src/layer.rt:249:9
 intersection-requires : tie.Need-intersection-requires
 intersection-requires c κs = search needs
 
--- src/layer.rt:250:9
 storing-states-requires : tie.Need-storing-states-requires
 storing-states-requires c κs = search needs
 
--- src/layer.rt:251:22
 first-row-requires : tie.Need-first-row-requires
 first-row-requires c κs = rules _ _ ((c .before .before .before .before .pre) .0 .good) .states-fit
 
--- src/layer.rt:252:25
 blank-requires : tie.Need-blank-requires
 blank-requires c κs = search needs
 
--- src/layer.rt:253:24
 blank-requires-2 : tie.Need-blank-requires-2
 blank-requires-2 c κs = search needs
 
--- src/layer.rt:254:5
 read-requires : tie.Need-read-requires
 read-requires c κs = (c .before .before .before .before .before .before .before .before .pre)
 
--- src/layer.rt:255:5
 read-requires-2 : tie.Need-read-requires-2
 read-requires-2 c κs = ((c .before .before .before .before .before .before .before .before .before .before .pre) .0, (c .before .before .before .before .before .before .before .before .before .before .pre) .1, λ q i. (c .before .before .before .before .before .before .storing-states) .ensures .inside q i .0)
 
--- src/layer.rt:258:5
 close-place-requires : tie.Need-close-place-requires
 close-place-requires c κs = ((c .before .before .before .before .before .before .before .before .before .before .before .before .before .before .pre) .0, (c .before .before .before .before .before .before .before .before .before .before .before .before .before .before .pre) .2)
 
--- src/layer.rt:270:17
 is-blank-requires : tie.Need-is-blank-requires
 is-blank-requires c κs = rules _ _ ((c .before .before .before .before .before .before .before .before .before .before .before .before .before .before .before .before .pre) .0 .good) .states-fit
 
--- src/layer.rt:233:1
 returns : tie.Need-returns
 returns c = (place-made _ _ _ _ _ ((c .before .before .before .before .before .before .before .before .before .before .before .before .before .before .before .before .before .pre) .0) _ _ _ _ _ _ _ _ _ _ _ _ _ _ _ _ _ ((c .before .before .before .before .before .before .before .before .before .before .before .before .before .before .intersection) .ensures) ((c .before .before .before .before .before .before .before .before .before .before .before .before .before .storing-states) .ensures) ((c .before .before .before .before .before .before .before .before .before .before .before .before .first-row) .ensures) ((c .before .before .before .before .before .before .before .before .before .before .before .blank) .ensures) ((c .before .before .before .before .before .before .before .before .before .before .blank2) .ensures) ((c .before .before .before .before .before .before .before .before .read) .ensures) ((c .before .before .before .before .before .before .read2) .ensures) ((c .before .before .close-place) .ensures), λ h. (c .is-blank) .ensures (not-false _ h))
 

@@ -12,39 +12,30 @@ use Rattle.layers.proofs.layer.close_emptying.Reads as close-emptying-r
 use Rattle.layers.proofs.row.change.Reads as change-reads
 use Rattle.layers.proofs.row.close.Reads as close-reads
 
--- src/layer.rt:146:5
 close-requires : tie.Need-close-requires
 close-requires c κs = (c .before .before .before .pre)
 
--- src/layer.rt:147:5
 close-buffering-requires : tie.Need-close-buffering-requires
 close-buffering-requires c κs = (c .before .before .before .before .before .pre) .0
 
--- src/layer.rt:148:5
 close-emptying-requires : tie.Need-close-emptying-requires
 close-emptying-requires c κs = (c .before .before .before .before .before .before .before .pre) .0
 
--- src/layer.rt:149:9
 change-requires : tie.Need-change-requires
 change-requires c κs = search needs
 
--- src/layer.rt:150:9
 change-requires-2 : tie.Need-change-requires-2
 change-requires-2 c κs = search needs
 
--- src/layer.rt:151:9
 change-requires-3 : tie.Need-change-requires-3
 change-requires-3 c κs = search needs
 
--- src/layer.rt:153:9
 returns : tie.Need-returns
 returns c = round-made _ _ _ _ _ ((c .before .before .before .before .before .before .before .before .before .before .before .before .before .before .before .before .before .before .pre) .0) _ _ _ _ _ _ _ _ _ _ _ _ _ _ ((c .before .before .before .before .before .before .before .before .before .before .before .before .before .before .close) .ensures) ((c .before .before .before .before .before .before .before .before .before .before .before .before .close-buffering) .ensures) ((c .before .before .before .before .before .before .before .before .before .before .close-emptying) .ensures) ((c .before .before .before .before .before .before .before .change) .ensures) ((c .before .before .before .before .change2) .ensures) ((c .before .change3) .ensures) _ (λ h. absurd (false≢true (sym h))) (λ h. inl ((c .if1) .taken))
 
--- src/layer.rt:156:9
 returns-2 : tie.Need-returns-2
 returns-2 c = round-made _ _ _ _ _ ((c .before .before .before .before .before .before .before .before .before .before .before .before .before .before .before .before .before .before .before .pre) .0) _ _ _ _ _ _ _ _ _ _ _ _ _ _ ((c .before .before .before .before .before .before .before .before .before .before .before .before .before .before .before .close) .ensures) ((c .before .before .before .before .before .before .before .before .before .before .before .before .before .close-buffering) .ensures) ((c .before .before .before .before .before .before .before .before .before .before .before .close-emptying) .ensures) ((c .before .before .before .before .before .before .before .before .change) .ensures) ((c .before .before .before .before .before .change2) .ensures) ((c .before .before .change3) .ensures) _ (λ h. absurd (false≢true (sym h))) (λ h. inr (inl ((c .if2) .taken)))
 
--- src/layer.rt:131:1
 returns-3 : tie.Need-returns-3
 returns-3 c = round-made _ _ _ _ _ ((c .before .before .before .before .before .before .before .before .before .before .before .before .before .before .before .before .before .before .before .pre) .0) _ _ _ _ _ _ _ _ _ _ _ _ _ _ ((c .before .before .before .before .before .before .before .before .before .before .before .before .before .before .before .close) .ensures) ((c .before .before .before .before .before .before .before .before .before .before .before .before .before .close-buffering) .ensures) ((c .before .before .before .before .before .before .before .before .before .before .before .close-emptying) .ensures) ((c .before .before .before .before .before .before .before .before .change) .ensures) ((c .before .before .before .before .before .change2) .ensures) ((c .before .before .change3) .ensures) _ (λ h. ((c .before .if1) .left, (c .if2) .left, h)) (λ h. inr (inr h))
 

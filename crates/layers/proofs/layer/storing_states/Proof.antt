@@ -6,15 +6,12 @@ use Rattle.layers.proofs.layer.storing_states.Reads as reads
 use Rattle.layers.proofs.layer.storing_states.Lts as lts
 use Rattle.stateset.proofs.full.Reads as full-reads
 
--- src/layer.rt:225:9
 returns : tie.Need-returns
 returns c = none-storing _ _ ((c .if1) .taken)
 
--- src/layer.rt:227:5
 full-requires : tie.Need-full-requires
 full-requires c κs = search needs
 
--- src/layer.rt:221:1
 returns-2 : tie.Need-returns-2
 returns-2 c = all-storing _ _ _ ((c .before .if1) .left) ((c .full) .ensures)
 

@@ -7,19 +7,15 @@ use Rattle.layers.proofs.row.apart.Lts as lts
 use Rattle.stateset.proofs.difference.Reads as difference-reads
 use Rattle.stateset.proofs.member.Reads as member-reads
 
--- src/row.rt:32:8
 member-requires : tie.Need-member-requires
 member-requires c κs = search needs
 
--- src/row.rt:33:9
 difference-requires : tie.Need-difference-requires
 difference-requires c κs = search needs
 
--- src/row.rt:33:9
 returns : tie.Need-returns
 returns c = apart-both _ _ _ _ _ _ ((c .before .before .member) .ensures) ((c .before .if1) .taken) ((c .difference) .ensures)
 
--- src/row.rt:29:1
 returns-2 : tie.Need-returns-2
 returns-2 c = apart-one _ _ _ 0 0 _ ((c .before .member) .ensures) ((c .if1) .left)
 

@@ -20,51 +20,39 @@ Inv-loop set next row₀ fell₀ rest₀ row fell rest = Sweeping (Beside next) 
 abbrev μ-loop : tie.MeasureT-loop
 μ-loop set next row₀ fell₀ rest₀ row fell rest = ones rest
 
--- src/row.rt:298:5
 loop-holds : tie.Need-loop-holds Inv-loop μ-loop
 loop-holds c = sweep-start _ (omega arith)
 
--- src/row.rt:299:17
 lowest-requires : tie.Need-lowest-requires Inv-loop μ-loop
 lowest-requires c κs = search needs
 
--- src/row.rt:299:17
 cast-q : tie.Need-cast-q Inv-loop μ-loop
 cast-q c = search needs
 
--- src/row.rt:300:9
 without-lowest-requires : tie.Need-without-lowest-requires Inv-loop μ-loop
 without-lowest-requires c κs = search needs
 
--- src/row.rt:301:26
 mul-lower : tie.Need-mul-lower Inv-loop μ-loop
 mul-lower c = omega (arith, in-lt {w = width} {x = (c .before .before .before .before .loop) .rest} {q = (c .before .before .lowest) .result} (((c .before .before .before .before .loop) .inv) .fits) (((c .before .before .lowest) .ensures) .member (omega arith)))
 
--- src/row.rt:301:26
 element-copy-out-lower : tie.Need-element-copy-out-lower Inv-loop μ-loop
 element-copy-out-lower c = omega (arith, in-lt {w = width} {x = (c .before .before .before .before .loop) .rest} {q = (c .before .before .lowest) .result} (((c .before .before .before .before .loop) .inv) .fits) (((c .before .before .lowest) .ensures) .member (omega arith)))
 
--- src/row.rt:301:12
 lower-requires : tie.Need-lower-requires Inv-loop μ-loop
 lower-requires c κs = omega (arith, in-lt {w = width} {x = (c .before .before .before .before .before .loop) .rest} {q = (c .before .before .before .lowest) .result} (((c .before .before .before .before .before .loop) .inv) .fits) (((c .before .before .before .lowest) .ensures) .member (omega arith)))
 
--- src/row.rt:298:5
 loop-less : tie.Need-loop-less Inv-loop μ-loop
 loop-less c = drop-lowest ((c .before .before .before .before .before .before .before .loop) .rest) ((c .before .before .before .before .before .lowest) .result) ((c .before .before .before .before .without-lowest) .result) (((c .before .before .before .before .before .before .before .loop) .inv) .fits) (omega arith) ((c .before .before .before .before .before .lowest) .ensures) (lowest-removed ((c .before .before .before .before .before .lowest) .ensures) ((c .before .before .before .before .without-lowest) .ensures) .value)
 
--- src/row.rt:298:5
 loop-again : tie.Need-loop-again Inv-loop μ-loop
 loop-again c = sweep-falls ((c .before .before .before .before .before .before .before .loop) .inv) (((c .before .before .before .before .before .lowest) .ensures) .member (omega arith)) (((c .before .before .before .before .without-lowest) .ensures) .fits) (lowest-removed ((c .before .before .before .before .before .lowest) .ensures) ((c .before .before .before .before .without-lowest) .ensures) .members) (beside-one _ _ _ _ ((c .before .lower) .ensures)) ((c .if1) .taken) refl
 
--- src/row.rt:298:5
 loop-less-2 : tie.Need-loop-less-2 Inv-loop μ-loop
 loop-less-2 c = drop-lowest ((c .before .before .before .before .before .before .before .loop) .rest) ((c .before .before .before .before .before .lowest) .result) ((c .before .before .before .before .without-lowest) .result) (((c .before .before .before .before .before .before .before .loop) .inv) .fits) (omega arith) ((c .before .before .before .before .before .lowest) .ensures) (lowest-removed ((c .before .before .before .before .before .lowest) .ensures) ((c .before .before .before .before .without-lowest) .ensures) .value)
 
--- src/row.rt:298:5
 loop-again-2 : tie.Need-loop-again-2 Inv-loop μ-loop
 loop-again-2 c = sweep-stays ((c .before .before .before .before .before .before .before .loop) .inv) (((c .before .before .before .before .before .lowest) .ensures) .member (omega arith)) (((c .before .before .before .before .without-lowest) .ensures) .fits) (lowest-removed ((c .before .before .before .before .before .lowest) .ensures) ((c .before .before .before .before .without-lowest) .ensures) .members) (beside-one _ _ _ _ ((c .before .lower) .ensures)) ((c .if1) .left) refl
 
--- src/row.rt:293:1
 returns : tie.Need-returns Inv-loop μ-loop
 returns c = sweep-end (omega arith) ((c .before .loop) .inv)
 

@@ -20,35 +20,27 @@ Inv-loop m list targets g h mode set row₀ may row = (out : List ℕ) → Close
 abbrev μ-loop : tie.MeasureT-loop
 μ-loop m list targets g h mode set row₀ may row = weight row
 
--- src/row.rt:279:43
 shared-slice-read-intersection : tie.Need-shared-slice-read-intersection Inv-loop μ-loop
 shared-slice-read-intersection c = omega (arith, (c .before .before .before .pre) .0 .epsilon .room)
 
--- src/row.rt:279:9
 intersection-requires : tie.Need-intersection-requires Inv-loop μ-loop
 intersection-requires c κs = search needs
 
--- src/row.rt:281:9
 returns : tie.Need-returns Inv-loop μ-loop
 returns c = closed-none _ _ _ _ _ ((c .before .before .before .before .before .pre) .0) _ _ _ (rules _ _ ((c .before .before .before .before .before .pre) .0 .good) .to-below) ((c .before .intersection) .ensures .members) _ ((c .if1) .taken)
 
--- src/row.rt:283:5
 loop-holds : tie.Need-loop-holds Inv-loop μ-loop
 loop-holds c = λ out f. f
 
--- src/row.rt:285:13
 pass-requires : tie.Need-pass-requires Inv-loop μ-loop
 pass-requires c κs = ((c .before .before .before .before .before .before .before .before .before .pre) .0, (c .before .before .before .before .before .before .before .before .before .pre) .0 .epsilon, λ q i. (c .before .before .before .before .before .before .before .before .before .pre) .1 q ((c .before .before .before .before .before .intersection) .ensures .members q .0 i .0))
 
--- src/row.rt:286:13
 returns-2 : tie.Need-returns-2 Inv-loop μ-loop
 returns-2 c = ((c .before .before .before .before .before .loop) .inv) _ (closed-here _ _ _ _ _ ((c .before .before .before .before .before .before .before .before .before .before .before .pre) .0) _ _ _ (rules _ _ ((c .before .before .before .before .before .before .before .before .before .before .before .pre) .0 .good) .to-below) ((c .before .before .before .before .before .before .before .intersection) .ensures .members) _ _ (not-true _ ((c .if2) .taken)) ((c .before .pass) .ensures))
 
--- src/row.rt:283:5
 loop-less : tie.Need-loop-less Inv-loop μ-loop
 loop-less c = ((c .before .pass) .ensures) .less (not-false _ ((c .if2) .left))
 
--- src/row.rt:283:5
 loop-again : tie.Need-loop-again Inv-loop μ-loop
 loop-again c = λ out f. ((c .before .before .before .before .before .loop) .inv) _ (closed-more _ _ _ _ _ ((c .before .before .before .before .before .before .before .before .before .before .before .pre) .0) _ _ _ (rules _ _ ((c .before .before .before .before .before .before .before .before .before .before .before .pre) .0 .good) .to-below) ((c .before .before .before .before .before .before .before .intersection) .ensures .members) _ _ out ((c .before .pass) .ensures) f)
 

@@ -8,39 +8,30 @@ use Rattle.layers.proofs.row.buffering_cut.Reads as buffering-cut-reads
 use Rattle.layers.proofs.row.emptying_cut.Reads as emptying-cut-reads
 use Rattle.layers.proofs.row.normal_cut.Reads as normal-cut-reads
 
--- src/row.rt:70:25
 enum-told : tie.Need-enum-told
 enum-told c = search needs
 
--- src/row.rt:70:25
 normal-cut-requires : tie.Need-normal-cut-requires
 normal-cut-requires c κs = search needs
 
--- src/row.rt:71:28
 enum-told-2 : tie.Need-enum-told-2
 enum-told-2 c = search needs
 
--- src/row.rt:71:28
 buffering-cut-requires : tie.Need-buffering-cut-requires
 buffering-cut-requires c κs = search needs
 
--- src/row.rt:72:27
 enum-told-3 : tie.Need-enum-told-3
 enum-told-3 c = search needs
 
--- src/row.rt:72:27
 emptying-cut-requires : tie.Need-emptying-cut-requires
 emptying-cut-requires c κs = search needs
 
--- src/row.rt:66:1
 returns : tie.Need-returns
 returns c = cut-as _ _ _ _ _ _ _ ((c .before .enum-told) .given .1) ((c .normal-cut) .ensures)
 
--- src/row.rt:66:1
 returns-2 : tie.Need-returns-2
 returns-2 c = cut-as _ _ _ _ _ _ _ ((c .before .enum-told2) .given .1) ((c .buffering-cut) .ensures)
 
--- src/row.rt:66:1
 returns-3 : tie.Need-returns-3
 returns-3 c = cut-as _ _ _ _ _ _ _ ((c .before .enum-told3) .given .1) ((c .emptying-cut) .ensures)
 

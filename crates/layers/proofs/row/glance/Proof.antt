@@ -17,51 +17,39 @@ Inv-loop row states least live₀ lows₀ q₀ live lows q = Glancing row q leas
 abbrev μ-loop : tie.MeasureT-loop
 μ-loop row states least live₀ lows₀ q₀ live lows q = states - q
 
--- src/row.rt:106:9
 least-below-requires : tie.Need-least-below-requires Inv-loop μ-loop
 least-below-requires c κs = (c) .pre
 
--- src/row.rt:107:9
 empty-requires : tie.Need-empty-requires Inv-loop μ-loop
 empty-requires c κs = search needs
 
--- src/row.rt:108:9
 empty-requires-2 : tie.Need-empty-requires-2 Inv-loop μ-loop
 empty-requires-2 c κs = search needs
 
--- src/row.rt:110:5
 loop-holds : tie.Need-loop-holds Inv-loop μ-loop
 loop-holds c = glancing-start _ _ _ _ (λ q i. ((c) .empty2 .ensures) .members q .0 i)
 
--- src/row.rt:111:17
 mul-v : tie.Need-mul-v Inv-loop μ-loop
 mul-v c = omega (arith, (c) .loop-test .taken, (c .before .before .before .before .before) .pre)
 
--- src/row.rt:111:17
 element-copy-out-v : tie.Need-element-copy-out-v Inv-loop μ-loop
 element-copy-out-v c = omega (arith, (c) .loop-test .taken, (c .before .before .before .before .before) .pre)
 
--- src/row.rt:112:9
 add-if-requires : tie.Need-add-if-requires Inv-loop μ-loop
 add-if-requires c κs = search needs
 
--- src/row.rt:113:9
 add-if-requires-2 : tie.Need-add-if-requires-2 Inv-loop μ-loop
 add-if-requires-2 c κs = search needs
 
--- src/row.rt:114:9
 add-q : tie.Need-add-q Inv-loop μ-loop
 add-q c = omega (arith, (c .before .before .before) .loop-test .taken, (c .before .before .before .before .before .before .before .before) .pre)
 
--- src/row.rt:110:5
 loop-less : tie.Need-loop-less Inv-loop μ-loop
 loop-less c = omega (arith, (c .before .before .before) .loop-test .taken)
 
--- src/row.rt:110:5
 loop-again : tie.Need-loop-again Inv-loop μ-loop
 loop-again c = glancing-turn (((c .before .before .before .before .before .before .before .before) .args .row) .now) ((c .before .before .before .before) .loop .q) _ _ _ _ _ _ (omega (arith, (c .before .before .before) .loop-test .taken, (c .before .before .before .before .before .before .before .before) .pre)) refl ((c .before .before .before .before) .loop .inv) ((c .before) .add-if .ensures) ((c) .add-if2 .ensures)
 
--- src/row.rt:102:1
 returns : tie.Need-returns Inv-loop μ-loop
 returns c = glance-end _ _ _ _ _ _ ((c) .loop-test .left) ((c .before .before .before .before) .least-below .ensures) ((c .before) .loop .inv)
 

@@ -6,11 +6,9 @@ use Rattle.layers.proofs.row.is_blank.Reads as reads
 use Rattle.layers.proofs.row.is_blank.Lts as lts
 use Rattle.layers.proofs.row.glance.Reads as glance-reads
 
--- src/row.rt:313:9
 glance-requires : tie.Need-glance-requires
 glance-requires c κs = search needs
 
--- src/row.rt:309:1
 returns : tie.Need-returns
 returns c = blank-said _ _ _ ((c .before .glance) .ensures)
 

@@ -16,35 +16,27 @@ Inv-loop row states least₀ q₀ least q = (p : ℕ) → p < q → least ≤ at
 abbrev μ-loop : tie.MeasureT-loop
 μ-loop row states least₀ q₀ least q = states - q
 
--- src/row.rt:94:5
 loop-holds : tie.Need-loop-holds Inv-loop μ-loop
 loop-holds c = λ p (l : p < 0). absurd (omega arith)
 
--- src/row.rt:95:25
 mul-smaller : tie.Need-mul-smaller Inv-loop μ-loop
 mul-smaller c = omega (arith, (c) .loop-test .taken, (c .before .before) .pre)
 
--- src/row.rt:95:25
 element-copy-out-smaller : tie.Need-element-copy-out-smaller Inv-loop μ-loop
 element-copy-out-smaller c = omega (arith, (c) .loop-test .taken, (c .before .before) .pre)
 
--- src/row.rt:95:9
 smaller-requires : tie.Need-smaller-requires Inv-loop μ-loop
 smaller-requires c κs = search needs
 
--- src/row.rt:96:9
 add-q : tie.Need-add-q Inv-loop μ-loop
 add-q c = omega (arith, (c .before .before) .loop-test .taken, (c .before .before .before .before) .pre)
 
--- src/row.rt:94:5
 loop-less : tie.Need-loop-less Inv-loop μ-loop
 loop-less c = omega (arith, (c .before .before) .loop-test .taken)
 
--- src/row.rt:94:5
 loop-again : tie.Need-loop-again Inv-loop μ-loop
 loop-again c = below-turn (((c .before .before .before .before) .args .row) .now) _ _ _ _ refl (((c) .smaller .ensures) .0) (((c) .smaller .ensures) .1) ((c .before .before .before) .loop .inv)
 
--- src/row.rt:88:1
 returns : tie.Need-returns Inv-loop μ-loop
 returns c = λ p l. ((c .before) .loop .inv) p (omega (arith, (c) .loop-test .left))
 

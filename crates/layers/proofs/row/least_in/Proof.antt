@@ -7,19 +7,15 @@ use Rattle.layers.proofs.row.least_in.Lts as lts
 use Rattle.layers.proofs.row.least_of.Reads as least-of-reads
 use Rattle.stateset.proofs.intersection.Reads as intersection-reads
 
--- src/row.rt:153:8
 intersection-requires : tie.Need-intersection-requires
 intersection-requires c κs = search needs
 
--- src/row.rt:154:9
 returns : tie.Need-returns
 returns c = least-low _ _ _ _ (c .before .before .pre) ((c .before .intersection) .ensures) ((c .if1) .taken)
 
--- src/row.rt:156:5
 least-of-requires : tie.Need-least-of-requires
 least-of-requires c κs = search needs
 
--- src/row.rt:149:1
 returns-2 : tie.Need-returns-2
 returns-2 c = search needs
 

@@ -18,43 +18,33 @@ Inv-loop row set least₀ rest₀ least rest = Least row set rest least
 abbrev μ-loop : tie.MeasureT-loop
 μ-loop row set least₀ rest₀ least rest = ones rest
 
--- src/row.rt:140:5
 loop-holds : tie.Need-loop-holds Inv-loop μ-loop
 loop-holds c = least-start _ _ (omega arith)
 
--- src/row.rt:141:17
 lowest-requires : tie.Need-lowest-requires Inv-loop μ-loop
 lowest-requires c κs = search needs
 
--- src/row.rt:141:17
 cast-a : tie.Need-cast-a Inv-loop μ-loop
 cast-a c = search needs
 
--- src/row.rt:142:9
 without-lowest-requires : tie.Need-without-lowest-requires Inv-loop μ-loop
 without-lowest-requires c κs = search needs
 
--- src/row.rt:143:25
 mul-smaller : tie.Need-mul-smaller Inv-loop μ-loop
 mul-smaller c = omega (arith, in-lt {w = width} {x = (c .before .before .before .loop) .rest} {q = (c .before .lowest) .result} (((c .before .before .before .loop) .inv) .fits) (((c .before .lowest) .ensures) .member (omega arith)))
 
--- src/row.rt:143:25
 element-copy-out-smaller : tie.Need-element-copy-out-smaller Inv-loop μ-loop
 element-copy-out-smaller c = omega (arith, in-lt {w = width} {x = (c .before .before .before .loop) .rest} {q = (c .before .lowest) .result} (((c .before .before .before .loop) .inv) .fits) (((c .before .lowest) .ensures) .member (omega arith)))
 
--- src/row.rt:143:9
 smaller-requires : tie.Need-smaller-requires Inv-loop μ-loop
 smaller-requires c κs = search needs
 
--- src/row.rt:140:5
 loop-less : tie.Need-loop-less Inv-loop μ-loop
 loop-less c = drop-lowest ((c .before .before .before .before .before .loop) .rest) ((c .before .before .before .lowest) .result) ((c .before .before .without-lowest) .result) (((c .before .before .before .before .before .loop) .inv) .fits) (omega arith) ((c .before .before .before .lowest) .ensures) (lowest-removed ((c .before .before .before .lowest) .ensures) ((c .before .before .without-lowest) .ensures) .value)
 
--- src/row.rt:140:5
 loop-again : tie.Need-loop-again Inv-loop μ-loop
 loop-again c = least-turn _ _ ((c .before .before .before .before .before .loop) .inv) (((c .before .before .before .lowest) .ensures) .member (omega arith)) (((c .before .before .without-lowest) .ensures) .fits) (lowest-removed ((c .before .before .before .lowest) .ensures) ((c .before .before .without-lowest) .ensures) .members) ((c .smaller) .ensures)
 
--- src/row.rt:135:1
 returns : tie.Need-returns Inv-loop μ-loop
 returns c = least-end _ _ ((c .before .loop) .inv) (omega arith)
 

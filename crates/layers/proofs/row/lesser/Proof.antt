@@ -6,19 +6,15 @@ use Rattle.layers.proofs.row.lesser.Tie as tie
 use Rattle.layers.proofs.row.lesser.Reads as reads
 use Rattle.layers.proofs.row.lesser.Lts as lts
 
--- src/row.rt:39:9
 returns : tie.Need-returns
 returns c = (lesser-not _ _ (omega (arith, (c .if1 .taken))), omega arith)
 
--- src/row.rt:41:13
 add-e : tie.Need-add-e
 add-e c = search needs
 
--- src/row.rt:43:9
 returns-2 : tie.Need-returns-2
 returns-2 c = (lesser-not _ _ (omega (arith, (c .if2 .taken))), omega arith)
 
--- src/row.rt:35:1
 returns-3 : tie.Need-returns-3
 returns-3 c = (lesser-is _ _ (omega (arith, (c .if2 .left))), omega arith)
 

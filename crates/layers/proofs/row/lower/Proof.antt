@@ -6,31 +6,24 @@ use Rattle.layers.proofs.row.lower.Reads as reads
 use Rattle.layers.proofs.row.lower.Lts as lts
 use Rattle.layers.proofs.row.lesser.Reads as lesser-reads
 
--- src/row.rt:53:13
 mul-d : tie.Need-mul-d
 mul-d c = search needs
 
--- src/row.rt:53:13
 element-copy-out-d : tie.Need-element-copy-out-d
 element-copy-out-d c = search needs
 
--- src/row.rt:54:9
 lesser-requires : tie.Need-lesser-requires
 lesser-requires c κs = search needs
 
--- src/row.rt:56:9
 returns : tie.Need-returns
 returns c = lower-not _ _ _ _ ((c .before .lesser .ensures) .0) ((c .before .lesser .ensures) .1) (c .if1 .taken)
 
--- src/row.rt:58:5
 mul-row : tie.Need-mul-row
 mul-row c = search needs
 
--- src/row.rt:58:5
 element-write-row : tie.Need-element-write-row
 element-write-row c = search needs
 
--- src/row.rt:49:1
 returns-2 : tie.Need-returns-2
 returns-2 c = lower-is _ _ _ _ ((c .before .lesser .ensures) .0) ((c .before .lesser .ensures) .1) (c .if1 .left)
 

@@ -7,19 +7,15 @@ use Rattle.layers.proofs.row.normal_cut.Lts as lts
 use Rattle.layers.proofs.row.apart.Reads as apart-reads
 use Rattle.stateset.proofs.member.Reads as member-reads
 
--- src/row.rt:42:8
 member-requires : tie.Need-member-requires
 member-requires c κs = search needs
 
--- src/row.rt:43:9
 returns : tie.Need-returns
 returns c = normal-shut _ _ _ _ 0 _ ((c .before .member) .ensures) ((c .if1) .taken)
 
--- src/row.rt:45:5
 apart-requires : tie.Need-apart-requires
 apart-requires c κs = search needs
 
--- src/row.rt:39:1
 returns-2 : tie.Need-returns-2
 returns-2 c = normal-open _ _ _ _ _ _ ((c .before .before .member) .ensures) ((c .before .if1) .left) ((c .apart) .ensures)
 

@@ -21,47 +21,36 @@ Inv-loop m list targets g h mode x set next row₀ s fell₀ rest₀ row fell re
 abbrev μ-loop : tie.MeasureT-loop
 μ-loop m list targets g h mode x set next row₀ s fell₀ rest₀ row fell rest = ones rest
 
--- src/row.rt:230:9
 glance-requires : tie.Need-glance-requires Inv-loop μ-loop
 glance-requires c κs = rules _ _ ((c .before .before .pre) .0 .good) .states-fit
 
--- src/row.rt:233:5
 loop-holds : tie.Need-loop-holds Inv-loop μ-loop
 loop-holds c = sweep-start _ (omega arith)
 
--- src/row.rt:234:17
 lowest-requires : tie.Need-lowest-requires Inv-loop μ-loop
 lowest-requires c κs = search needs
 
--- src/row.rt:234:17
 cast-a : tie.Need-cast-a Inv-loop μ-loop
 cast-a c = search needs
 
--- src/row.rt:235:9
 without-lowest-requires : tie.Need-without-lowest-requires Inv-loop μ-loop
 without-lowest-requires c κs = search needs
 
--- src/row.rt:236:12
 visit-requires : tie.Need-visit-requires Inv-loop μ-loop
 visit-requires c κs = ((c .before .before .before .before .before .before .before .before .pre) .0, (c .before .before .before .before .before .before .before .before .pre) .1, (c .before .before .before .before .before .before .before .before .pre) .2 _ (((c .before .before .before .before .loop) .inv) .inside _ (((c .before .before .lowest) .ensures) .member (omega arith))), (c .before .before .before .before .before .glance) .ensures)
 
--- src/row.rt:233:5
 loop-less : tie.Need-loop-less Inv-loop μ-loop
 loop-less c = drop-lowest ((c .before .before .before .before .before .before .loop) .rest) ((c .before .before .before .before .lowest) .result) ((c .before .before .before .without-lowest) .result) (((c .before .before .before .before .before .before .loop) .inv) .fits) (omega arith) ((c .before .before .before .before .lowest) .ensures) (lowest-removed ((c .before .before .before .before .lowest) .ensures) ((c .before .before .before .without-lowest) .ensures) .value)
 
--- src/row.rt:233:5
 loop-again : tie.Need-loop-again Inv-loop μ-loop
 loop-again c = sweep-falls ((c .before .before .before .before .before .before .loop) .inv) (((c .before .before .before .before .lowest) .ensures) .member (omega arith)) (((c .before .before .before .without-lowest) .ensures) .fits) (lowest-removed ((c .before .before .before .before .lowest) .ensures) ((c .before .before .before .without-lowest) .ensures) .members) ((c .before .visit) .ensures) ((c .if1) .taken) refl
 
--- src/row.rt:233:5
 loop-less-2 : tie.Need-loop-less-2 Inv-loop μ-loop
 loop-less-2 c = drop-lowest ((c .before .before .before .before .before .before .loop) .rest) ((c .before .before .before .before .lowest) .result) ((c .before .before .before .without-lowest) .result) (((c .before .before .before .before .before .before .loop) .inv) .fits) (omega arith) ((c .before .before .before .before .lowest) .ensures) (lowest-removed ((c .before .before .before .before .lowest) .ensures) ((c .before .before .before .without-lowest) .ensures) .value)
 
--- src/row.rt:233:5
 loop-again-2 : tie.Need-loop-again-2 Inv-loop μ-loop
 loop-again-2 c = sweep-stays ((c .before .before .before .before .before .before .loop) .inv) (((c .before .before .before .before .lowest) .ensures) .member (omega arith)) (((c .before .before .before .without-lowest) .ensures) .fits) (lowest-removed ((c .before .before .before .before .lowest) .ensures) ((c .before .before .before .without-lowest) .ensures) .members) ((c .before .visit) .ensures) ((c .if1) .left) refl
 
--- src/row.rt:215:1
 returns : tie.Need-returns Inv-loop μ-loop
 returns c = sweep-end (omega arith) ((c .before .loop) .inv)
 

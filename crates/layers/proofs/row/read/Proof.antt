@@ -7,15 +7,12 @@ use Rattle.layers.proofs.row.read.Reads as reads
 use Rattle.layers.proofs.row.read.Lts as lts
 use Rattle.layers.proofs.row.pass.Reads as pass-reads
 
--- src/row.rt:260:9
 returns : tie.Need-returns
 returns c = reads-none _ ((c .if1) .taken)
 
--- src/row.rt:262:5
 pass-requires : tie.Need-pass-requires
 pass-requires c κs = (c .before .before .before .before .pre)
 
--- src/row.rt:244:1
 returns-2 : tie.Need-returns-2
 returns-2 c = through-reads (omega (arith, (c .before .before .if1) .left)) ((c .pass) .ensures)
 

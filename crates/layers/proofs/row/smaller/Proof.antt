@@ -6,11 +6,9 @@ use Rattle.layers.proofs.row.smaller.Tie as tie
 use Rattle.layers.proofs.row.smaller.Reads as reads
 use Rattle.layers.proofs.row.smaller.Lts as lts
 
--- src/row.rt:129:9
 returns : tie.Need-returns
 returns c = (omega arith, omega (arith, (c .if1) .taken), inl refl)
 
--- src/row.rt:125:1
 returns-2 : tie.Need-returns-2
 returns-2 c = (omega (arith, (c .if1) .left), omega arith, inr refl)
 

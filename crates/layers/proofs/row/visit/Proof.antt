@@ -11,51 +11,39 @@ use Rattle.layers.proofs.row.least_in.Reads as least-in-reads
 use Rattle.layers.proofs.row.lower.Reads as lower-reads
 use Rattle.stateset.proofs.intersection.Reads as intersection-reads
 
--- src/row.rt:204:27
 mul-set : tie.Need-mul-set
 mul-set c = omega (arith, (c .before .before .before .good), (c .before .before .before .pre) .1 .room, (c .before .before .before .pre) .2)
 
--- src/row.rt:204:23
 add-set : tie.Need-add-set
 add-set c = omega (arith, (c .before .before .before .good), (c .before .before .before .pre) .1 .room, (c .before .before .before .pre) .2)
 
--- src/row.rt:204:23
 add-set-2 : tie.Need-add-set-2
 add-set-2 c = omega (arith, (c .before .before .before .good), (c .before .before .before .pre) .1 .room, (c .before .before .before .pre) .2)
 
--- src/row.rt:204:15
 mul-set-2 : tie.Need-mul-set-2
 mul-set-2 c = omega (arith, (c .before .before .before .good), (c .before .before .before .pre) .1 .room, (c .before .before .before .pre) .2)
 
--- src/row.rt:204:15
 shared-slice-read-set : tie.Need-shared-slice-read-set
 shared-slice-read-set c = omega (arith, (c .before .before .before .before .good), (c .before .before .before .before .pre) .1 .room, (c .before .before .before .before .pre) .2)
 
--- src/row.rt:205:9
 intersection-requires : tie.Need-intersection-requires
 intersection-requires c κs = search needs
 
--- src/row.rt:207:9
 lower-requires : tie.Need-lower-requires
 lower-requires c κs = omega (arith, (c .before .before .before .before .before .before .before .pre) .2, rules _ _ ((c .before .before .before .before .before .before .before .pre) .0 .good) .states-fit)
 
--- src/row.rt:207:9
 returns : tie.Need-returns
 returns c = visit-none _ _ _ _ _ ((c .before .before .before .before .before .before .before .before .pre) .0) ((c .before .before .before .before .before .before .before .before .args) .mode) _ _ ((c .before .before .before .before .before .before .before .before .pre) .2) ((c .before .before .before .before .before .before .before .before .pre) .1) _ _ ((c .before .before .before .before .before .before .before .before .pre) .3) _ ((c .before .before .before .intersection) .ensures) ((c .before .before .if1) .taken) _ _ _ ((c .lower) .ensures)
 
--- src/row.rt:209:31
 cut-requires : tie.Need-cut-requires
 cut-requires c κs = search needs
 
--- src/row.rt:209:9
 least-in-requires : tie.Need-least-in-requires
 least-in-requires c κs = visit-seen _ _ _ _ _ ((c .before .before .before .before .before .before .before .pre) .0) ((c .before .before .before .before .before .before .before .args) .mode) _ _ ((c .before .before .before .before .before .before .before .pre) .2) ((c .before .before .before .before .before .before .before .pre) .1) _ _ ((c .before .before .before .before .before .before .before .pre) .3) _ ((c .before .before .intersection) .ensures) _ ((c .cut) .ensures) (omega arith)
 
--- src/row.rt:210:5
 lower-requires-2 : tie.Need-lower-requires-2
 lower-requires-2 c κs = omega (arith, (c .before .before .before .before .before .before .before .before .before .pre) .2, rules _ _ ((c .before .before .before .before .before .before .before .before .before .pre) .0 .good) .states-fit)
 
--- src/row.rt:188:1
 returns-2 : tie.Need-returns-2
 returns-2 c = visit-live _ _ _ _ _ ((c .before .before .before .before .before .before .before .before .before .before .pre) .0) ((c .before .before .before .before .before .before .before .before .before .before .args) .mode) _ _ ((c .before .before .before .before .before .before .before .before .before .before .pre) .2) ((c .before .before .before .before .before .before .before .before .before .before .pre) .1) _ _ ((c .before .before .before .before .before .before .before .before .before .before .pre) .3) _ ((c .before .before .before .before .before .intersection) .ensures) _ _ ((c .before .before .before .cut) .ensures) ((c .before .before .least-in) .ensures) _ _ _ ((c .lower2) .ensures)
 

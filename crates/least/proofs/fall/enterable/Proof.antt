@@ -9,23 +9,18 @@ use Rattle.stateset.proofs.difference.Reads as difference-reads
 use Rattle.stateset.proofs.full.Reads as full-reads
 use Rattle.stateset.proofs.member.Reads as member-reads
 
--- src/fall.rt:70:9
 full-requires : tie.Need-full-requires
 full-requires c κs = search needs
 
--- src/fall.rt:71:8
 member-requires : tie.Need-member-requires
 member-requires c κs = search needs
 
--- src/fall.rt:72:9
 difference-requires : tie.Need-difference-requires
 difference-requires c κs = search needs
 
--- src/fall.rt:72:9
 returns : tie.Need-returns
 returns c = enterable-held _ _ ((c .before .before .before) .full .ensures) (sym ((c .before .before) .member .ensures) ∙ (c .before) .if1 .taken) (c .difference .ensures)
 
--- src/fall.rt:67:1
 returns-2 : tie.Need-returns-2
 returns-2 c = enterable-all _ _ ((c .before .before) .full .ensures) (sym ((c .before) .member .ensures) ∙ c .if1 .left)
 

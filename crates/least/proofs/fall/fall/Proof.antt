@@ -7,31 +7,24 @@ use Rattle.least.proofs.fall.fall.Reads as reads
 use Rattle.least.proofs.fall.fall.Lts as lts
 use Rattle.stateset.proofs.add.Reads as add-reads
 
--- src/fall.rt:22:8
 mul-if1 : tie.Need-mul-if1
 mul-if1 c = search needs
 
--- src/fall.rt:22:8
 element-copy-out-if1 : tie.Need-element-copy-out-if1
 element-copy-out-if1 c = search needs
 
--- src/fall.rt:23:9
 returns : tie.Need-returns
 returns c = fall-not _ _ _ _ ((c .before .before) .pre .1) (omega (arith, (c .before .before) .fits .got)) (c .if1 .taken)
 
--- src/fall.rt:25:5
 mul-d : tie.Need-mul-d
 mul-d c = search needs
 
--- src/fall.rt:25:5
 element-write-d : tie.Need-element-write-d
 element-write-d c = search needs
 
--- src/fall.rt:26:5
 add-requires : tie.Need-add-requires
 add-requires c κs = search needs
 
--- src/fall.rt:18:1
 returns-2 : tie.Need-returns-2
 returns-2 c = fall-is _ _ _ _ ((c .before .before .before) .pre .1) ((c .before .before .before) .pre .0) (omega (arith, (c .before) .if1 .left)) (c .add .ensures)
 

@@ -14,79 +14,60 @@ use Rattle.least.proofs.fall.enterable.Reads as enterable-reads
 use Rattle.least.proofs.fall.steps.Reads as steps-reads
 use Rattle.stateset.proofs.member.Reads as member-reads
 
--- src/fall.rt:94:9
 returns : tie.Need-returns
 returns c = normal-past ((c .before .before .before) .pre .0 .0) _ ((c .before .before .before) .pre .0 .1) _ _ _ (omega (arith, (c .before .before .before) .fits .got)) (c .if1 .taken)
 
--- src/fall.rt:96:8
 member-requires : tie.Need-member-requires
 member-requires c κs = search needs
 
--- src/fall.rt:97:9
 returns-2 : tie.Need-returns-2
 returns-2 c = normal-buffers ((c .before .before .before .before .before) .pre .0 .0) _ ((c .before .before .before .before .before) .pre .0 .1) _ _ _ (omega (arith, (c .before .before .before .before .before) .fits .got)) (sym ((c .before) .member .ensures) ∙ c .if2 .taken)
 
--- src/fall.rt:99:13
 mul-n : tie.Need-mul-n
 mul-n c = search needs
 
--- src/fall.rt:99:13
 element-copy-out-n : tie.Need-element-copy-out-n
 element-copy-out-n c = search needs
 
--- src/fall.rt:101:9
 returns-3 : tie.Need-returns-3
 returns-3 c = normal-none ((c .before .before .before .before .before .before .before) .pre .0 .0) _ ((c .before .before .before .before .before .before .before) .pre .0 .1) _ _ _ (omega (arith, (c .before .before .before .before .before .before .before) .fits .got)) (omega (arith, c .if3 .taken, cost-inside ((c .before .before .before .before .before .before .before) .args .d .now) _ ((c .before .before .before .before .before .before .before) .pre .1 .1)))
 
--- src/fall.rt:103:18
 add-stride : tie.Need-add-stride
 add-stride c = omega (arith, ready-stride ((c .before .before .before .before .before .before .before .before) .pre .0 .0))
 
--- src/fall.rt:104:33
 mul-wide : tie.Need-mul-wide
 mul-wide c = omega (arith, row-fits ((c .before .before .before .before .before .before .before .before) .pre .0 .0) _ ((c .before .before .before .before .before) .if1 .left) .0)
 
--- src/fall.rt:104:27
 mul-wide-2 : tie.Need-mul-wide-2
 mul-wide-2 c = omega (arith, row-fits ((c .before .before .before .before .before .before .before .before) .pre .0 .0) _ ((c .before .before .before .before .before) .if1 .left) .0)
 
--- src/fall.rt:104:27
 element-copy-out-wide : tie.Need-element-copy-out-wide
 element-copy-out-wide c = omega (arith, row-fits ((c .before .before .before .before .before .before .before .before) .pre .0 .0) _ ((c .before .before .before .before .before) .if1 .left) .0)
 
--- src/fall.rt:104:9
 wide-requires : tie.Need-wide-requires
 wide-requires c κs = search needs
 
--- src/fall.rt:105:33
 mul-wide-3 : tie.Need-mul-wide-3
 mul-wide-3 c = omega (arith, row-fits ((c .before .before .before .before .before .before .before .before .before .before) .pre .0 .0) _ ((c .before .before .before .before .before .before .before) .if1 .left) .0)
 
--- src/fall.rt:105:33
 add-wide : tie.Need-add-wide
 add-wide c = omega (arith, row-fits ((c .before .before .before .before .before .before .before .before .before .before) .pre .0 .0) _ ((c .before .before .before .before .before .before .before) .if1 .left) .1)
 
--- src/fall.rt:105:27
 mul-wide-4 : tie.Need-mul-wide-4
 mul-wide-4 c = omega (arith, row-fits ((c .before .before .before .before .before .before .before .before .before .before) .pre .0 .0) _ ((c .before .before .before .before .before .before .before) .if1 .left) .1)
 
--- src/fall.rt:105:27
 element-copy-out-wide-2 : tie.Need-element-copy-out-wide-2
 element-copy-out-wide-2 c = omega (arith, row-fits ((c .before .before .before .before .before .before .before .before .before .before) .pre .0 .0) _ ((c .before .before .before .before .before .before .before) .if1 .left) .1)
 
--- src/fall.rt:105:9
 wide-requires-2 : tie.Need-wide-requires-2
 wide-requires-2 c κs = search needs
 
--- src/fall.rt:106:9
 enterable-requires : tie.Need-enterable-requires
 enterable-requires c κs = search needs
 
--- src/fall.rt:107:5
 steps-requires : tie.Need-steps-requires
 steps-requires c κs = (omega (arith, (c .before .before) .wide2 .ensures .0, ready-end ((c .before .before .before .before .before .before .before .before .before .before .before .before .before .before) .pre .0 .0) _ ((c .before .before .before .before .before .before .before .before .before .before .before) .if1 .left)), omega (arith, (c .before .before .before .before .before .before .before) .if3 .left), (c .before .before .before .before .before .before .before .before .before .before .before .before .before .before) .pre .1 .0)
 
--- src/fall.rt:79:1
 returns-4 : tie.Need-returns-4
 returns-4 c = normal-steps ((c .before .before .before .before .before .before .before .before .before .before .before .before .before .before .before) .pre .0 .0) _ ((c .before .before .before .before .before .before .before .before .before .before .before .before .before .before .before) .pre .0 .1) _ _ ((c .before .before .before .before .before .before .before .before .before .before .before .before) .if1 .left) (sym ((c .before .before .before .before .before .before .before .before .before .before .before) .member .ensures) ∙ (c .before .before .before .before .before .before .before .before .before .before) .if2 .left) (sym (cost-inside _ _ ((c .before .before .before .before .before .before .before .before .before .before .before .before .before .before .before) .pre .1 .1))) (omega (arith, (c .before .before .before .before .before .before .before .before) .if3 .left)) ((c .before .before) .enterable .ensures) ((c .before .before .before .before .before) .wide .ensures .0) ((c .before .before .before) .wide2 .ensures .0) (c .steps .ensures)
 

@@ -15,63 +15,48 @@ use Rattle.least.proofs.fall.fall.Reads as fall-reads
 use Rattle.least.proofs.fall.weight.Reads as weight-reads
 use Rattle.stateset.proofs.member.Reads as member-reads
 
--- src/fall.rt:44:19
 mul-to : tie.Need-mul-to
 mul-to c = search needs
 
--- src/fall.rt:44:19
 add-to : tie.Need-add-to
 add-to c = search needs
 
--- src/fall.rt:44:14
 mul-to-2 : tie.Need-mul-to-2
 mul-to-2 c = search needs
 
--- src/fall.rt:44:14
 shared-slice-read-to : tie.Need-shared-slice-read-to
 shared-slice-read-to c = search needs
 
--- src/fall.rt:44:14
 cast-to : tie.Need-cast-to
 cast-to c = omega (arith, c .shared-slice-known2 .given ((c .before .before) .args .k * 3 + 2))
 
--- src/fall.rt:45:9
 member-requires : tie.Need-member-requires
 member-requires c κs = search needs
 
--- src/fall.rt:46:9
 returns : tie.Need-returns
 returns c = step-not _ _ _ _ _ (omega (arith, (c .before .before .before .before) .fits .got)) refl (sym ((c .before) .member .ensures) ∙ not-true _ (c .if1 .taken))
 
--- src/fall.rt:48:25
 mul-weight : tie.Need-mul-weight
 mul-weight c = search needs
 
--- src/fall.rt:48:25
 add-weight : tie.Need-add-weight
 add-weight c = search needs
 
--- src/fall.rt:48:20
 mul-weight-2 : tie.Need-mul-weight-2
 mul-weight-2 c = search needs
 
--- src/fall.rt:48:20
 shared-slice-read-weight : tie.Need-shared-slice-read-weight
 shared-slice-read-weight c = search needs
 
--- src/fall.rt:48:9
 weight-requires : tie.Need-weight-requires
 weight-requires c κs = search needs
 
--- src/fall.rt:49:22
 add-fall : tie.Need-add-fall
 add-fall c = search needs
 
--- src/fall.rt:49:5
 fall-requires : tie.Need-fall-requires
 fall-requires c κs = ((c .before .before .before .before .before .before .before) .pre .2, in-lt {w = width} {x = (c .before .before .before .before .before .before .before) .args .may} {q = getD ((c .before .before .before .before .before .before .before) .args .list .now) ((c .before .before .before .before .before .before .before) .args .k * 3 + 2) 0} (omega (arith, (c .before .before .before .before .before .before .before) .fits .may)) (has-in _ _ .0 (sym ((c .before .before .before .before) .member .ensures) ∙ not-false _ ((c .before .before .before) .if1 .left))))
 
--- src/fall.rt:40:1
 returns-2 : tie.Need-returns-2
 returns-2 c = step-is _ _ _ refl (sym ((c .before .before .before .before .before) .member .ensures) ∙ not-false _ ((c .before .before .before .before) .if1 .left)) ((c .before .before) .weight .ensures .0) (c .fall .ensures)
 

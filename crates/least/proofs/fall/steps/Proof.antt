@@ -16,27 +16,21 @@ Inv-loop list lo hi may n d₀ got all₀ k₀ d all k = (lo ≤ k) × ((k ≡ l
 abbrev μ-loop : tie.MeasureT-loop
 μ-loop list lo hi may n d₀ got all₀ k₀ d all k = hi - k
 
--- src/fall.rt:59:5
 loop-holds : tie.Need-loop-holds Inv-loop μ-loop
 loop-holds c = (omega arith, inl refl, steps-start _ _ _ _ _ _ (omega (arith, (c .before) .fits .got)))
 
--- src/fall.rt:60:9
 step-requires : tie.Need-step-requires Inv-loop μ-loop
 step-requires c κs = (omega (arith, (c .before .before .before .before) .pre .0, (c .before) .loop-test .taken), (c .before .before .before .before) .pre .1, (c .before .before) .loop .inv .2 .size ∙ (c .before .before .before .before) .pre .2)
 
--- src/fall.rt:61:9
 add-k : tie.Need-add-k Inv-loop μ-loop
 add-k c = omega (arith, (c .before .before .before .before .before) .pre .0, (c .before .before) .loop-test .taken)
 
--- src/fall.rt:59:5
 loop-less : tie.Need-loop-less Inv-loop μ-loop
 loop-less c = omega (arith, (c .before .before) .loop-test .taken)
 
--- src/fall.rt:59:5
 loop-again : tie.Need-loop-again Inv-loop μ-loop
 loop-again c = (omega (arith, (c .before .before .before) .loop .inv .0), inr (omega (arith, (c .before .before) .loop-test .taken)), steps-more _ _ _ ((c .before .before .before) .loop .inv .0) ((c .before .before .before) .loop .inv .2) (c .step .ensures))
 
--- src/fall.rt:53:1
 returns : tie.Need-returns Inv-loop μ-loop
 returns c = steps-past _ _ _ ((c .before) .loop .inv .1) (c .loop-test .left) ((c .before) .loop .inv .2)
 

@@ -6,11 +6,9 @@ use Rattle.least.proofs.fall.weight.Tie as tie
 use Rattle.least.proofs.fall.weight.Reads as reads
 use Rattle.least.proofs.fall.weight.Lts as lts
 
--- src/fall.rt:34:9
 returns : tie.Need-returns
 returns c = search needs
 
--- src/fall.rt:30:1
 returns-2 : tie.Need-returns-2
 returns-2 c = (weigh-letter _ (c .if1 .left), omega arith)
 

@@ -31,43 +31,33 @@ Inv-loop list index readers g h storing set b₀ d₀ hints₀ first m got₀ li
 abbrev μ-loop : tie.MeasureT-loop
 μ-loop list index readers g h storing set b₀ d₀ hints₀ first m got₀ limit₀ rest₀ b d hints got limit rest = ones rest
 
--- src/turns.rt:245:9
 empty-requires : tie.Need-empty-requires Inv-loop μ-loop
 empty-requires c κs = search needs
 
--- src/turns.rt:248:5
 loop-holds : tie.Need-loop-holds Inv-loop μ-loop
 loop-holds c = (c .before .before .pre .1 .0 .1, c .before .before .pre .1 .0 .2, rest-start _ (omega (arith, c .before .before .fits .storing)), copies-start _ _ (c .before .before .pre .0 .0 .good) _ (c .before .before .pre .0 .0 .matches) _ _ _ _ _ (c .empty .ensures .value), omega arith, λ l. l)
 
--- src/turns.rt:249:21
 lowest-requires : tie.Need-lowest-requires Inv-loop μ-loop
 lowest-requires c κs = search needs
 
--- src/turns.rt:249:21
 cast-guess : tie.Need-cast-guess Inv-loop μ-loop
 cast-guess c = search needs
 
--- src/turns.rt:250:9
 without-lowest-requires : tie.Need-without-lowest-requires Inv-loop μ-loop
 without-lowest-requires c κs = search needs
 
--- src/turns.rt:251:9
 lowered-requires : tie.Need-lowered-requires Inv-loop μ-loop
 lowered-requires c κs = search needs
 
--- src/turns.rt:252:9
 guessed-requires : tie.Need-guessed-requires Inv-loop μ-loop
 guessed-requires c κs = (c .before .before .before .before .before .before .before .before .before .before .before .before .before .pre .0, (c .before .before .before .before .before .before .before .before .before .before .loop .inv .3 .size ∙ c .before .before .before .before .before .before .before .before .before .before .before .before .before .pre .1 .0 .0, c .before .before .before .before .before .before .before .before .before .before .loop .inv .0, c .before .before .before .before .before .before .before .before .before .before .loop .inv .1, lowest-inside _ _ (c .before .before .before .before .before .before .before .before .before .before .loop .inv .2 .fits) (c .before .before .before .before .before .before .before .before .before .loop-test .taken) (c .before .before .before .before .before .before .before .before .lowest .ensures), omega (arith, c .before .before .before .lowered .ensures .less, c .before .before .before .before .before .before .before .before .before .before .loop .inv .4, c .before .before .before .before .before .before .before .before .before .before .before .before .before .pre .1 .1 .2)))
 
--- src/turns.rt:248:5
 loop-less : tie.Need-loop-less Inv-loop μ-loop
 loop-less c = taken (c .before .before .before .before .before .before .before .before .before .before .before .loop .inv .2 .fits) (c .before .before .before .before .before .before .before .before .before .before .loop-test .taken) (c .before .before .before .before .before .before .before .before .before .lowest .ensures) (c .before .before .before .before .before .before .before .before .without-lowest .ensures) .fewer
 
--- src/turns.rt:248:5
 loop-again : tie.Need-loop-again Inv-loop μ-loop
 loop-again c = let k = taken (c .before .before .before .before .before .before .before .before .before .before .before .loop .inv .2 .fits) (c .before .before .before .before .before .before .before .before .before .before .loop-test .taken) (c .before .before .before .before .before .before .before .before .before .lowest .ensures) (c .before .before .before .before .before .before .before .before .without-lowest .ensures) in (c .guessed .ensures .block .size, c .guessed .ensures .block .past, rest-more (c .before .before .before .before .before .before .before .before .before .before .before .loop .inv .2) k, copies-more _ _ (c .before .before .before .before .before .before .before .before .before .before .before .before .before .before .pre .0 .0 .good) _ (c .before .before .before .before .before .before .before .before .before .before .before .before .before .before .pre .0 .0 .matches) _ _ _ (c .before .before .before .before .before .before .before .before .before .before .before .before .before .before .pre .1 .1 .0) (c .before .before .before .before .before .before .before .before .before .before .before .before .before .before .pre .1 .1 .1) (c .before .before .before .before .before .before .before .before .before .before .before .loop .inv .2) k (copies-under _ _ (c .before .before .before .before .before .before .before .before .before .before .before .before .before .before .pre .0 .0 .good) _ (c .before .before .before .before .before .before .before .before .before .before .before .before .before .before .pre .0 .0 .matches) _ _ _ _ (c .before .before .before .before .lowered .ensures .less) (c .before .before .before .before .before .before .before .before .before .before .before .loop .inv .3)) (c .guessed .ensures), omega (arith, c .before .before .before .before .lowered .ensures .less, c .before .before .before .before .before .before .before .before .before .before .before .loop .inv .4), λ l. limit-falls (c .guessed .ensures .falls .down) (c .before .before .before .before .lowered .ensures .keeps (c .before .before .before .before .before .before .before .before .before .before .before .loop .inv .5 l)))
 
--- src/turns.rt:226:1
 returns : tie.Need-returns Inv-loop μ-loop
 returns c = (c .before .loop .inv .0, c .before .loop .inv .1, copies-end _ _ (c .before .before .before .before .pre .0 .0 .good) _ (c .before .before .before .before .pre .0 .0 .matches) _ _ _ (c .before .before .before .before .pre .1 .1 .0) (c .loop-test .left) (c .before .loop .inv .3) (c .before .loop .inv .4) (c .before .loop .inv .5))
 

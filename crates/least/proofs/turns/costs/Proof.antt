@@ -9,23 +9,18 @@ use Rattle.least.proofs.turns.ends.Reads as ends-reads
 use Rattle.least.proofs.turns.start.Reads as start-reads
 use Rattle.least.proofs.turns.turns.Reads as turns-reads
 
--- src/turns.rt:283:5
 start-requires : tie.Need-start-requires
 start-requires c κs = search needs
 
--- src/turns.rt:284:9
 ends-requires : tie.Need-ends-requires
 ends-requires c κs = (rules _ _ ((c .before .before .before) .pre .0 .0 .good) .list-fits, (c .before .before .before) .pre .0 .0 .matches)
 
--- src/turns.rt:285:19
 readers-requires : tie.Need-readers-requires
 readers-requires c κs = search needs
 
--- src/turns.rt:286:5
 turns-requires : tie.Need-turns-requires
 turns-requires c κs = ((c .before .before .before .before .before .before .before .before .before .pre .0 .0, c .before .before .before .before .before .before .before .before .before .pre .0 .1, c .before .before .before .before .before .before .before .before .before .pre .0 .2, c .before .before .before .before .readers .ensures), ((c .before .before .before .before .before .before .start .ensures, c .before .before .before .before .before .before .before .before .before .pre .1 .1, c .before .before .before .before .before .before .before .before .before .pre .1 .2), c .before .before .before .before .before .ends .ensures))
 
--- src/turns.rt:270:1
 returns : tie.Need-returns
 returns c = search needs
 

@@ -7,19 +7,15 @@ use Rattle.least.proofs.turns.end.Reads as reads
 use Rattle.least.proofs.turns.end.Lts as lts
 use Rattle.least.proofs.fall.fall.Reads as fall-reads
 
--- src/turns.rt:85:9
 returns : tie.Need-returns
 returns c = end-not _ _ _ _ _ (omega (arith, (c .before) .fits .got)) (c .if1 .taken)
 
--- src/turns.rt:87:27
 add-fall : tie.Need-add-fall
 add-fall c = search needs
 
--- src/turns.rt:87:5
 fall-requires : tie.Need-fall-requires
 fall-requires c κs = search needs
 
--- src/turns.rt:80:1
 returns-2 : tie.Need-returns-2
 returns-2 c = end-is (omega (arith, (c .before .before) .if1 .left)) (c .fall .ensures)
 

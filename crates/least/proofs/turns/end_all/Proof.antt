@@ -21,59 +21,45 @@ Inv-loop b guess h d₀ hints₀ got top all₀ rest₀ d hints all rest = Rest 
 abbrev μ-loop : tie.MeasureT-loop
 μ-loop b guess h d₀ hints₀ got top all₀ rest₀ d hints all rest = ones rest
 
--- src/turns.rt:150:5
 loop-holds : tie.Need-loop-holds Inv-loop μ-loop
 loop-holds c = (rest-start _ (omega (arith, c .fits .h)), ends-start _ _ _ _ _ _ (omega (arith, c .fits .got)))
 
--- src/turns.rt:151:17
 lowest-requires : tie.Need-lowest-requires Inv-loop μ-loop
 lowest-requires c κs = search needs
 
--- src/turns.rt:151:17
 cast-z : tie.Need-cast-z Inv-loop μ-loop
 cast-z c = search needs
 
--- src/turns.rt:152:9
 without-lowest-requires : tie.Need-without-lowest-requires Inv-loop μ-loop
 without-lowest-requires c κs = search needs
 
--- src/turns.rt:153:19
 mul-v : tie.Need-mul-v Inv-loop μ-loop
 mul-v c = omega (arith, (c .before .before .before .before) .pre .1)
 
--- src/turns.rt:153:19
 add-v : tie.Need-add-v Inv-loop μ-loop
 add-v c = omega (arith, (c .before .before .before .before) .pre .1, lowest-inside _ _ ((c .before .before .before) .loop .inv .0 .fits) ((c .before .before) .loop-test .taken) ((c .before) .lowest .ensures))
 
--- src/turns.rt:153:17
 mul-v-2 : tie.Need-mul-v-2 Inv-loop μ-loop
 mul-v-2 c = omega (arith, (c .before .before .before .before) .pre .1, lowest-inside _ _ ((c .before .before .before) .loop .inv .0 .fits) ((c .before .before) .loop-test .taken) ((c .before) .lowest .ensures))
 
--- src/turns.rt:153:17
 element-copy-out-v : tie.Need-element-copy-out-v Inv-loop μ-loop
 element-copy-out-v c = omega (arith, (c .before .before .before .before) .pre .1, lowest-inside _ _ ((c .before .before .before) .loop .inv .0 .fits) ((c .before .before) .loop-test .taken) ((c .before) .lowest .ensures))
 
--- src/turns.rt:154:9
 end-requires : tie.Need-end-requires Inv-loop μ-loop
 end-requires c κs = ((c .before .before .before .before .before) .loop .inv .1 .size ∙ (c .before .before .before .before .before .before) .pre .0, lowest-inside _ _ ((c .before .before .before .before .before) .loop .inv .0 .fits) ((c .before .before .before .before) .loop-test .taken) ((c .before .before .before) .lowest .ensures), (c .before .before .before .before .before .before) .pre .2)
 
--- src/turns.rt:155:26
 cast-note : tie.Need-cast-note Inv-loop μ-loop
 cast-note c = omega (arith, c .before .before .before .before .before .before .before .before .before .pre .1)
 
--- src/turns.rt:155:9
 note-requires : tie.Need-note-requires Inv-loop μ-loop
 note-requires c κs = search needs
 
--- src/turns.rt:150:5
 loop-less : tie.Need-loop-less Inv-loop μ-loop
 loop-less c = taken ((c .before .before .before .before .before .before .before .before .before) .loop .inv .0 .fits) ((c .before .before .before .before .before .before .before .before) .loop-test .taken) ((c .before .before .before .before .before .before .before) .lowest .ensures) ((c .before .before .before .before .before .before) .without-lowest .ensures) .fewer
 
--- src/turns.rt:150:5
 loop-again : tie.Need-loop-again Inv-loop μ-loop
 loop-again c = let k = taken ((c .before .before .before .before .before .before .before .before .before) .loop .inv .0 .fits) ((c .before .before .before .before .before .before .before .before) .loop-test .taken) ((c .before .before .before .before .before .before .before) .lowest .ensures) ((c .before .before .before .before .before .before) .without-lowest .ensures) in (rest-more ((c .before .before .before .before .before .before .before .before .before) .loop .inv .0) k, ends-more _ _ _ ((c .before .before .before .before .before .before .before .before .before) .loop .inv .0) k (sym (cell-inside _ _ _ ((c .before .before .before .before .before .before .before .before .before .before) .pre .1) (lowest-inside _ _ ((c .before .before .before .before .before .before .before .before .before) .loop .inv .0 .fits) ((c .before .before .before .before .before .before .before .before) .loop-test .taken) ((c .before .before .before .before .before .before .before) .lowest .ensures)))) ((c .before .before .before .before .before .before .before .before .before) .loop .inv .1) ((c .before .before .before) .end .ensures))
 
--- src/turns.rt:136:1
 returns : tie.Need-returns Inv-loop μ-loop
 returns c = ends-end _ _ _ _ _ (c .loop-test .left) ((c .before) .loop .inv .1)
 

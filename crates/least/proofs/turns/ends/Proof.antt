@@ -16,31 +16,24 @@ Inv-loop m list h set₀ k₀ set k = EnteredBelow m list k set
 abbrev μ-loop : tie.MeasureT-loop
 μ-loop m list h set₀ k₀ set k = m .transitions - k
 
--- src/turns.rt:45:9
 empty-requires : tie.Need-empty-requires Inv-loop μ-loop
 empty-requires c κs = search needs
 
--- src/turns.rt:47:5
 loop-holds : tie.Need-loop-holds Inv-loop μ-loop
 loop-holds c = below-start _ _ _ (c .empty .ensures .value)
 
--- src/turns.rt:48:9
 with-entered-requires : tie.Need-with-entered-requires Inv-loop μ-loop
 with-entered-requires c κs = omega (arith, (c .before .before .before .before .before) .pre .0, c .if1 .taken)
 
--- src/turns.rt:49:9
 add-k : tie.Need-add-k Inv-loop μ-loop
 add-k c = omega (arith, (c .before .before .before .before .before .before) .pre .0, (c .before) .if1 .taken)
 
--- src/turns.rt:47:5
 loop-less : tie.Need-loop-less Inv-loop μ-loop
 loop-less c = omega (arith, (c .before) .if1 .taken)
 
--- src/turns.rt:47:5
 loop-again : tie.Need-loop-again Inv-loop μ-loop
 loop-again c = below-more _ _ ((c .before .before .before .before .before .before) .pre .1) ((c .before .before .before) .loop .inv) (c .with-entered .ensures)
 
--- src/turns.rt:41:1
 returns : tie.Need-returns Inv-loop μ-loop
 returns c = below-end _ _ (c .if1 .left) ((c .before .before) .loop .inv)
 

@@ -7,15 +7,12 @@ use Rattle.least.proofs.turns.first.Reads as reads
 use Rattle.least.proofs.turns.first.Lts as lts
 use Rattle.stateset.proofs.member.Reads as member-reads
 
--- src/turns.rt:158:8
 member-requires : tie.Need-member-requires
 member-requires c κs = search needs
 
--- src/turns.rt:159:9
 returns : tie.Need-returns
 returns c = first-yes _ (sym ((c .before) .member .ensures) ∙ c .if1 .taken)
 
--- src/turns.rt:155:1
 returns-2 : tie.Need-returns-2
 returns-2 c = first-no _ (sym ((c .before) .member .ensures) ∙ c .if1 .left)
 

@@ -20,47 +20,36 @@ Inv-loop h d limit most₀ rest₀ most rest = Rest h rest × ((z : ℕ) → Lef
 abbrev μ-loop : tie.MeasureT-loop
 μ-loop h d limit most₀ rest₀ most rest = ones rest
 
--- src/turns.rt:100:5
 loop-holds : tie.Need-loop-holds Inv-loop μ-loop
 loop-holds c = (rest-start _ (omega (arith, c .fits .h)), most-start _ _ _)
 
--- src/turns.rt:101:17
 lowest-requires : tie.Need-lowest-requires Inv-loop μ-loop
 lowest-requires c κs = search needs
 
--- src/turns.rt:101:17
 cast-z : tie.Need-cast-z Inv-loop μ-loop
 cast-z c = search needs
 
--- src/turns.rt:102:9
 without-lowest-requires : tie.Need-without-lowest-requires Inv-loop μ-loop
 without-lowest-requires c κs = search needs
 
--- src/turns.rt:103:30
 mul-greater : tie.Need-mul-greater Inv-loop μ-loop
 mul-greater c = omega (arith, lowest-inside _ _ ((c .before .before .before) .loop .inv .0 .fits) ((c .before .before) .loop-test .taken) ((c .before) .lowest .ensures))
 
--- src/turns.rt:103:30
 element-copy-out-greater : tie.Need-element-copy-out-greater Inv-loop μ-loop
 element-copy-out-greater c = omega (arith, lowest-inside _ _ ((c .before .before .before) .loop .inv .0 .fits) ((c .before .before) .loop-test .taken) ((c .before) .lowest .ensures))
 
--- src/turns.rt:103:9
 greater-requires : tie.Need-greater-requires Inv-loop μ-loop
 greater-requires c κs = search needs
 
--- src/turns.rt:100:5
 loop-less : tie.Need-loop-less Inv-loop μ-loop
 loop-less c = taken ((c .before .before .before .before .before) .loop .inv .0 .fits) ((c .before .before .before .before) .loop-test .taken) ((c .before .before .before) .lowest .ensures) ((c .before .before) .without-lowest .ensures) .fewer
 
--- src/turns.rt:100:5
 loop-again : tie.Need-loop-again Inv-loop μ-loop
 loop-again c = let k = taken ((c .before .before .before .before .before) .loop .inv .0 .fits) ((c .before .before .before .before) .loop-test .taken) ((c .before .before .before) .lowest .ensures) ((c .before .before) .without-lowest .ensures) in (rest-more ((c .before .before .before .before .before) .loop .inv .0) k, most-more _ ((c .before .before .before .before .before .before) .args .d .now) ((c .before .before .before .before .before) .loop .inv .0) k (c .greater .ensures .0) (omega (arith, c .greater .ensures .1, cost-inside ((c .before .before .before .before .before .before) .args .d .now) ((c .before .before .before) .lowest .result) (lowest-inside _ _ ((c .before .before .before .before .before) .loop .inv .0 .fits) ((c .before .before .before .before) .loop-test .taken) ((c .before .before .before) .lowest .ensures)))) ((c .before .before .before .before .before) .loop .inv .1))
 
--- src/turns.rt:106:9
 returns : tie.Need-returns Inv-loop μ-loop
 returns c = most-over _ _ _ (c .before .before .before .pre)
 
--- src/turns.rt:94:1
 returns-2 : tie.Need-returns-2 Inv-loop μ-loop
 returns-2 c = most-end _ _ _ _ _ ((c .before) .loop-test .left) (omega (arith, c .if1 .left, c .before .before .before .pre)) ((c .before .before) .loop .inv .1)
 

@@ -9,39 +9,30 @@ use Rattle.least.proofs.turns.lower_limit.Reads as reads
 use Rattle.least.proofs.turns.lower_limit.Lts as lts
 use Rattle.fsbm.proofs.machine.is_final.Reads as is-final-reads
 
--- src/turns.rt:259:9
 is-final-requires : tie.Need-is-final-requires
 is-final-requires c κs = search needs
 
--- src/turns.rt:260:9
 returns : tie.Need-returns
 returns c = lowered-same _
 
--- src/turns.rt:262:13
 mul-v : tie.Need-mul-v
 mul-v c = search needs
 
--- src/turns.rt:262:13
 element-copy-out-v : tie.Need-element-copy-out-v
 element-copy-out-v c = search needs
 
--- src/turns.rt:264:9
 returns-2 : tie.Need-returns-2
 returns-2 c = lowered-same _
 
--- src/turns.rt:266:17
 add-if3 : tie.Need-add-if3
 add-if3 c = search needs
 
--- src/turns.rt:267:9
 returns-3 : tie.Need-returns-3
 returns-3 c = lowered-same _
 
--- src/turns.rt:269:5
 add-result : tie.Need-add-result
 add-result c = search needs
 
--- src/turns.rt:255:1
 returns-4 : tie.Need-returns-4
 returns-4 c = lowered-to (sym ((c .before .before .before .before) .is-final .ensures) ∙ not-false _ ((c .before .before .before) .if1 .left)) ((c .before .before .before .before .before) .pre) refl (omega (arith, c .if3 .left))
 

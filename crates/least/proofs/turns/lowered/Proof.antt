@@ -14,27 +14,21 @@ Inv-loop marks d limit least₀ f₀ least f = Lowered marks d limit least × (f
 abbrev μ-loop : tie.MeasureT-loop
 μ-loop marks d limit least₀ f₀ least f = 64 - f
 
--- src/turns.rt:278:5
 loop-holds : tie.Need-loop-holds Inv-loop μ-loop
 loop-holds c = (lowered-same _, omega arith)
 
--- src/turns.rt:279:9
 lower-limit-requires : tie.Need-lower-limit-requires Inv-loop μ-loop
 lower-limit-requires c κs = omega arith
 
--- src/turns.rt:280:9
 add-f : tie.Need-add-f Inv-loop μ-loop
 add-f c = omega arith
 
--- src/turns.rt:278:5
 loop-less : tie.Need-loop-less Inv-loop μ-loop
 loop-less c = omega arith
 
--- src/turns.rt:278:5
 loop-again : tie.Need-loop-again Inv-loop μ-loop
 loop-again c = (lowered-then ((c .before .before) .loop .inv .0) (c .lower-limit .ensures), omega arith)
 
--- src/turns.rt:273:1
 returns : tie.Need-returns Inv-loop μ-loop
 returns c = (c .before) .loop .inv .0
 

@@ -23,43 +23,33 @@ Inv-loop m list index g h d₀ fresh started₀ rest₀ d started rest = NormalS
 abbrev μ-loop : tie.MeasureT-loop
 μ-loop m list index g h d₀ fresh started₀ rest₀ d started rest = 3 * total d + 2 * ones rest
 
--- src/turns.rt:68:9
 empty-requires : tie.Need-empty-requires Inv-loop μ-loop
 empty-requires c κs = search needs
 
--- src/turns.rt:70:5
 loop-holds : tie.Need-loop-holds Inv-loop μ-loop
 loop-holds c = so-start _ _ _ _ _ (omega (arith, (c .before .before) .fits .fresh)) (c .empty .ensures .value)
 
--- src/turns.rt:71:17
 lowest-requires : tie.Need-lowest-requires Inv-loop μ-loop
 lowest-requires c κs = search needs
 
--- src/turns.rt:71:17
 cast-q : tie.Need-cast-q Inv-loop μ-loop
 cast-q c = search needs
 
--- src/turns.rt:72:9
 without-lowest-requires : tie.Need-without-lowest-requires Inv-loop μ-loop
 without-lowest-requires c κs = search needs
 
--- src/turns.rt:73:9
 add-requires : tie.Need-add-requires Inv-loop μ-loop
 add-requires c κs = search needs
 
--- src/turns.rt:74:9
 normal-requires : tie.Need-normal-requires Inv-loop μ-loop
 normal-requires c κs = ((c .before .before .before .before .before .before .before .before) .pre .0, ((c .before .before .before .before .before) .loop .inv .size ∙ (c .before .before .before .before .before .before .before .before) .pre .1, lowest-inside _ _ ((c .before .before .before .before .before) .loop .inv .fits) ((c .before .before .before .before) .loop-test .taken) ((c .before .before .before) .lowest .ensures)))
 
--- src/turns.rt:70:5
 loop-less : tie.Need-loop-less Inv-loop μ-loop
 loop-less c = omega (arith, c .normal .ensures .less, taken ((c .before .before .before .before .before .before) .loop .inv .fits) ((c .before .before .before .before .before) .loop-test .taken) ((c .before .before .before .before) .lowest .ensures) ((c .before .before .before) .without-lowest .ensures) .fewer)
 
--- src/turns.rt:70:5
 loop-again : tie.Need-loop-again Inv-loop μ-loop
 loop-again c = so-more _ _ (lowest-inside _ _ ((c .before .before .before .before .before .before) .loop .inv .fits) ((c .before .before .before .before .before) .loop-test .taken) ((c .before .before .before .before) .lowest .ensures)) (taken ((c .before .before .before .before .before .before) .loop .inv .fits) ((c .before .before .before .before .before) .loop-test .taken) ((c .before .before .before .before) .lowest .ensures) ((c .before .before .before) .without-lowest .ensures)) ((c .before .before) .add .ensures) (c .normal .ensures) ((c .before .before .before .before .before .before) .loop .inv)
 
--- src/turns.rt:55:1
 returns : tie.Need-returns Inv-loop μ-loop
 returns c = so-end _ _ (c .loop-test .left) ((c .before) .loop .inv)
 

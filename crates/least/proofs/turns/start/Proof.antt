@@ -18,35 +18,27 @@ Inv-loop initial d₀ q₀ d q = (q ≤ 64) × (length d ≡ 64) × ((p : ℕ) �
 abbrev μ-loop : tie.MeasureT-loop
 μ-loop initial d₀ q₀ d q = 64 - q
 
--- src/turns.rt:170:5
 loop-holds : tie.Need-loop-holds Inv-loop μ-loop
 loop-holds c = (omega arith, c .pre, λ p lt. absurd (omega arith))
 
--- src/turns.rt:171:16
 first-requires : tie.Need-first-requires Inv-loop μ-loop
 first-requires c κs = search needs
 
--- src/turns.rt:171:9
 mul-d : tie.Need-mul-d Inv-loop μ-loop
 mul-d c = omega (arith, (c .before) .loop-test .taken)
 
--- src/turns.rt:171:9
 element-write-d : tie.Need-element-write-d Inv-loop μ-loop
 element-write-d c = omega (arith, (c .before) .loop-test .taken, (c .before .before) .loop .inv .1)
 
--- src/turns.rt:172:9
 add-q : tie.Need-add-q Inv-loop μ-loop
 add-q c = omega (arith, (c .before) .loop-test .taken)
 
--- src/turns.rt:170:5
 loop-less : tie.Need-loop-less Inv-loop μ-loop
 loop-less c = omega (arith, (c .before) .loop-test .taken)
 
--- src/turns.rt:170:5
 loop-again : tie.Need-loop-again Inv-loop μ-loop
 loop-again c = (omega (arith, (c .before) .loop-test .taken), length-set ((c .before .before) .loop .d) _ _ ∙ (c .before .before) .loop .inv .1, first-more _ ((c .before .before) .loop .d) _ _ (omega (arith, (c .before) .loop-test .taken, (c .before .before) .loop .inv .1)) (c .first .ensures) ((c .before .before) .loop .inv .2))
 
--- src/turns.rt:165:1
 returns : tie.Need-returns Inv-loop μ-loop
 returns c = first-end _ (omega (arith, (c .before .before) .fits .initial)) ((c .before) .loop .inv .1) (λ p lt. (c .before) .loop .inv .2 p (omega (arith, c .loop-test .left)))
 

@@ -14,63 +14,48 @@ use Rattle.least.proofs.turns.with_entered.Lts as lts
 use Rattle.stateset.proofs.add.Reads as add-reads
 use Rattle.stateset.proofs.member.Reads as member-reads
 
--- src/turns.rt:30:19
 mul-to : tie.Need-mul-to
 mul-to c = search needs
 
--- src/turns.rt:30:19
 add-to : tie.Need-add-to
 add-to c = search needs
 
--- src/turns.rt:30:14
 mul-to-2 : tie.Need-mul-to-2
 mul-to-2 c = search needs
 
--- src/turns.rt:30:14
 shared-slice-read-to : tie.Need-shared-slice-read-to
 shared-slice-read-to c = search needs
 
--- src/turns.rt:30:14
 cast-to : tie.Need-cast-to
 cast-to c = omega (arith, c .shared-slice-known2 .given ((c .before .before) .args .k * 3 + 2))
 
--- src/turns.rt:31:9
 member-requires : tie.Need-member-requires
 member-requires c κs = search needs
 
--- src/turns.rt:32:9
 returns : tie.Need-returns
 returns c = entered-other _ _ _ _ (omega (arith, (c .before .before .before .before) .fits .set)) (sym ((c .before) .member .ensures) ∙ not-true _ (c .if1 .taken))
 
--- src/turns.rt:34:33
 mul-member : tie.Need-mul-member
 mul-member c = search needs
 
--- src/turns.rt:34:28
 mul-member-2 : tie.Need-mul-member-2
 mul-member-2 c = search needs
 
--- src/turns.rt:34:28
 shared-slice-read-member : tie.Need-shared-slice-read-member
 shared-slice-read-member c = search needs
 
--- src/turns.rt:34:28
 cast-member : tie.Need-cast-member
 cast-member c = omega (arith, c .shared-slice-known3 .given ((c .before .before .before .before .before) .args .k * 3))
 
--- src/turns.rt:34:8
 member-requires-2 : tie.Need-member-requires-2
 member-requires-2 c κs = search needs
 
--- src/turns.rt:35:9
 returns-2 : tie.Need-returns-2
 returns-2 c = entered-inside _ _ _ _ (omega (arith, (c .before .before .before .before .before .before .before) .fits .set)) (sym ((c .before) .member2 .ensures) ∙ c .if2 .taken)
 
--- src/turns.rt:37:5
 add-requires : tie.Need-add-requires
 add-requires c κs = search needs
 
--- src/turns.rt:26:1
 returns-3 : tie.Need-returns-3
 returns-3 c = entered-is _ _ _ _ (in-lt {w = width} {x = (c .before .before .before .before .before .before .before .before) .args .h} {q = getD ((c .before .before .before .before .before .before .before .before) .args .list .now) ((c .before .before .before .before .before .before .before .before) .args .k * 3 + 2) 0} (omega (arith, (c .before .before .before .before .before .before .before .before) .fits .h)) (has-in _ _ .0 (sym ((c .before .before .before .before .before) .member .ensures) ∙ not-false _ ((c .before .before .before .before) .if1 .left)))) (sym ((c .before .before .before .before .before) .member .ensures) ∙ not-false _ ((c .before .before .before .before) .if1 .left)) (c .add .ensures)
 

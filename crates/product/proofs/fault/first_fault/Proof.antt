@@ -16,57 +16,45 @@ use Rattle.fsbm.proofs.machine.is_well_formed.Reads as is-well-formed-reads
 use Rattle.product.proofs.fault.count_joined.Reads as count-joined-reads
 use Rattle.product.proofs.fault.is_plain.Reads as is-plain-reads
 
--- src/fault.rt:136:9
 is-well-formed-requires : tie.Need-is-well-formed-requires
 is-well-formed-requires c κs = search needs
 
--- src/fault.rt:137:9
 returns : tie.Need-returns
 unfolding joinFault
 returns c = (second _ (sym (c .before .is-well-formed .ensures) ∙ not-true _ (c .if1 .taken)) refl, λ (e : _≡_ {A = ℕ} 16 0). absurd (omega arith))
 
--- src/fault.rt:139:9
 is-well-formed-requires-2 : tie.Need-is-well-formed-requires-2
 is-well-formed-requires-2 c κs = search needs
 
--- src/fault.rt:140:9
 returns-2 : tie.Need-returns-2
 unfolding joinFault
 returns-2 c = (first _ (sym (c .before .before .before .is-well-formed .ensures) ∙ not-false _ (c .before .before .if1 .left)) (second _ (sym (c .before .is-well-formed2 .ensures) ∙ not-true _ (c .if2 .taken)) refl), λ (e : _≡_ {A = ℕ} 16 0). absurd (omega arith))
 
--- src/fault.rt:142:9
 is-plain-requires : tie.Need-is-plain-requires
 is-plain-requires c κs = search needs
 
--- src/fault.rt:143:9
 returns-3 : tie.Need-returns-3
 unfolding joinFault
 returns-3 c = (first _ (sym (c .before .before .before .before .before .is-well-formed .ensures) ∙ not-false _ (c .before .before .before .before .if1 .left)) (first _ (sym (c .before .before .before .is-well-formed2 .ensures) ∙ not-false _ (c .before .before .if2 .left)) (second _ (sym (c .before .is-plain .ensures) ∙ not-true _ (c .if3 .taken)) refl)), λ (e : _≡_ {A = ℕ} 10 0). absurd (omega arith))
 
--- src/fault.rt:146:9
 returns-4 : tie.Need-returns-4
 unfolding joinFault
 returns-4 c = (first _ (sym (c .before .before .before .before .before .before .before .before .is-well-formed .ensures) ∙ not-false _ (c .before .before .before .before .before .before .before .if1 .left)) (first _ (sym (c .before .before .before .before .before .before .is-well-formed2 .ensures) ∙ not-false _ (c .before .before .before .before .before .if2 .left)) (first _ (sym (c .before .before .before .before .is-plain .ensures) ∙ not-false _ (c .before .before .before .if3 .left)) (second _ (ne-eqb _ _ (c .if4 .taken)) refl))), λ (e : _≡_ {A = ℕ} 11 0). absurd (omega arith))
 
--- src/fault.rt:148:13
 mul-if5 : tie.Need-mul-if5
 mul-if5 c = let t = rules (c .before .before .before .before .before .before .before .before .before .before .before .before .before .args .first) ((c .before .before .before .before .before .before .before .before .before .before .before .before .before .args .first-list) .now) (sym (c .before .before .before .before .before .before .before .before .before .before .is-well-formed .ensures) ∙ not-false _ (c .before .before .before .before .before .before .before .before .before .if1 .left)) in let s = rules (c .before .before .before .before .before .before .before .before .before .before .before .before .before .args .second) ((c .before .before .before .before .before .before .before .before .before .before .before .before .before .args .second-list) .now) (sym (c .before .before .before .before .before .before .before .before .is-well-formed2 .ensures) ∙ not-false _ (c .before .before .before .before .before .before .before .if2 .left)) in omega (arith, mul-le-mul (t .states-fit) (s .states-fit))
 
--- src/fault.rt:149:9
 returns-5 : tie.Need-returns-5
 unfolding joinFault
 returns-5 c = (first _ (sym (c .before .before .before .before .before .before .before .before .before .before .before .is-well-formed .ensures) ∙ not-false _ (c .before .before .before .before .before .before .before .before .before .before .if1 .left)) (first _ (sym (c .before .before .before .before .before .before .before .before .before .is-well-formed2 .ensures) ∙ not-false _ (c .before .before .before .before .before .before .before .before .if2 .left)) (first _ (sym (c .before .before .before .before .before .before .before .is-plain .ensures) ∙ not-false _ (c .before .before .before .before .before .before .if3 .left)) (first _ (eq-eqb _ _ (c .before .before .before .if4 .left)) (second _ (lt-leb _ _ (c .if5 .taken)) refl)))), λ (e : _≡_ {A = ℕ} 12 0). absurd (omega arith))
 
--- src/fault.rt:151:9
 count-joined-requires : tie.Need-count-joined-requires
 count-joined-requires c κs = (sym (c .before .before .before .before .before .before .before .before .before .before .before .is-well-formed .ensures) ∙ not-false _ (c .before .before .before .before .before .before .before .before .before .before .if1 .left), sym (c .before .before .before .before .before .before .before .before .before .is-well-formed2 .ensures) ∙ not-false _ (c .before .before .before .before .before .before .before .before .if2 .left))
 
--- src/fault.rt:153:9
 returns-6 : tie.Need-returns-6
 unfolding joinFault
 returns-6 c = let many : 4000 < joinedCount (c .before .before .before .before .before .before .before .before .before .before .before .before .before .before .before .before .args .first) ((c .before .before .before .before .before .before .before .before .before .before .before .before .before .before .before .before .args .first-list) .now) (c .before .before .before .before .before .before .before .before .before .before .before .before .before .before .before .before .args .second) ((c .before .before .before .before .before .before .before .before .before .before .before .before .before .before .before .before .args .second-list) .now) = omega (arith, (c .if6 .taken), (c .before .count-joined .ensures)) in (first _ (sym (c .before .before .before .before .before .before .before .before .before .before .before .before .before .is-well-formed .ensures) ∙ not-false _ (c .before .before .before .before .before .before .before .before .before .before .before .before .if1 .left)) (first _ (sym (c .before .before .before .before .before .before .before .before .before .before .before .is-well-formed2 .ensures) ∙ not-false _ (c .before .before .before .before .before .before .before .before .before .before .if2 .left)) (first _ (sym (c .before .before .before .before .before .before .before .before .before .is-plain .ensures) ∙ not-false _ (c .before .before .before .before .before .before .before .before .if3 .left)) (first _ (eq-eqb _ _ (c .before .before .before .before .before .if4 .left)) (first _ (le-leb _ _ (c .before .before .if5 .left)) (second _ (lt-leb _ _ many) refl))))), λ (e : _≡_ {A = ℕ} 13 0). absurd (omega arith))
 
--- src/fault.rt:132:1
 returns-7 : tie.Need-returns-7
 unfolding joinFault
 returns-7 c = let few : joinedCount (c .before .before .before .before .before .before .before .before .before .before .before .before .before .before .before .before .args .first) ((c .before .before .before .before .before .before .before .before .before .before .before .before .before .before .before .before .args .first-list) .now) (c .before .before .before .before .before .before .before .before .before .before .before .before .before .before .before .before .args .second) ((c .before .before .before .before .before .before .before .before .before .before .before .before .before .before .before .before .args .second-list) .now) ≤ 4000 = omega (arith, (c .if6 .left), (c .before .count-joined .ensures)) in (first _ (sym (c .before .before .before .before .before .before .before .before .before .before .before .before .before .is-well-formed .ensures) ∙ not-false _ (c .before .before .before .before .before .before .before .before .before .before .before .before .if1 .left)) (first _ (sym (c .before .before .before .before .before .before .before .before .before .before .before .is-well-formed2 .ensures) ∙ not-false _ (c .before .before .before .before .before .before .before .before .before .before .if2 .left)) (first _ (sym (c .before .before .before .before .before .before .before .before .before .is-plain .ensures) ∙ not-false _ (c .before .before .before .before .before .before .before .before .if3 .left)) (first _ (eq-eqb _ _ (c .before .before .before .before .before .if4 .left)) (first _ (le-leb _ _ (c .before .before .if5 .left)) (first _ (le-leb _ _ few) refl))))), λ e. (c .before .count-joined .ensures))

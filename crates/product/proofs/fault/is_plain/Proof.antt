@@ -10,20 +10,16 @@ use Rattle.product.proofs.fault.is_plain.Lts as lts
 use Rattle.product.proofs.fault.plain_states.Reads as plain-states-reads
 use Rattle.product.proofs.fault.plain_transitions.Reads as plain-transitions-reads
 
--- src/fault.rt:62:9
 plain-states-requires : tie.Need-plain-states-requires
 plain-states-requires c κs = search needs
 
--- src/fault.rt:63:9
 returns : tie.Need-returns
 unfolding plain
 returns c = stop _ (sym (c .before .plain-states .ensures) ∙ not-true _ (c .if1 .taken))
 
--- src/fault.rt:65:5
 plain-transitions-requires : tie.Need-plain-transitions-requires
 plain-transitions-requires c κs = search needs
 
--- src/fault.rt:59:1
 returns-2 : tie.Need-returns-2
 unfolding plain
 returns-2 c = pass (sym (c .before .before .plain-states .ensures) ∙ not-false _ (c .before .if1 .left)) (c .plain-transitions .ensures)

@@ -9,19 +9,15 @@ use Rattle.product.proofs.fault.plain_state.Lts as lts
 use Rattle.fsbm.proofs.machine.is_buffering.Reads as is-buffering-reads
 use Rattle.fsbm.proofs.machine.is_matching.Reads as is-matching-reads
 
--- src/fault.rt:15:8
 is-buffering-requires : tie.Need-is-buffering-requires
 is-buffering-requires c κs = search needs
 
--- src/fault.rt:16:9
 returns : tie.Need-returns
 returns c = stop _ (ap not (sym (c .before .is-buffering .ensures) ∙ (c .if1 .taken)))
 
--- src/fault.rt:18:6
 is-matching-requires : tie.Need-is-matching-requires
 is-matching-requires c κs = search needs
 
--- src/fault.rt:12:1
 returns-2 : tie.Need-returns-2
 returns-2 c = pass (ap not (sym (c .before .before .is-buffering .ensures) ∙ (c .before .if1 .left))) (ap not (c .is-matching .ensures))
 

@@ -17,31 +17,24 @@ Inv-loop marks n q₀ q = allBelow q (plainState marks) ≡ allBelow n (plainSta
 abbrev μ-loop : tie.MeasureT-loop
 μ-loop marks n q₀ q = q
 
--- src/fault.rt:26:5
 loop-holds : tie.Need-loop-holds Inv-loop μ-loop
 loop-holds c = refl
 
--- src/fault.rt:27:9
 sub-q : tie.Need-sub-q Inv-loop μ-loop
 sub-q c = omega arith
 
--- src/fault.rt:28:13
 plain-state-requires : tie.Need-plain-state-requires Inv-loop μ-loop
 plain-state-requires c κs = search needs
 
--- src/fault.rt:29:13
 returns : tie.Need-returns Inv-loop μ-loop
 returns c = all-fails (plainState ((c .before .before .before .before .args .marks) .now)) (c .before .before .before .before .args .n) (c .before .before .before .loop .q) (c .before .plain-state .result) (c .before .before .before .loop .inv) (c .before .before .loop-test .taken) (c .before .plain-state .ensures) (not-true _ (c .if1 .taken))
 
--- src/fault.rt:26:5
 loop-less : tie.Need-loop-less Inv-loop μ-loop
 loop-less c = omega arith
 
--- src/fault.rt:26:5
 loop-again : tie.Need-loop-again Inv-loop μ-loop
 loop-again c = all-goes-on (plainState ((c .before .before .before .before .args .marks) .now)) (c .before .before .before .before .args .n) (c .before .before .before .loop .q) (c .before .plain-state .result) (c .before .before .before .loop .inv) (c .before .before .loop-test .taken) (c .before .plain-state .ensures) (not-false _ (c .if1 .left))
 
--- src/fault.rt:22:1
 returns-2 : tie.Need-returns-2 Inv-loop μ-loop
 returns-2 c = all-done (plainState ((c .before .before .args .marks) .now)) (c .before .before .args .n) (c .before .loop .q) (c .before .loop .inv) (c .loop-test .left)
 

@@ -10,11 +10,9 @@ use Rattle.product.proofs.fault.plain_transition.Reads as reads
 use Rattle.product.proofs.fault.plain_transition.Lts as lts
 use Rattle.fsbm.proofs.machine.transition_at.Reads as transition-at-reads
 
--- src/fault.rt:38:9
 transition-at-requires : tie.Need-transition-at-requires
 transition-at-requires c κs = search needs
 
--- src/fault.rt:35:1
 returns : tie.Need-returns
 returns c = ap (λ (z : Transition). not (eqb (z .letter) 0)) (c .before .transition-at .ensures)
 

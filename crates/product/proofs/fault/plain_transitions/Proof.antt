@@ -17,31 +17,24 @@ Inv-loop list n k₀ k = allBelow k (plainTransition list) ≡ allBelow n (plain
 abbrev μ-loop : tie.MeasureT-loop
 μ-loop list n k₀ k = k
 
--- src/fault.rt:47:5
 loop-holds : tie.Need-loop-holds Inv-loop μ-loop
 loop-holds c = refl
 
--- src/fault.rt:48:9
 sub-k : tie.Need-sub-k Inv-loop μ-loop
 sub-k c = omega arith
 
--- src/fault.rt:49:13
 plain-transition-requires : tie.Need-plain-transition-requires Inv-loop μ-loop
 plain-transition-requires c κs = search needs
 
--- src/fault.rt:50:13
 returns : tie.Need-returns Inv-loop μ-loop
 returns c = all-fails (plainTransition ((c .before .before .before .before .before .args .list) .now)) (c .before .before .before .before .before .args .n) (c .before .before .before .loop .k) (c .before .plain-transition .result) (c .before .before .before .loop .inv) (c .before .before .loop-test .taken) (c .before .plain-transition .ensures) (not-true _ (c .if1 .taken))
 
--- src/fault.rt:47:5
 loop-less : tie.Need-loop-less Inv-loop μ-loop
 loop-less c = omega arith
 
--- src/fault.rt:47:5
 loop-again : tie.Need-loop-again Inv-loop μ-loop
 loop-again c = all-goes-on (plainTransition ((c .before .before .before .before .before .args .list) .now)) (c .before .before .before .before .before .args .n) (c .before .before .before .loop .k) (c .before .plain-transition .result) (c .before .before .before .loop .inv) (c .before .before .loop-test .taken) (c .before .plain-transition .ensures) (not-false _ (c .if1 .left))
 
--- src/fault.rt:43:1
 returns-2 : tie.Need-returns-2 Inv-loop μ-loop
 returns-2 c = all-done (plainTransition ((c .before .before .before .args .list) .now)) (c .before .before .before .args .n) (c .before .loop .k) (c .before .loop .inv) (c .loop-test .left)
 

@@ -16,47 +16,36 @@ Inv-loop a b letters total₀ x₀ total x = (1 ≤ x) × (x ≤ letters + 1) ×
 abbrev μ-loop : tie.MeasureT-loop
 μ-loop a b letters total₀ x₀ total x = letters + 1 - x
 
--- src/fault.rt:100:5
 loop-holds : tie.Need-loop-holds Inv-loop μ-loop
 loop-holds c = (omega arith, omega arith, omega arith, products-start (λ x. getD ((c .args .a) .now) x 0 * getD ((c .args .b) .now) x 0) (c .args .letters))
 
--- src/fault.rt:101:18
 mul-total : tie.Need-mul-total Inv-loop μ-loop
 mul-total c = omega (arith, (c .before .before .pre) .0)
 
--- src/fault.rt:101:18
 element-copy-out-total : tie.Need-element-copy-out-total Inv-loop μ-loop
 element-copy-out-total c = omega (arith, (c .before .before .pre) .0)
 
--- src/fault.rt:101:25
 mul-total-2 : tie.Need-mul-total-2 Inv-loop μ-loop
 mul-total-2 c = omega (arith, (c .before .before .before .pre) .0)
 
--- src/fault.rt:101:25
 element-copy-out-total-2 : tie.Need-element-copy-out-total-2 Inv-loop μ-loop
 element-copy-out-total-2 c = omega (arith, (c .before .before .before .pre) .0)
 
--- src/fault.rt:101:18
 mul-total-3 : tie.Need-mul-total-3 Inv-loop μ-loop
 mul-total-3 c = let e = (c .before .before .before .before .pre) .1 (c .before .before .before .loop .x) (omega (arith, (c .before .before .before .before .pre) .0)) in omega (arith, product-small (getD ((c .before .before .before .before .args .a) .now) (c .before .before .before .loop .x) 0) (getD ((c .before .before .before .before .args .b) .now) (c .before .before .before .loop .x) 0) (e .0) (e .1))
 
--- src/fault.rt:101:9
 add-total : tie.Need-add-total Inv-loop μ-loop
 add-total c = let e = (c .before .before .before .before .pre) .1 (c .before .before .before .loop .x) (omega (arith, (c .before .before .before .before .pre) .0)) in omega (arith, product-small (getD ((c .before .before .before .before .args .a) .now) (c .before .before .before .loop .x) 0) (getD ((c .before .before .before .before .args .b) .now) (c .before .before .before .loop .x) 0) (e .0) (e .1), (c .before .before .before .before .pre) .0)
 
--- src/fault.rt:102:9
 add-x : tie.Need-add-x Inv-loop μ-loop
 add-x c = omega (arith, (c .before .before .before .before .pre) .0)
 
--- src/fault.rt:100:5
 loop-less : tie.Need-loop-less Inv-loop μ-loop
 loop-less c = omega arith
 
--- src/fault.rt:100:5
 loop-again : tie.Need-loop-again Inv-loop μ-loop
 loop-again c = let e = (c .before .before .before .before .pre) .1 (c .before .before .before .loop .x) (omega (arith, (c .before .before .before .before .pre) .0)) in let small = product-small (getD ((c .before .before .before .before .args .a) .now) (c .before .before .before .loop .x) 0) (getD ((c .before .before .before .before .args .b) .now) (c .before .before .before .loop .x) 0) (e .0) (e .1) in (omega arith, omega arith, omega arith, products-next (λ x. getD ((c .before .before .before .before .args .a) .now) x 0 * getD ((c .before .before .before .before .args .b) .now) x 0) (c .before .before .before .before .args .letters) (c .before .before .before .loop .total) (c .before .before .before .loop .x) ((c .before .before .before .loop .inv) .3) (c .before .before .loop-test .taken))
 
--- src/fault.rt:92:1
 returns : tie.Need-returns Inv-loop μ-loop
 returns c = (products-end (λ x. getD ((c .before .before .args .a) .now) x 0 * getD ((c .before .before .args .b) .now) x 0) (c .before .before .args .letters) (c .before .loop .total) (c .before .loop .x) ((c .before .loop .inv) .3) (c .loop-test .left), omega arith)
 

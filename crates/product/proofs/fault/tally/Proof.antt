@@ -19,51 +19,39 @@ Inv-loop list n counts₀ k₀ counts k = (k ≤ n) × (length counts ≡ 256) �
 abbrev μ-loop : tie.MeasureT-loop
 μ-loop list n counts₀ k₀ counts k = n - k
 
--- src/fault.rt:80:22
 zeros-requires : tie.Need-zeros-requires Inv-loop μ-loop
 zeros-requires c κs = search needs
 
--- src/fault.rt:82:5
 loop-holds : tie.Need-loop-holds Inv-loop μ-loop
 loop-holds c = let s = tally-start ((c .before .before .args .list) .now) (c .zeros .result) (c .zeros .ensures) in (omega arith, s .0, s .1)
 
--- src/fault.rt:83:13
 transition-at-requires : tie.Need-transition-at-requires Inv-loop μ-loop
 transition-at-requires c κs = search needs
 
--- src/fault.rt:84:17
 cast-x : tie.Need-cast-x Inv-loop μ-loop
 cast-x c = search needs
 
--- src/fault.rt:85:9
 mul-counts : tie.Need-mul-counts Inv-loop μ-loop
 mul-counts c = omega (arith, (c .before .before .before .before .before .before .pre) (c .before .before .before .loop .k) (c .before .before .loop-test .taken), ap (λ (z : Transition). z .letter) (c .before .transition-at .ensures))
 
--- src/fault.rt:85:9
 array-read-counts : tie.Need-array-read-counts Inv-loop μ-loop
 array-read-counts c = omega (arith, (c .before .before .before .before .before .before .pre) (c .before .before .before .loop .k) (c .before .before .loop-test .taken), ap (λ (z : Transition). z .letter) (c .before .transition-at .ensures))
 
--- src/fault.rt:85:9
 add-counts : tie.Need-add-counts Inv-loop μ-loop
 add-counts c = omega (arith, (c .before .before .before .loop .inv) .2 ((c .before .transition-at .result) .letter) (omega (arith, (c .before .before .before .before .before .before .pre) (c .before .before .before .loop .k) (c .before .before .loop-test .taken), ap (λ (z : Transition). z .letter) (c .before .transition-at .ensures))), letter-few ((c .before .before .before .before .before .before .args .list) .now) (c .before .before .before .loop .k) ((c .before .transition-at .result) .letter), (c .before .before .before .before .before .before .fits))
 
--- src/fault.rt:85:9
 array-write-counts : tie.Need-array-write-counts Inv-loop μ-loop
 array-write-counts c = omega (arith, (c .before .before .before .before .before .before .pre) (c .before .before .before .loop .k) (c .before .before .loop-test .taken), ap (λ (z : Transition). z .letter) (c .before .transition-at .ensures))
 
--- src/fault.rt:86:9
 add-k : tie.Need-add-k Inv-loop μ-loop
 add-k c = omega (arith, (c .before .before .before .before .before .before .fits))
 
--- src/fault.rt:82:5
 loop-less : tie.Need-loop-less Inv-loop μ-loop
 loop-less c = omega arith
 
--- src/fault.rt:82:5
 loop-again : tie.Need-loop-again Inv-loop μ-loop
 loop-again c = let s = tally-next ((c .before .before .before .before .before .before .args .list) .now) (c .before .before .before .loop .counts) (c .before .before .before .loop .k) ((c .before .before .before .loop .inv) .1) ((c .before .before .before .loop .inv) .2) (c .before .transition-at .result) (c .before .transition-at .ensures) (omega (arith, (c .before .before .before .before .before .before .pre) (c .before .before .before .loop .k) (c .before .before .loop-test .taken), ap (λ (z : Transition). z .letter) (c .before .transition-at .ensures))) in (omega arith, s .0, s .1)
 
--- src/fault.rt:76:1
 returns : tie.Need-returns Inv-loop μ-loop
 returns c = let same : (c .before .loop .k) ≡ (c .before .before .before .before .args .n) = omega arith in λ x lt. (c .before .loop .inv) .2 x lt ∙ ap (λ (k : ℕ). letterCount ((c .before .before .before .before .args .list) .now) k x) same
 

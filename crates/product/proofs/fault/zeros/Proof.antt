@@ -5,7 +5,6 @@ use Rattle.product.proofs.fault.zeros.Tie as tie
 use Rattle.product.proofs.fault.zeros.Reads as reads
 use Rattle.product.proofs.fault.zeros.Lts as lts
 
--- src/fault.rt:69:1
 returns : tie.Need-returns
 unfolding zerosOf
 returns c = refl

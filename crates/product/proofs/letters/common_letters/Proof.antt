@@ -6,23 +6,18 @@ use Rattle.product.proofs.letters.common_letters.Reads as reads
 use Rattle.product.proofs.letters.common_letters.Lts as lts
 use Rattle.product.proofs.letters.common_word.Reads as common-word-reads
 
--- src/letters.rt:89:9
 common-word-requires : tie.Need-common-word-requires
 common-word-requires c κs = search needs
 
--- src/letters.rt:90:9
 common-word-requires-2 : tie.Need-common-word-requires-2
 common-word-requires-2 c κs = search needs
 
--- src/letters.rt:91:9
 common-word-requires-3 : tie.Need-common-word-requires-3
 common-word-requires-3 c κs = search needs
 
--- src/letters.rt:92:9
 common-word-requires-4 : tie.Need-common-word-requires-4
 common-word-requires-4 c κs = search needs
 
--- src/letters.rt:84:1
 returns : tie.Need-returns
 returns c = four-words ((c .before .before .before .before .args .first) .now) (c .before .before .before .before .args .p) ((c .before .before .before .before .args .second) .now) (c .before .before .before .before .args .r) (c .before .before .before .common-word .result) (c .before .before .common-word2 .result) (c .before .common-word3 .result) (c .common-word4 .result) (c .before .before .before .common-word .ensures) (c .before .before .common-word2 .ensures) (c .before .common-word3 .ensures) (c .common-word4 .ensures)
 

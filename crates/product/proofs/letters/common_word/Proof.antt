@@ -8,55 +8,42 @@ use Rattle.product.proofs.letters.common_word.Lts as lts
 use Rattle.stateset.proofs.add.Reads as add-reads
 use Rattle.stateset.proofs.intersection.Reads as intersection-reads
 
--- src/letters.rt:75:21
 mul-own : tie.Need-mul-own
 mul-own c = search needs
 
--- src/letters.rt:75:21
 add-own : tie.Need-add-own
 add-own c = search needs
 
--- src/letters.rt:75:15
 mul-own-2 : tie.Need-mul-own-2
 mul-own-2 c = search needs
 
--- src/letters.rt:75:15
 element-copy-out-own : tie.Need-element-copy-out-own
 element-copy-out-own c = search needs
 
--- src/letters.rt:76:24
 mul-other : tie.Need-mul-other
 mul-other c = search needs
 
--- src/letters.rt:76:24
 add-other : tie.Need-add-other
 add-other c = search needs
 
--- src/letters.rt:76:17
 mul-other-2 : tie.Need-mul-other-2
 mul-other-2 c = search needs
 
--- src/letters.rt:76:17
 element-copy-out-other : tie.Need-element-copy-out-other
 element-copy-out-other c = search needs
 
--- src/letters.rt:78:44
 add-requires : tie.Need-add-requires
 add-requires c κs = search needs
 
--- src/letters.rt:78:9
 intersection-requires : tie.Need-intersection-requires
 intersection-requires c κs = search needs
 
--- src/letters.rt:78:9
 returns : tie.Need-returns
 returns c = word-of-epsilon ((c .before .before .before .before .before .args .first) .now) (c .before .before .before .before .before .args .p) ((c .before .before .before .before .before .args .second) .now) (c .before .before .before .before .before .args .r) (c .before .before .before .before .before .args .w) (c .intersection .result) _ _ refl refl (c .before .before .if1 .taken) (c .before .add .result) ((c .before .add .ensures) .members) ((c .intersection .ensures) .members)
 
--- src/letters.rt:80:5
 intersection-requires-2 : tie.Need-intersection-requires-2
 intersection-requires-2 c κs = search needs
 
--- src/letters.rt:71:1
 returns-2 : tie.Need-returns-2
 returns-2 c = word-of-letters ((c .before .before .before .before .args .first) .now) (c .before .before .before .before .args .p) ((c .before .before .before .before .args .second) .now) (c .before .before .before .before .args .r) (c .before .before .before .before .args .w) (c .intersection2 .result) _ _ refl refl (c .before .if1 .left) ((c .intersection2 .ensures) .members)
 

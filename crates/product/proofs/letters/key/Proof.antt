@@ -8,27 +8,21 @@ use Rattle.product.proofs.letters.key.Reads as reads
 use Rattle.product.proofs.letters.key.Lts as lts
 use Rattle.fsbm.proofs.machine.transition_at.Reads as transition-at-reads
 
--- src/letters.rt:24:9
 transition-at-requires : tie.Need-transition-at-requires
 transition-at-requires c κs = search needs
 
--- src/letters.rt:24:5
 cast-result : tie.Need-cast-result
 cast-result c = search needs
 
--- src/letters.rt:24:5
 mul-result : tie.Need-mul-result
 mul-result c = search needs
 
--- src/letters.rt:24:29
 cast-result-2 : tie.Need-cast-result-2
 cast-result-2 c = search needs
 
--- src/letters.rt:24:5
 add-result : tie.Need-add-result
 add-result c = search needs
 
--- src/letters.rt:24:1
 returns : tie.Need-returns
 returns c = ap (λ (z : Transition). z .from * 256 + z .letter) (c .before .before .transition-at .ensures)
 

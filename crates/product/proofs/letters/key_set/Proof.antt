@@ -19,51 +19,39 @@ Inv-loop list n words₀ k₀ words k = (k ≤ n) × (length words ≡ 256) × K
 abbrev μ-loop : tie.MeasureT-loop
 μ-loop list n words₀ k₀ words k = n - k
 
--- src/letters.rt:38:21
 no-keys-requires : tie.Need-no-keys-requires Inv-loop μ-loop
 no-keys-requires c κs = search needs
 
--- src/letters.rt:40:5
 loop-holds : tie.Need-loop-holds Inv-loop μ-loop
 loop-holds c = let s = keying-start ((c .before .before .args .list) .now) (c .no-keys .result) (c .no-keys .ensures) in (omega arith, s .0, s .1)
 
--- src/letters.rt:41:13
 key-requires : tie.Need-key-requires Inv-loop μ-loop
 key-requires c κs = search needs
 
--- src/letters.rt:42:39
 mul-add : tie.Need-mul-add Inv-loop μ-loop
 mul-add c = omega (arith, (c .before .before .before .before .before .pre) (c .before .before .loop .k) (c .before .loop-test .taken), (c .key .ensures))
 
--- src/letters.rt:42:39
 array-read-add : tie.Need-array-read-add Inv-loop μ-loop
 array-read-add c = omega (arith, (c .before .before .before .before .before .pre) (c .before .before .loop .k) (c .before .loop-test .taken), (c .key .ensures))
 
--- src/letters.rt:42:25
 add-requires : tie.Need-add-requires Inv-loop μ-loop
 add-requires c κs = search needs
 
--- src/letters.rt:42:9
 mul-words : tie.Need-mul-words Inv-loop μ-loop
 mul-words c = omega (arith, (c .before .before .before .before .before .before .pre) (c .before .before .before .loop .k) (c .before .before .loop-test .taken), (c .before .key .ensures))
 
--- src/letters.rt:42:9
 array-write-words : tie.Need-array-write-words Inv-loop μ-loop
 array-write-words c = omega (arith, (c .before .before .before .before .before .before .pre) (c .before .before .before .loop .k) (c .before .before .loop-test .taken), (c .before .key .ensures))
 
--- src/letters.rt:43:9
 add-k : tie.Need-add-k Inv-loop μ-loop
 add-k c = omega (arith, (c .before .before .before .before .before .before .fits))
 
--- src/letters.rt:40:5
 loop-less : tie.Need-loop-less Inv-loop μ-loop
 loop-less c = omega arith
 
--- src/letters.rt:40:5
 loop-again : tie.Need-loop-again Inv-loop μ-loop
 loop-again c = let s = keying-next ((c .before .before .before .before .before .before .args .list) .now) (c .before .before .before .loop .words) (c .before .before .before .loop .k) (c .before .key .result) (c .add .result) ((c .before .before .before .loop .inv) .1) ((c .before .before .before .loop .inv) .2) (c .before .key .ensures) (omega (arith, (c .before .before .before .before .before .before .pre) (c .before .before .before .loop .k) (c .before .before .loop-test .taken), (c .before .key .ensures))) ((c .add .ensures) .members) in (omega arith, s .0, s .1)
 
--- src/letters.rt:34:1
 returns : tie.Need-returns Inv-loop μ-loop
 returns c = let same : (c .before .loop .k) ≡ (c .before .before .before .before .args .n) = omega arith in subst (λ (z : ℕ). KeySet ((c .before .before .before .before .args .list) .now) z (c .before .loop .words)) same ((c .before .loop .inv) .2)
 

@@ -7,27 +7,21 @@ use Rattle.product.proofs.letters.least_from.Reads as reads
 use Rattle.product.proofs.letters.least_from.Lts as lts
 use Rattle.stateset.proofs.lowest.Reads as lowest-reads
 
--- src/letters.rt:101:16
 shr-rest : tie.Need-shr-rest
 shr-rest c = search needs
 
--- src/letters.rt:103:9
 returns : tie.Need-returns
 returns c = least-none (c .before .args .word) (c .before .args .x) (c .before .pre) (c .if1 .taken)
 
--- src/letters.rt:105:9
 lowest-requires : tie.Need-lowest-requires
 lowest-requires c κs = search needs
 
--- src/letters.rt:105:9
 cast-result : tie.Need-cast-result
 cast-result c = search needs
 
--- src/letters.rt:105:5
 add-result : tie.Need-add-result
 add-result c = omega (arith, (c .before .before .pre), (c .lowest .ensures) .within)
 
--- src/letters.rt:97:1
 returns-2 : tie.Need-returns-2
 returns-2 c = least-some (c .before .before .args .word) (c .before .before .args .x) (c .before .before .pre) (omega (arith, (c .before .before .good))) (c .lowest .result) (c .lowest .ensures) (c .before .if1 .left)
 

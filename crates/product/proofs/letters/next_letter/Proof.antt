@@ -14,51 +14,39 @@ Inv-loop letters x b₀ b = Looking letters x b
 abbrev μ-loop : tie.MeasureT-loop
 μ-loop letters x b₀ b = 256 - b
 
--- src/letters.rt:115:5
 loop-holds : tie.Need-loop-holds Inv-loop μ-loop
 loop-holds c = letter-start ((c .args .letters) .now) (c .args .x) (c .pre)
 
--- src/letters.rt:117:28
 mul-least-from : tie.Need-mul-least-from Inv-loop μ-loop
 mul-least-from c = omega arith
 
--- src/letters.rt:117:28
 element-copy-out-least-from : tie.Need-element-copy-out-least-from Inv-loop μ-loop
 element-copy-out-least-from c = omega arith
 
--- src/letters.rt:117:13
 least-from-requires : tie.Need-least-from-requires Inv-loop μ-loop
 least-from-requires c κs = omega arith
 
--- src/letters.rt:119:20
 mul-result : tie.Need-mul-result Inv-loop μ-loop
 mul-result c = omega arith
 
--- src/letters.rt:119:20
 add-result : tie.Need-add-result Inv-loop μ-loop
 add-result c = omega arith
 
--- src/letters.rt:119:13
 returns : tie.Need-returns Inv-loop μ-loop
 returns c = letter-found ((c .before .before .before .before .before .args .letters) .now) (c .before .before .before .before .before .args .x) (c .before .before .before .before .loop .b) (c .before .before .before .before .loop .inv) (c .before .before .before .loop-test .taken) _ (c .before .least-from .result) refl (c .before .least-from .ensures) (c .if1 .taken)
 
--- src/letters.rt:121:13
 mul-b : tie.Need-mul-b Inv-loop μ-loop
 mul-b c = omega arith
 
--- src/letters.rt:121:13
 add-b : tie.Need-add-b Inv-loop μ-loop
 add-b c = omega arith
 
--- src/letters.rt:115:5
 loop-less : tie.Need-loop-less Inv-loop μ-loop
 loop-less c = omega arith
 
--- src/letters.rt:115:5
 loop-again : tie.Need-loop-again Inv-loop μ-loop
 loop-again c = letter-on ((c .before .before .before .before .before .args .letters) .now) (c .before .before .before .before .before .args .x) (c .before .before .before .before .loop .b) (c .before .before .before .before .loop .inv) (c .before .before .before .loop-test .taken) _ (c .before .least-from .result) refl (c .before .least-from .ensures) (c .if1 .left)
 
--- src/letters.rt:110:1
 returns-2 : tie.Need-returns-2 Inv-loop μ-loop
 returns-2 c = letter-end ((c .before .before .args .letters) .now) (c .before .before .args .x) (c .before .loop .b) (c .before .loop .inv) (c .loop-test .left)
 

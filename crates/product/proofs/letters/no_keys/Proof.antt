@@ -5,7 +5,6 @@ use Rattle.product.proofs.letters.no_keys.Tie as tie
 use Rattle.product.proofs.letters.no_keys.Reads as reads
 use Rattle.product.proofs.letters.no_keys.Lts as lts
 
--- src/letters.rt:29:1
 returns : tie.Need-returns
 unfolding zerosOf
 returns c = refl

@@ -5,7 +5,6 @@ use Rattle.product.proofs.letters.no_starts.Tie as tie
 use Rattle.product.proofs.letters.no_starts.Reads as reads
 use Rattle.product.proofs.letters.no_starts.Lts as lts
 
--- src/letters.rt:51:1
 returns : tie.Need-returns
 unfolding zerosOf
 returns c = refl

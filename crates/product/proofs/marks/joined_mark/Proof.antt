@@ -9,28 +9,22 @@ use Rattle.product.proofs.marks.joined_mark.Reads as reads
 use Rattle.product.proofs.marks.joined_mark.Lts as lts
 use Rattle.product.proofs.marks.pair_mark.Reads as pair-mark-reads
 
--- src/marks.rt:46:8
 mul-if1 : tie.Need-mul-if1
 mul-if1 c = search needs
 
--- src/marks.rt:47:9
 returns : tie.Need-returns
 unfolding joinedMark
 returns c = second _ (le-ltb _ _ (c .if1 .taken)) refl
 
--- src/marks.rt:49:29
 div-pair-mark : tie.Need-div-pair-mark
 div-pair-mark c = search needs
 
--- src/marks.rt:49:63
 rem-pair-mark : tie.Need-rem-pair-mark
 rem-pair-mark c = search needs
 
--- src/marks.rt:49:5
 pair-mark-requires : tie.Need-pair-mark-requires
 pair-mark-requires c κs = search needs
 
--- src/marks.rt:41:1
 returns-2 : tie.Need-returns-2
 unfolding joinedMark
 returns-2 c = first 0 (lt-ltb _ _ (c .before .before .before .before .before .if1 .left)) (c .pair-mark .ensures)

@@ -18,35 +18,27 @@ Inv-loop first second marks₀ q₀ marks q = (length marks ≡ 64) × ((x : ℕ
 abbrev μ-loop : tie.MeasureT-loop
 μ-loop first second marks₀ q₀ marks q = 64 - q
 
--- src/marks.rt:66:21
 zeros-requires : tie.Need-zeros-requires Inv-loop μ-loop
 zeros-requires c κs = search needs
 
--- src/marks.rt:68:5
 loop-holds : tie.Need-loop-holds Inv-loop μ-loop
 loop-holds c = (ap length (c .zeros .ensures) ∙ zeros-length 64, λ (x : ℕ) (h : x < 0). absurd (omega arith))
 
--- src/marks.rt:69:20
 joined-mark-requires : tie.Need-joined-mark-requires Inv-loop μ-loop
 joined-mark-requires c κs = search needs
 
--- src/marks.rt:69:9
 array-write-marks : tie.Need-array-write-marks Inv-loop μ-loop
 array-write-marks c = (c .before .loop-test .taken)
 
--- src/marks.rt:70:9
 add-q : tie.Need-add-q Inv-loop μ-loop
 add-q c = omega arith
 
--- src/marks.rt:68:5
 loop-less : tie.Need-loop-less Inv-loop μ-loop
 loop-less c = omega arith
 
--- src/marks.rt:68:5
 loop-again : tie.Need-loop-again Inv-loop μ-loop
 loop-again c = marks-next (c .before .before .before .before .args .first) (c .before .before .before .before .args .second) (c .before .before .loop .marks) (c .before .before .loop .q) (c .joined-mark .result) ((c .before .before .loop .inv) .0) (c .before .loop-test .taken) ((c .before .before .loop .inv) .1) (c .joined-mark .ensures)
 
--- src/marks.rt:61:1
 returns : tie.Need-returns Inv-loop μ-loop
 returns c = marks-end (c .before .before .before .args .first) (c .before .before .before .args .second) (c .before .loop .marks) (c .before .loop .q) (c .loop-test .left) ((c .before .loop .inv) .0) ((c .before .loop .inv) .1)
 

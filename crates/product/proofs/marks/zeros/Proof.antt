@@ -5,7 +5,6 @@ use Rattle.product.proofs.marks.zeros.Tie as tie
 use Rattle.product.proofs.marks.zeros.Reads as reads
 use Rattle.product.proofs.marks.zeros.Lts as lts
 
--- src/marks.rt:54:1
 returns : tie.Need-returns
 unfolding zerosOf
 returns c = refl

@@ -10,51 +10,39 @@ use Rattle.product.proofs.write.next_move.Lts as lts
 use Rattle.fsbm.proofs.machine.transition_at.Reads as transition-at-reads
 use Rattle.product.proofs.letters.next_letter.Reads as next-letter-reads
 
--- src/write.rt:139:9
 returns : tie.Need-returns
 returns c = next-none (c .before .before .pre) (c .if1 .taken)
 
--- src/write.rt:141:9
 transition-at-requires : tie.Need-transition-at-requires
 transition-at-requires c κs = search needs
 
--- src/write.rt:142:13
 cast-x : tie.Need-cast-x
 cast-x c = search needs
 
--- src/write.rt:143:9
 next-letter-requires : tie.Need-next-letter-requires
 next-letter-requires c κs = let s = (c .before .before .before .before .pre) in let top = s .block .high in omega (arith, s .letters-small (c .before .before .before .before .args .i) (omega (arith, s .block .high)), ap (λ (z : Transition). z .letter) (c .before .transition-at .ensures))
 
--- src/write.rt:145:9
 returns-2 : tie.Need-returns-2
 returns-2 c = next-here (c .before .before .before .before .before .before .pre) (omega (arith, (c .before .before .before .before .if1 .left))) (c .before .before .before .transition-at .result) (c .before .before .before .transition-at .ensures) (c .before .next-letter .result) (c .before .next-letter .ensures) (c .if2 .taken)
 
--- src/write.rt:148:9
 returns-3 : tie.Need-returns-3
 returns-3 c = next-end (c .before .before .before .before .before .before .before .pre) (omega (arith, (c .before .before .before .before .before .if1 .left))) (c .before .before .before .before .transition-at .result) (c .before .before .before .before .transition-at .ensures) (c .before .before .next-letter .result) (c .before .before .next-letter .ensures) (c .if3 .taken)
 
--- src/write.rt:150:12
 mul-result : tie.Need-mul-result
 mul-result c = omega (arith, (c .before .before .before .before .before .before .before .pre) .state)
 
--- src/write.rt:150:12
 add-result : tie.Need-add-result
 add-result c = omega (arith, (c .before .before .before .before .before .before .before .pre) .state, (c .before .before .next-letter .ensures) .high)
 
--- src/write.rt:150:5
 mul-result-2 : tie.Need-mul-result-2
 mul-result-2 c = omega (arith, (c .before .before .before .before .before .before .before .pre) .state, (c .before .before .next-letter .ensures) .high)
 
--- src/write.rt:150:5
 element-copy-out-result : tie.Need-element-copy-out-result
 element-copy-out-result c = omega (arith, (c .before .before .before .before .before .before .before .pre) .state, (c .before .before .next-letter .ensures) .high)
 
--- src/write.rt:150:5
 cast-result : tie.Need-cast-result
 cast-result c = omega (arith, next-jump (c .before .before .before .before .before .before .before .before .pre) (omega (arith, (c .before .before .before .before .before .before .if1 .left))) (c .before .before .before .before .before .transition-at .result) (c .before .before .before .before .before .transition-at .ensures) (c .before .before .before .next-letter .result) (c .before .before .before .next-letter .ensures) (c .before .before .if2 .left) (c .before .if3 .left) .high, (c .before .before .before .before .before .before .before .before .fits))
 
--- src/write.rt:127:1
 returns-4 : tie.Need-returns-4
 returns-4 c = next-jump (c .before .before .before .before .before .before .before .before .pre) (omega (arith, (c .before .before .before .before .before .before .if1 .left))) (c .before .before .before .before .before .transition-at .result) (c .before .before .before .before .before .transition-at .ensures) (c .before .before .before .next-letter .result) (c .before .before .before .next-letter .ensures) (c .before .before .if2 .left) (c .before .if3 .left)
 

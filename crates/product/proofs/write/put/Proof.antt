@@ -9,43 +9,33 @@ use Rattle.product.proofs.write.put.Tie as tie
 use Rattle.product.proofs.write.put.Reads as reads
 use Rattle.product.proofs.write.put.Lts as lts
 
--- src/write.rt:67:5
 mul-list : tie.Need-mul-list
 mul-list c = search needs
 
--- src/write.rt:67:5
 slice-write-list : tie.Need-slice-write-list
 slice-write-list c = search needs
 
--- src/write.rt:68:10
 add-list : tie.Need-add-list
 add-list c = search needs
 
--- src/write.rt:68:5
 mul-list-2 : tie.Need-mul-list-2
 mul-list-2 c = search needs
 
--- src/write.rt:68:5
 slice-write-list-2 : tie.Need-slice-write-list-2
 slice-write-list-2 c = lt-length-set ((c .args .list) .now) (c .args .k) (c .args .from) (omega arith)
 
--- src/write.rt:69:10
 add-list-2 : tie.Need-add-list-2
 add-list-2 c = search needs
 
--- src/write.rt:69:5
 mul-list-3 : tie.Need-mul-list-3
 mul-list-3 c = search needs
 
--- src/write.rt:69:5
 slice-write-list-3 : tie.Need-slice-write-list-3
 slice-write-list-3 c = lt-length-set (set ((c .args .list) .now) (c .args .k) (c .args .from)) ((c .args .k) + 1) (c .args .letter) (lt-length-set ((c .args .list) .now) (c .args .k) (c .args .from) (omega arith))
 
--- src/write.rt:63:1
 same-length : tie.Need-same-length
 same-length c = search needs
 
--- src/write.rt:63:1
 returns : tie.Need-returns
 returns c = put-three ((c .args .list) .now) (c .args .k) (c .args .from) (c .args .letter) (c .args .to) (c .pre)
 

@@ -18,43 +18,33 @@ Inv-loop second-list from letter base list₀ k lo hi at₀ u₀ list at u = Let
 abbrev μ-loop : tie.MeasureT-loop
 μ-loop second-list from letter base list₀ k lo hi at₀ u₀ list at u = hi - u
 
--- src/write.rt:85:5
 loop-holds : tie.Need-loop-holds Inv-loop μ-loop
 loop-holds c = letter-start ((c .before .before .args .second-list) .now) ((c .before .before .args .span) .lo) ((c .before .before .args .span) .hi) (c .before .before .args .from) (c .before .before .args .letter) (c .before .before .args .base) ((c .before .before .args .list) .now) (c .before .before .args .k) ((c .before .before .pre) .0) ((c .before .before .pre) .1 .1)
 
--- src/write.rt:86:13
 transition-at-requires : tie.Need-transition-at-requires Inv-loop μ-loop
 transition-at-requires c κs = search needs
 
--- src/write.rt:87:37
 add-put : tie.Need-add-put Inv-loop μ-loop
 add-put c = omega (arith, (c .before .before .before .before .before .before .before .pre) .1 .0 (c .before .before .before .before .loop .u) (c .before .before .before .loop-test .taken), ap (λ (z : Transition). z .to) (c .before .before .transition-at .ensures))
 
--- src/write.rt:87:9
 put-requires : tie.Need-put-requires Inv-loop μ-loop
 put-requires c κs = letter-room ((c .before .before .before .before .before .before .before .args .second-list) .now) ((c .before .before .before .before .before .before .before .args .span) .lo) ((c .before .before .before .before .before .before .before .args .span) .hi) (c .before .before .before .before .before .before .before .args .from) (c .before .before .before .before .before .before .before .args .letter) (c .before .before .before .before .before .before .before .args .base) ((c .before .before .before .before .before .before .before .args .list) .now) (c .before .before .before .before .before .before .before .args .k) (c .before .before .before .before .loop .inv) (c .before .before .before .loop-test .taken)
 
--- src/write.rt:88:9
 add-at : tie.Need-add-at Inv-loop μ-loop
 add-at c = omega (arith, letter-room ((c .before .before .before .before .before .before .before .before .before .before .args .second-list) .now) ((c .before .before .before .before .before .before .before .before .before .before .args .span) .lo) ((c .before .before .before .before .before .before .before .before .before .before .args .span) .hi) (c .before .before .before .before .before .before .before .before .before .before .args .from) (c .before .before .before .before .before .before .before .before .before .before .args .letter) (c .before .before .before .before .before .before .before .before .before .before .args .base) ((c .before .before .before .before .before .before .before .before .before .before .args .list) .now) (c .before .before .before .before .before .before .before .before .before .before .args .k) (c .before .before .before .before .before .before .before .loop .inv) (c .before .before .before .before .before .before .loop-test .taken), (c .before .before .before .before .before .before .before .loop .inv) .2 .size, (c .before .before .before .before .before .before .before .before .before .before .good))
 
--- src/write.rt:89:9
 add-u : tie.Need-add-u Inv-loop μ-loop
 add-u c = omega (arith, (c .before .before .before .before .before .before .before .before .before .before .fits))
 
--- src/write.rt:85:5
 loop-less : tie.Need-loop-less Inv-loop μ-loop
 loop-less c = omega arith
 
--- src/write.rt:85:5
 loop-again : tie.Need-loop-again Inv-loop μ-loop
 loop-again c = letter-next ((c .before .before .before .before .before .before .before .before .before .before .args .second-list) .now) ((c .before .before .before .before .before .before .before .before .before .before .args .span) .lo) ((c .before .before .before .before .before .before .before .before .before .before .args .span) .hi) (c .before .before .before .before .before .before .before .before .before .before .args .from) (c .before .before .before .before .before .before .before .before .before .before .args .letter) (c .before .before .before .before .before .before .before .before .before .before .args .base) ((c .before .before .before .before .before .before .before .before .before .before .args .list) .now) (c .before .before .before .before .before .before .before .before .before .before .args .k) (c .before .before .before .before .before .before .before .loop .inv) (c .before .before .before .before .before .before .loop-test .taken) (c .before .before .before .before .before .transition-at .result) (c .before .before .before .before .before .transition-at .ensures) _ (c .before .before .put .ensures)
 
--- src/write.rt:73:1
 same-length : tie.Need-same-length Inv-loop μ-loop
 same-length c = (c .before .loop .inv) .2 .size
 
--- src/write.rt:73:1
 returns : tie.Need-returns Inv-loop μ-loop
 returns c = letter-end ((c .before .before .before .before .args .second-list) .now) ((c .before .before .before .before .args .span) .lo) ((c .before .before .before .before .args .span) .hi) (c .before .before .before .before .args .from) (c .before .before .before .before .args .letter) (c .before .before .before .before .args .base) ((c .before .before .before .before .args .list) .now) (c .before .before .before .before .args .k) (c .before .loop .inv) (c .loop-test .left)
 

@@ -12,87 +12,66 @@ use Rattle.product.proofs.write.pair.Reads as pair-reads
 use Rattle.product.proofs.write.put.Reads as put-reads
 use Rattle.product.proofs.write.write_letter.Reads as write-letter-reads
 
--- src/write.rt:106:9
 pair-requires : tie.Need-pair-requires
 pair-requires c κs = (c .before .before .pre) .0 .from-small
 
--- src/write.rt:108:32
 pair-requires-2 : tie.Need-pair-requires-2
 pair-requires-2 c κs = (c .before .before .before .before .before .before .pre) .0 .to-small
 
--- src/write.rt:108:9
 put-requires : tie.Need-put-requires
 put-requires c κs = let e = epsilon-is (c .before .before .before .before .before .before .before .args .n) (c .before .before .before .before .before .before .before .args .count) ((c .before .before .before .before .before .before .before .args .second-list) .now) (c .before .before .before .before .before .before .before .args .r) (c .before .before .before .before .before .before .before .args .t) (c .before .before .if1 .taken) in omega (arith, ap length e, (c .before .before .before .before .before .before .before .pre) .1)
 
--- src/write.rt:109:16
 add-result : tie.Need-add-result
 add-result c = let e = epsilon-is (c .before .before .before .before .before .before .before .before .before .before .args .n) (c .before .before .before .before .before .before .before .before .before .before .args .count) ((c .before .before .before .before .before .before .before .before .before .before .args .second-list) .now) (c .before .before .before .before .before .before .before .before .before .before .args .r) (c .before .before .before .before .before .before .before .before .before .before .args .t) (c .before .before .before .before .before .if1 .taken) in omega (arith, ap length e, (c .before .before .before .before .before .before .before .before .before .before .pre) .1, (c .before .before .before .before .before .before .before .before .before .before .good))
 
--- src/write.rt:109:9
 same-length : tie.Need-same-length
 same-length c = search needs
 
--- src/write.rt:109:9
 returns : tie.Need-returns
 returns c = epsilon-writes (c .before .before .before .before .before .before .before .before .before .before .args .n) (c .before .before .before .before .before .before .before .before .before .before .args .count) ((c .before .before .before .before .before .before .before .before .before .before .args .second-list) .now) (c .before .before .before .before .before .before .before .before .before .before .args .r) (c .before .before .before .before .before .before .before .before .before .before .args .t) ((c .before .before .before .before .before .before .before .before .before .before .args .list) .now) _ (c .before .before .before .before .before .before .before .before .before .before .args .at) (c .before .before .before .before .before .before .before .pair .result) (c .before .before .before .pair2 .result) (c .before .before .before .before .before .if1 .taken) (c .before .before .before .before .before .before .before .pair .ensures) (c .before .before .before .pair2 .ensures) (c .before .before .put .ensures)
 
--- src/write.rt:111:13
 mul-y : tie.Need-mul-y
 mul-y c = search needs
 
--- src/write.rt:111:32
 cast-y : tie.Need-cast-y
 cast-y c = search needs
 
--- src/write.rt:111:13
 add-y : tie.Need-add-y
 add-y c = search needs
 
--- src/write.rt:112:14
 mul-lo : tie.Need-mul-lo
 mul-lo c = omega (arith, (c .before .before .before .before .before .before .pre) .0 .state-small, (c .before .before .before .before .before .before .pre) .0 .letter-small)
 
--- src/write.rt:112:14
 element-copy-out-lo : tie.Need-element-copy-out-lo
 element-copy-out-lo c = omega (arith, (c .before .before .before .before .before .before .pre) .0 .state-small, (c .before .before .before .before .before .before .pre) .0 .letter-small)
 
--- src/write.rt:112:14
 cast-lo : tie.Need-cast-lo
 cast-lo c = omega (arith, (c .before .before .before .before .before .before .before .pre) .0 .start (c .before .before .if1 .left) .high, (c .before .before .before .before .before .before .before .fits))
 
--- src/write.rt:113:44
 add-lower : tie.Need-add-lower
 add-lower c = search needs
 
--- src/write.rt:113:9
 lower-requires : tie.Need-lower-requires
 lower-requires c κs = (c .before .before .before .before .before .before .before .pre) .0 .start (c .before .before .if1 .left) .high
 
--- src/write.rt:119:9
 pair-requires-3 : tie.Need-pair-requires-3
 pair-requires-3 c κs = search needs
 
--- src/write.rt:114:5
 write-letter-requires : tie.Need-write-letter-requires
 write-letter-requires c κs = letters-fit (c .before .before .before .before .before .before .before .before .before .before .args .n) (c .before .before .before .before .before .before .before .before .before .before .args .count) ((c .before .before .before .before .before .before .before .before .before .before .args .second-list) .now) (c .before .before .before .before .before .before .before .before .before .before .args .r) (c .before .before .before .before .before .before .before .before .before .before .args .t) ((c .before .before .before .before .before .before .before .before .before .before .pre) .0) (c .before .before .before .before .before .if1 .left) ((c .before .before .before .before .before .before .before .before .before .before .pre) .0 .start (c .before .before .before .before .before .if1 .left)) (c .before .before .lower .ensures) ((c .before .before .before .before .before .before .before .before .before .before .args .list) .now) (c .before .before .before .before .before .before .before .before .before .before .args .at) (c .before .pair3 .result) (c .before .pair3 .ensures) ((c .before .before .before .before .before .before .before .before .before .before .pre) .1)
 
--- src/write.rt:123:11
 sub-result : tie.Need-sub-result
 sub-result c = search needs
 
--- src/write.rt:123:10
 mul-result : tie.Need-mul-result
 mul-result c = let w = letters-length (c .before .before .before .before .before .before .before .before .before .before .before .before .before .args .n) (c .before .before .before .before .before .before .before .before .before .before .before .before .before .args .count) ((c .before .before .before .before .before .before .before .before .before .before .before .before .before .args .second-list) .now) (c .before .before .before .before .before .before .before .before .before .before .before .before .before .args .r) (c .before .before .before .before .before .before .before .before .before .before .before .before .before .args .t) ((c .before .before .before .before .before .before .before .before .before .before .before .before .before .pre) .0) (c .before .before .before .before .before .before .before .before .if1 .left) ((c .before .before .before .before .before .before .before .before .before .before .before .before .before .pre) .0 .start (c .before .before .before .before .before .before .before .before .if1 .left)) (c .before .before .before .before .before .lower .ensures) in omega (arith, w, (c .before .before .before .before .before .before .before .before .before .before .before .before .before .pre) .1, (c .before .before .before .before .before .before .before .before .before .before .before .before .before .good))
 
--- src/write.rt:123:5
 add-result-2 : tie.Need-add-result-2
 add-result-2 c = let w = letters-length (c .before .before .before .before .before .before .before .before .before .before .before .before .before .args .n) (c .before .before .before .before .before .before .before .before .before .before .before .before .before .args .count) ((c .before .before .before .before .before .before .before .before .before .before .before .before .before .args .second-list) .now) (c .before .before .before .before .before .before .before .before .before .before .before .before .before .args .r) (c .before .before .before .before .before .before .before .before .before .before .before .before .before .args .t) ((c .before .before .before .before .before .before .before .before .before .before .before .before .before .pre) .0) (c .before .before .before .before .before .before .before .before .if1 .left) ((c .before .before .before .before .before .before .before .before .before .before .before .before .before .pre) .0 .start (c .before .before .before .before .before .before .before .before .if1 .left)) (c .before .before .before .before .before .lower .ensures) in omega (arith, w, (c .before .before .before .before .before .before .before .before .before .before .before .before .before .pre) .1, (c .before .before .before .before .before .before .before .before .before .before .before .before .before .good))
 
--- src/write.rt:91:1
 same-length-2 : tie.Need-same-length-2
 same-length-2 c = search needs
 
--- src/write.rt:91:1
 returns-2 : tie.Need-returns-2
 returns-2 c = letters-write (c .before .before .before .before .before .before .before .before .before .before .before .before .before .args .n) (c .before .before .before .before .before .before .before .before .before .before .before .before .before .args .count) ((c .before .before .before .before .before .before .before .before .before .before .before .before .before .args .second-list) .now) (c .before .before .before .before .before .before .before .before .before .before .before .before .before .args .r) (c .before .before .before .before .before .before .before .before .before .before .before .before .before .args .t) ((c .before .before .before .before .before .before .before .before .before .before .before .before .before .pre) .0) (c .before .before .before .before .before .before .before .before .if1 .left) ((c .before .before .before .before .before .before .before .before .before .before .before .before .before .pre) .0 .start (c .before .before .before .before .before .before .before .before .if1 .left)) (c .before .before .before .before .before .lower .ensures) ((c .before .before .before .before .before .before .before .before .before .before .before .before .before .args .list) .now) _ (c .before .before .before .before .before .before .before .before .before .before .before .before .before .args .at) (c .before .before .before .before .before .before .before .before .before .before .pair .result) (c .before .before .before .before .pair3 .result) (c .before .before .before .before .before .before .before .before .before .before .pair .ensures) (c .before .before .before .before .pair3 .ensures) (c .before .before .write-letter .ensures)
 

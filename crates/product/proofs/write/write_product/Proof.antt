@@ -22,67 +22,51 @@ Inv-loop first first-list second second-list list₀ first-starts first-keys sec
 abbrev μ-loop : tie.MeasureT-loop
 μ-loop first first-list second second-list list₀ first-starts first-keys second-starts second-keys states k₀ lo₀ p₀ list k lo p = states - p
 
--- src/write.rt:262:28
 no-starts-requires : tie.Need-no-starts-requires Inv-loop μ-loop
 no-starts-requires c κs = search needs
 
--- src/write.rt:263:5
 note-starts-requires : tie.Need-note-starts-requires Inv-loop μ-loop
 note-starts-requires c κs = let j = joinable (c .before .before .before .before .before .args .first) ((c .before .before .before .before .before .args .first-list) .now) (c .before .before .before .before .before .args .second) ((c .before .before .before .before .before .args .second-list) .now) ((c .before .before .before .before .before .pre) .0) in (ap length (c .before .no-starts .ensures) ∙ zeros-length 16384, (j .first .transitions-fit, λ k h. table-key (c .before .before .before .before .before .args .first) ((c .before .before .before .before .before .args .first-list) .now) (j .first) k h))
 
--- src/write.rt:264:22
 key-set-requires : tie.Need-key-set-requires Inv-loop μ-loop
 key-set-requires c κs = let j = joinable (c .before .before .before .before .before .before .args .first) ((c .before .before .before .before .before .before .args .first-list) .now) (c .before .before .before .before .before .before .args .second) ((c .before .before .before .before .before .before .args .second-list) .now) ((c .before .before .before .before .before .before .pre) .0) in λ k h. table-key (c .before .before .before .before .before .before .args .first) ((c .before .before .before .before .before .before .args .first-list) .now) (j .first) k h
 
--- src/write.rt:265:29
 no-starts-requires-2 : tie.Need-no-starts-requires-2 Inv-loop μ-loop
 no-starts-requires-2 c κs = search needs
 
--- src/write.rt:266:5
 note-starts-requires-2 : tie.Need-note-starts-requires-2 Inv-loop μ-loop
 note-starts-requires-2 c κs = let j = joinable (c .before .before .before .before .before .before .before .before .before .args .first) ((c .before .before .before .before .before .before .before .before .before .args .first-list) .now) (c .before .before .before .before .before .before .before .before .before .args .second) ((c .before .before .before .before .before .before .before .before .before .args .second-list) .now) ((c .before .before .before .before .before .before .before .before .before .pre) .0) in (ap length (c .before .no-starts2 .ensures) ∙ zeros-length 16384, (j .second .transitions-fit, λ k h. table-key (c .before .before .before .before .before .before .before .before .before .args .second) ((c .before .before .before .before .before .before .before .before .before .args .second-list) .now) (j .second) k h))
 
--- src/write.rt:267:23
 key-set-requires-2 : tie.Need-key-set-requires-2 Inv-loop μ-loop
 key-set-requires-2 c κs = let j = joinable (c .before .before .before .before .before .before .before .before .before .before .args .first) ((c .before .before .before .before .before .before .before .before .before .before .args .first-list) .now) (c .before .before .before .before .before .before .before .before .before .before .args .second) ((c .before .before .before .before .before .before .before .before .before .before .args .second-list) .now) ((c .before .before .before .before .before .before .before .before .before .before .pre) .0) in λ k h. table-key (c .before .before .before .before .before .before .before .before .before .before .args .second) ((c .before .before .before .before .before .before .before .before .before .before .args .second-list) .now) (j .second) k h
 
--- src/write.rt:272:5
 loop-holds : tie.Need-loop-holds Inv-loop μ-loop
 loop-holds c = λ j. writing-start j ((c .before .before .before .before .before .before .before .before .before .before .before .args .list) .now) ((c .before .before .before .before .before .before .before .before .before .before .before .pre) .1)
 
--- src/write.rt:273:59
 mul-lower : tie.Need-mul-lower Inv-loop μ-loop
 mul-lower c = let j = joinable (c .before .before .before .before .before .before .before .before .before .before .before .before .before .args .first) ((c .before .before .before .before .before .before .before .before .before .before .before .before .before .args .first-list) .now) (c .before .before .before .before .before .before .before .before .before .before .before .before .before .args .second) ((c .before .before .before .before .before .before .before .before .before .before .before .before .before .args .second-list) .now) ((c .before .before .before .before .before .before .before .before .before .before .before .before .before .pre) .0) in omega (arith, j .first .states-fit)
 
--- src/write.rt:273:59
 add-lower : tie.Need-add-lower Inv-loop μ-loop
 add-lower c = let j = joinable (c .before .before .before .before .before .before .before .before .before .before .before .before .before .args .first) ((c .before .before .before .before .before .before .before .before .before .before .before .before .before .args .first-list) .now) (c .before .before .before .before .before .before .before .before .before .before .before .before .before .args .second) ((c .before .before .before .before .before .before .before .before .before .before .before .before .before .args .second-list) .now) ((c .before .before .before .before .before .before .before .before .before .before .before .before .before .pre) .0) in omega (arith, j .first .states-fit)
 
--- src/write.rt:273:13
 lower-requires : tie.Need-lower-requires Inv-loop μ-loop
 lower-requires c κs = let j = joinable (c .before .before .before .before .before .before .before .before .before .before .before .before .before .args .first) ((c .before .before .before .before .before .before .before .before .before .before .before .before .before .args .first-list) .now) (c .before .before .before .before .before .before .before .before .before .before .before .before .before .args .second) ((c .before .before .before .before .before .before .before .before .before .before .before .before .before .args .second-list) .now) ((c .before .before .before .before .before .before .before .before .before .before .before .before .before .pre) .0) in (c .before .loop .inv) j .lo-in
 
--- src/write.rt:274:13
 write-row-requires : tie.Need-write-row-requires Inv-loop μ-loop
 write-row-requires c κs = let j = joinable (c .before .before .before .before .before .before .before .before .before .before .before .before .before .before .before .before .before .before .before .args .first) ((c .before .before .before .before .before .before .before .before .before .before .before .before .before .before .before .before .before .before .before .args .first-list) .now) (c .before .before .before .before .before .before .before .before .before .before .before .before .before .before .before .before .before .before .before .args .second) ((c .before .before .before .before .before .before .before .before .before .before .before .before .before .before .before .before .before .before .before .args .second-list) .now) ((c .before .before .before .before .before .before .before .before .before .before .before .before .before .before .before .before .before .before .before .pre) .0) in ((c .before .before .before .before .before .before .before .before .before .before .before .before .before .before .before .before .before .before .before .pre) .0, (record { keys = (c .before .before .before .before .before .before .before .before .before .before .before .before .key-set .ensures); firsts = (c .before .before .before .before .before .before .before .before .before .before .before .before .before .note-starts .ensures) }, (record { keys = (c .before .before .before .before .before .before .before .before .key-set2 .ensures); firsts = (c .before .before .before .before .before .before .before .before .before .note-starts2 .ensures) }, (writing-block j ((c .before .before .before .before .before .before .before .loop .inv) j) (c .before .before .before .before .before .lower .ensures), ((c .before .before .before .before .before .before .loop-test .taken), writing-room j ((c .before .before .before .before .before .before .before .loop .inv) j) (c .before .before .before .before .before .lower .ensures) (c .before .before .before .before .before .before .loop-test .taken))))))
 
--- src/write.rt:290:9
 add-p : tie.Need-add-p Inv-loop μ-loop
 add-p c = let j = joinable (c .before .before .before .before .before .before .before .before .before .before .before .before .before .before .before .before .before .before .before .before .before .before .args .first) ((c .before .before .before .before .before .before .before .before .before .before .before .before .before .before .before .before .before .before .before .before .before .before .args .first-list) .now) (c .before .before .before .before .before .before .before .before .before .before .before .before .before .before .before .before .before .before .before .before .before .before .args .second) ((c .before .before .before .before .before .before .before .before .before .before .before .before .before .before .before .before .before .before .before .before .before .before .args .second-list) .now) ((c .before .before .before .before .before .before .before .before .before .before .before .before .before .before .before .before .before .before .before .before .before .before .pre) .0) in omega (arith, j .first .states-fit)
 
--- src/write.rt:272:5
 loop-less : tie.Need-loop-less Inv-loop μ-loop
 loop-less c = omega arith
 
--- src/write.rt:272:5
 loop-again : tie.Need-loop-again Inv-loop μ-loop
 loop-again c = λ j. writing-next j ((c .before .before .before .before .before .before .before .before .before .before .loop .inv) j) (c .before .before .before .before .before .before .before .before .lower .ensures) (c .before .before .before .before .before .before .before .before .before .loop-test .taken) _ (c .before .before .write-row .result) ((c .before .before .write-row .ensures) .0) ((c .before .before .write-row .ensures) .1)
 
--- src/write.rt:251:1
 same-length : tie.Need-same-length Inv-loop μ-loop
 same-length c = let j = joinable (c .before .before .before .before .before .before .before .before .before .before .before .before .before .args .first) ((c .before .before .before .before .before .before .before .before .before .before .before .before .before .args .first-list) .now) (c .before .before .before .before .before .before .before .before .before .before .before .before .before .args .second) ((c .before .before .before .before .before .before .before .before .before .before .before .before .before .args .second-list) .now) ((c .before .before .before .before .before .before .before .before .before .before .before .before .before .pre) .0) in (c .before .loop .inv) j .putting .size
 
--- src/write.rt:251:1
 returns : tie.Need-returns Inv-loop μ-loop
 returns c = let j = joinable (c .before .before .before .before .before .before .before .before .before .before .before .before .before .args .first) ((c .before .before .before .before .before .before .before .before .before .before .before .before .before .args .first-list) .now) (c .before .before .before .before .before .before .before .before .before .before .before .before .before .args .second) ((c .before .before .before .before .before .before .before .before .before .before .before .before .before .args .second-list) .now) ((c .before .before .before .before .before .before .before .before .before .before .before .before .before .pre) .0) in writing-end j ((c .before .loop .inv) j) (c .loop-test .left)
 

@@ -14,31 +14,24 @@ Inv-loop first first-list first-starts first-keys second second-list second-star
 abbrev μ-loop : tie.MeasureT-loop
 μ-loop first first-list first-starts first-keys second second-list second-starts second-keys p span list₀ k states at₀ r₀ list at r = states - r
 
--- src/write.rt:229:5
 loop-holds : tie.Need-loop-holds Inv-loop μ-loop
 loop-holds c = λ j. rowing-start j (c .before .before .before .args .p) (c .before .before .before .args .k) ((c .before .before .before .args .list) .now) ((c .before .before .before .pre) .1 .1 .1 .1 .1)
 
--- src/write.rt:230:9
 write-pair-requires : tie.Need-write-pair-requires Inv-loop μ-loop
 write-pair-requires c κs = let j = joinable (c .before .before .before .before .before .before .args .first) ((c .before .before .before .before .before .before .args .first-list) .now) (c .before .before .before .before .before .before .args .second) ((c .before .before .before .before .before .before .args .second-list) .now) ((c .before .before .before .before .before .before .pre) .0) in ((c .before .before .before .before .before .before .pre) .0, ((c .before .before .before .before .before .before .pre) .1 .0, ((c .before .before .before .before .before .before .pre) .1 .1 .0, ((c .before .before .before .before .before .before .pre) .1 .1 .1 .0, (((c .before .before .before .before .before .before .pre) .1 .1 .1 .1 .0, (c .before .loop-test .taken)), rowing-room j ((c .before .before .loop .inv) j) (c .before .loop-test .taken))))))
 
--- src/write.rt:245:9
 add-r : tie.Need-add-r Inv-loop μ-loop
 add-r c = let j = joinable (c .before .before .before .before .before .before .before .before .before .args .first) ((c .before .before .before .before .before .before .before .before .before .args .first-list) .now) (c .before .before .before .before .before .before .before .before .before .args .second) ((c .before .before .before .before .before .before .before .before .before .args .second-list) .now) ((c .before .before .before .before .before .before .before .before .before .pre) .0) in omega (arith, j .second .states-fit)
 
--- src/write.rt:229:5
 loop-less : tie.Need-loop-less Inv-loop μ-loop
 loop-less c = omega arith
 
--- src/write.rt:229:5
 loop-again : tie.Need-loop-again Inv-loop μ-loop
 loop-again c = λ j. rowing-next j ((c .before .before .before .before .before .loop .inv) j) (c .before .before .before .before .loop-test .taken) _ (c .before .before .write-pair .result) ((c .before .before .write-pair .ensures) .0) ((c .before .before .write-pair .ensures) .1)
 
--- src/write.rt:202:1
 same-length : tie.Need-same-length Inv-loop μ-loop
 same-length c = let j = joinable (c .before .before .before .before .before .args .first) ((c .before .before .before .before .before .args .first-list) .now) (c .before .before .before .before .before .args .second) ((c .before .before .before .before .before .args .second-list) .now) ((c .before .before .before .before .before .pre) .0) in (c .before .loop .inv) j .putting .size
 
--- src/write.rt:202:1
 returns : tie.Need-returns Inv-loop μ-loop
 returns c = let j = joinable (c .before .before .before .before .before .args .first) ((c .before .before .before .before .before .args .first-list) .now) (c .before .before .before .before .before .args .second) ((c .before .before .before .before .before .args .second-list) .now) ((c .before .before .before .before .before .pre) .0) in rowing-end j ((c .before .loop .inv) j) (c .loop-test .left)
 

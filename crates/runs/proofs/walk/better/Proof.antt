@@ -9,39 +9,30 @@ use Rattle.runs.proofs.walk.better.Reads as reads
 use Rattle.runs.proofs.walk.better.Lts as lts
 use Rattle.fsbm.proofs.machine.is_initial.Reads as is-initial-reads
 
--- src/walk.rt:255:9
 is-initial-requires : tie.Need-is-initial-requires
 is-initial-requires c κs = search needs
 
--- src/walk.rt:256:9
 returns : tie.Need-returns
 returns c = start-skip ((c .before .before .before .before .args) .t1) (((c .before .before .before .before .args) .row) .now) _ _ (((c .before .before .before .before .pre)) .2) _ ((c .before .is-initial) .ensures) (not-true _ ((c .if1) .taken))
 
--- src/walk.rt:259:9
 returns-2 : tie.Need-returns-2
 returns-2 c = start-takes ((c .before .before .before .before .before .args) .t1) (((c .before .before .before .before .before .args) .row) .now) _ _ (((c .before .before .before .before .before .pre)) .2) _ ((c .before .before .is-initial) .ensures) (not-false _ ((c .before .if1) .left)) (((c .before .before .before .before .before .pre)) .1) (λ l. absurd (omega (arith, l, ((c .if2) .taken))))
 
--- src/walk.rt:261:8
 mul-if3 : tie.Need-mul-if3
 mul-if3 c = search needs
 
--- src/walk.rt:261:8
 element-copy-out-if3 : tie.Need-element-copy-out-if3
 element-copy-out-if3 c = search needs
 
--- src/walk.rt:261:17
 mul-if3-2 : tie.Need-mul-if3-2
 mul-if3-2 c = search needs
 
--- src/walk.rt:261:17
 element-copy-out-if3-2 : tie.Need-element-copy-out-if3-2
 element-copy-out-if3-2 c = search needs
 
--- src/walk.rt:262:9
 returns-3 : tie.Need-returns-3
 returns-3 c = start-takes ((c .before .before .before .before .before .before .before .before .args) .t1) (((c .before .before .before .before .before .before .before .before .args) .row) .now) _ _ (((c .before .before .before .before .before .before .before .before .pre)) .2) _ ((c .before .before .before .before .before .is-initial) .ensures) (not-false _ ((c .before .before .before .before .if1) .left)) (((c .before .before .before .before .before .before .before .before .pre)) .1) (λ l. omega (arith, ((c .if3) .taken)))
 
--- src/walk.rt:251:1
 returns-4 : tie.Need-returns-4
 returns-4 c = start-keeps ((c .before .before .before .before .before .before .before .before .args) .t1) (((c .before .before .before .before .before .before .before .before .args) .row) .now) _ _ (((c .before .before .before .before .before .before .before .before .pre)) .2) ((c .before .before .before .if2) .left) ((c .if3) .left)
 

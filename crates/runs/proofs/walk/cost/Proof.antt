@@ -10,75 +10,57 @@ use Rattle.runs.proofs.walk.cost.Reads as reads
 use Rattle.runs.proofs.walk.cost.Lts as lts
 use Rattle.runs.proofs.walk.number.Reads as number-reads
 
--- src/walk.rt:56:35
 enum-told : tie.Need-enum-told
 enum-told c = search needs
 
--- src/walk.rt:56:35
 mul-number : tie.Need-mul-number
 mul-number c = let P = placed ((c .before .before .before .before .args) .m) (((c .before .before .before .before .args) .word) .now) ((c .before .before .before .before .args) .c) (((c .before .before .before .before .pre)) .1) in omega (arith, P .in-word, ((c .before .before .before .before .pre)) .2 .sized .places, ((c .before .before .before .before .good)))
 
--- src/walk.rt:56:25
 number-requires : tie.Need-number-requires
 number-requires c κs = let P = placed ((c .before .before .before .before .args) .m) (((c .before .before .before .before .args) .word) .now) ((c .before .before .before .before .args) .c) (((c .before .before .before .before .pre)) .1) in (omega (arith, P .in-word, ((c .before .before .before .before .pre)) .2 .sized .places), omega (arith, P .state-below, ((c .before .before .before .before .pre)) .0))
 
--- src/walk.rt:58:21
 enum-told-2 : tie.Need-enum-told-2
 enum-told-2 c = search needs
 
--- src/walk.rt:58:21
 sub-d : tie.Need-sub-d
 sub-d c = let P = placed ((c .before .before .before .before .args) .m) (((c .before .before .before .before .args) .word) .now) ((c .before .before .before .before .args) .c) (((c .before .before .before .before .pre)) .1) in omega (arith, P .forward, P .behind)
 
--- src/walk.rt:60:34
 mul-number-2 : tie.Need-mul-number-2
 mul-number-2 c = let P = placed ((c .before .before .before .before .before .args) .m) (((c .before .before .before .before .before .args) .word) .now) ((c .before .before .before .before .before .args) .c) (((c .before .before .before .before .before .pre)) .1) in omega (arith, P .in-word, ((c .before .before .before .before .before .pre)) .2 .sized .places, ((c .before .before .before .before .before .good)))
 
--- src/walk.rt:60:34
 add-number : tie.Need-add-number
 add-number c = let P = placed ((c .before .before .before .before .before .args) .m) (((c .before .before .before .before .before .args) .word) .now) ((c .before .before .before .before .before .args) .c) (((c .before .before .before .before .before .pre)) .1) in omega (arith, P .in-word, ((c .before .before .before .before .before .pre)) .2 .sized .places, ((c .before .before .before .before .before .good)))
 
--- src/walk.rt:60:17
 number-requires-2 : tie.Need-number-requires-2
 number-requires-2 c κs = let P = placed ((c .before .before .before .before .before .args) .m) (((c .before .before .before .before .before .args) .word) .now) ((c .before .before .before .before .before .args) .c) (((c .before .before .before .before .before .pre)) .1) in (omega (arith, P .in-word, ((c .before .before .before .before .before .pre)) .2 .sized .places), omega (arith, P .state-below, ((c .before .before .before .before .before .pre)) .0))
 
--- src/walk.rt:60:17
 returns : tie.Need-returns
 returns c = let P = placed ((c .before .before .before .before .before .before .args) .m) (((c .before .before .before .before .before .before .args) .word) .now) ((c .before .before .before .before .before .before .args) .c) (((c .before .before .before .before .before .before .pre)) .1) in best-at _ _ ((c .number2) .ensures) (best-begun _ _ _ _ _ _ _ _ (((c .before .before .before .before .before .before .pre)) .2) P (((c .before .before .enum-told2) .given) .1) ((c .before .if1) .taken))
 
--- src/walk.rt:62:29
 add-if2 : tie.Need-add-if2
 add-if2 c = let P = placed ((c .before .before .before .before .before .args) .m) (((c .before .before .before .before .before .args) .word) .now) ((c .before .before .before .before .before .args) .c) (((c .before .before .before .before .before .pre)) .1) in omega (arith, P .in-word, P .forward, P .behind, ((c .before .before .before .before .before .pre)) .2 .sized .places, ((c .before .before .before .before .before .good)))
 
--- src/walk.rt:63:17
 returns-2 : tie.Need-returns-2
 returns-2 c = let P = placed ((c .before .before .before .before .before .before .args) .m) (((c .before .before .before .before .before .before .args) .word) .now) ((c .before .before .before .before .before .before .args) .c) (((c .before .before .before .before .before .before .pre)) .1) in best-past _ _ _ _ _ _ _ _ (((c .before .before .before .before .before .before .pre)) .2) P (((c .before .before .enum-told2) .given) .1) (((c .before .before .before .before .before .before .pre)) .0) ((c .if2) .taken)
 
--- src/walk.rt:65:13
 number-requires-3 : tie.Need-number-requires-3
 number-requires-3 c κs = let P = placed ((c .before .before .before .before .before .before .args) .m) (((c .before .before .before .before .before .before .args) .word) .now) ((c .before .before .before .before .before .before .args) .c) (((c .before .before .before .before .before .before .pre)) .1) in (omega (arith, P .forward, P .behind, ((c .if2) .left), ((c .before .before .before .before .before .before .pre)) .2 .sized .stored-rows), omega (arith, P .state-below, ((c .before .before .before .before .before .before .pre)) .0))
 
--- src/walk.rt:67:43
 enum-told-3 : tie.Need-enum-told-3
 enum-told-3 c = search needs
 
--- src/walk.rt:67:43
 sub-number : tie.Need-sub-number
 sub-number c = let P = placed ((c .before .before .before .before .args) .m) (((c .before .before .before .before .args) .word) .now) ((c .before .before .before .before .args) .c) (((c .before .before .before .before .pre)) .1) in omega (arith, P .forward)
 
--- src/walk.rt:67:27
 number-requires-4 : tie.Need-number-requires-4
 number-requires-4 c κs = let P = placed ((c .before .before .before .before .args) .m) (((c .before .before .before .before .args) .word) .now) ((c .before .before .before .before .args) .c) (((c .before .before .before .before .pre)) .1) in (omega (arith, P .forward, P .behind, ((c .before .before .before .before .pre)) .2 .matching (((c .enum-told3) .given) .1) .inside, ((c .before .before .before .before .pre)) .2 .sized .emptied-rows), omega (arith, P .state-below, ((c .before .before .before .before .pre)) .0))
 
--- src/walk.rt:37:1
 returns-3 : tie.Need-returns-3
 returns-3 c = let P = placed ((c .before .before .before .before .before .args) .m) (((c .before .before .before .before .before .args) .word) .now) ((c .before .before .before .before .before .args) .c) (((c .before .before .before .before .before .pre)) .1) in best-at _ _ ((c .number) .ensures) (best-normal _ _ _ _ _ _ _ _ (((c .before .before .before .before .before .pre)) .2) P (((c .before .enum-told) .given) .1))
 
--- src/walk.rt:37:1
 returns-4 : tie.Need-returns-4
 returns-4 c = let P = placed ((c .before .before .before .before .before .before .before .args) .m) (((c .before .before .before .before .before .before .before .args) .word) .now) ((c .before .before .before .before .before .before .before .args) .c) (((c .before .before .before .before .before .before .before .pre)) .1) in best-at _ _ ((c .number3) .ensures) (best-buffering _ _ _ _ _ _ _ _ (((c .before .before .before .before .before .before .before .pre)) .2) P (((c .before .before .before .enum-told2) .given) .1) (omega (arith, ((c .before .before .if1) .left))) ((c .before .if2) .left))
 
--- src/walk.rt:37:1
 returns-5 : tie.Need-returns-5
 returns-5 c = let P = placed ((c .before .before .before .before .before .args) .m) (((c .before .before .before .before .before .args) .word) .now) ((c .before .before .before .before .before .args) .c) (((c .before .before .before .before .before .pre)) .1) in best-at _ _ ((c .number4) .ensures) (best-emptying _ _ _ _ _ _ _ _ (((c .before .before .before .before .before .pre)) .2) P (((c .before .enum-told3) .given) .1))
 

@@ -9,23 +9,18 @@ use Rattle.runs.proofs.walk.entry.Lts as lts
 use Rattle.runs.proofs.walk.change_entry.Reads as change-entry-reads
 use Rattle.runs.proofs.walk.scan.Reads as scan-reads
 
--- src/walk.rt:166:9
 scan-requires : tie.Need-scan-requires
 scan-requires c κs = search needs
 
--- src/walk.rt:168:16
 cast-result : tie.Need-cast-result
 cast-result c = omega (arith, ((c .if1) .taken), rules _ _ (((c .before .before .before .before .before .pre)) .0) .transitions-fit)
 
--- src/walk.rt:168:9
 returns : tie.Need-returns
 returns c = entry-found ((c .before .before .before .before .before .args) .m) (((c .before .before .before .before .before .args) .list) .now) (((c .before .before .before .before .before .args) .sets) .now) (((c .before .before .before .before .before .args) .word) .now) _ _ _ ((c .before .before .scan) .ensures) ((c .if1) .taken)
 
--- src/walk.rt:171:5
 change-entry-requires : tie.Need-change-entry-requires
 change-entry-requires c κs = search needs
 
--- src/walk.rt:150:1
 returns-2 : tie.Need-returns-2
 returns-2 c = entry-change ((c .before .before .before .before .before .before .args) .m) (((c .before .before .before .before .before .before .args) .list) .now) (((c .before .before .before .before .before .before .args) .sets) .now) (((c .before .before .before .before .before .before .args) .word) .now) _ _ _ ((c .before .before .before .scan) .ensures) ((c .before .if1) .left) (((c .before .before .before .before .before .before .pre)) .0) (((c .before .before .before .before .before .before .pre)) .1) (((c .before .before .before .before .before .before .pre)) .3) (((c .before .before .before .before .before .before .pre)) .4) _ ((c .change-entry) .ensures)
 

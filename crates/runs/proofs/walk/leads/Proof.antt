@@ -12,35 +12,27 @@ use Rattle.fsbm.proofs.config.Config.moved.Reads as moved-reads
 use Rattle.fsbm.proofs.machine.transition_at.Reads as transition-at-reads
 use Rattle.runs.proofs.walk.cost.Reads as cost-reads
 
--- src/walk.rt:88:9
 transition-at-requires : tie.Need-transition-at-requires
 transition-at-requires c κs = search needs
 
--- src/walk.rt:90:8
 cast-if1 : tie.Need-cast-if1
 cast-if1 c = search needs
 
--- src/walk.rt:91:9
 returns : tie.Need-returns
 returns c = leads-elsewhere ((c .before .before .before .before .before .args) .t1) (((c .before .before .before .before .before .args) .list) .now) (((c .before .before .before .before .before .args) .sets) .now) (((c .before .before .before .before .before .args) .word) .now) _ _ _ (((c .before .before .before .before .before .pre)) .3) _ ((c .before .before .transition-at) .ensures) ((c .if1) .taken)
 
--- src/walk.rt:93:68
 cast-moved : tie.Need-cast-moved
 cast-moved c = omega (arith, ((c .before .before .before .before .before .before .before .pre)) .3, rules _ _ (((c .before .before .before .before .before .before .before .pre)) .0) .transitions-fit)
 
--- src/walk.rt:93:9
 moved-requires : tie.Need-moved-requires
 moved-requires c κs = search needs
 
--- src/walk.rt:95:9
 returns-2 : tie.Need-returns-2
 returns-2 c = leads-not ((c .before .before .before .before .before .before .before .before .before .before .args) .t1) (((c .before .before .before .before .before .before .before .before .before .before .args) .list) .now) (((c .before .before .before .before .before .before .before .before .before .before .args) .sets) .now) (((c .before .before .before .before .before .before .before .before .before .before .args) .word) .now) _ _ _ (((c .before .before .moved) .ensures) ((c .before .before .before .before .before .before .before .before .before .before .args) .t1) refl refl refl) _ (not-true _ ((c .if2) .taken))
 
--- src/walk.rt:98:9
 cost-requires : tie.Need-cost-requires
 cost-requires c κs = let n = leads-next ((c .before .before .before .before .before .before .before .before .before .before .before .args) .t1) (((c .before .before .before .before .before .before .before .before .before .before .before .args) .list) .now) (((c .before .before .before .before .before .before .before .before .before .before .before .args) .sets) .now) (((c .before .before .before .before .before .before .before .before .before .before .before .args) .word) .now) _ _ _ (((c .before .before .before .moved) .ensures) ((c .before .before .before .before .before .before .before .before .before .before .before .args) .t1) refl refl refl) _ _ _ (((c .before .before .before .before .before .before .before .before .before .before .before .pre)) .0) (((c .before .before .before .before .before .before .before .before .before .before .before .pre)) .1) (((c .before .before .before .before .before .before .before .before .before .before .before .pre)) .2) (((c .before .before .before .before .before .before .before .before .before .before .before .pre)) .3) (not-false _ ((c .before .if2) .left)) in (rules _ _ (((c .before .before .before .before .before .before .before .before .before .before .before .pre)) .0) .states-fit, n .0, n .1)
 
--- src/walk.rt:72:1
 returns-3 : tie.Need-returns-3
 returns-3 c = leads-said ((c .before .before .before .before .before .before .before .before .before .before .before .before .args) .t1) (((c .before .before .before .before .before .before .before .before .before .before .before .before .args) .list) .now) (((c .before .before .before .before .before .before .before .before .before .before .before .before .args) .sets) .now) (((c .before .before .before .before .before .before .before .before .before .before .before .before .args) .word) .now) _ _ _ (((c .before .before .before .before .moved) .ensures) ((c .before .before .before .before .before .before .before .before .before .before .before .before .args) .t1) refl refl refl) _ _ (not-false _ ((c .before .before .if2) .left)) ((c .cost) .ensures)
 

@@ -13,63 +13,48 @@ use Rattle.tables.proofs.copy.buffering_rows.Reads as buffering-rows-reads
 use Rattle.tables.proofs.copy.emptying_rows.Reads as emptying-rows-reads
 use Rattle.tables.proofs.copy.load.Reads as load-reads
 
--- src/walk.rt:193:9
 returns : tie.Need-returns
 returns c = refresh-kept _ _ _ _ _ _ _ _ _ (((c .before .before .before .before .pre)) .1) ((c .if1) .taken)
 
--- src/walk.rt:200:13
 buffering-rows-requires : tie.Need-buffering-rows-requires
 buffering-rows-requires c κs = (((c .before .before .before .before .before .before .before .pre)) .0, ((c .before .if3) .taken), ((c .before .before .before .before .before .before .before .pre)) .1 .sized .places, ((c .before .before .before .before .before .before .before .pre)) .1 .sized .stored-rows, λ p a b. ((c .before .before .before .before .before .before .before .pre)) .1 .places p b)
 
--- src/walk.rt:202:9
 same-length : tie.Need-same-length
 same-length c = ((c .before .buffering-rows) .ensures) .size
 
--- src/walk.rt:202:9
 returns-2 : tie.Need-returns-2
 returns-2 c = refresh-buffering _ _ _ _ _ _ _ _ _ (((c .before .before .before .before .before .before .before .before .before .pre)) .1) _ ((c .before .before .before .before .if2) .taken) ((c .before .buffering-rows) .ensures)
 
--- src/walk.rt:202:9
 returns-3 : tie.Need-returns-3
 returns-3 c = refresh-end _ _ _ _ _ _ _ _ _ (((c .before .before .before .before .before .before .pre)) .1) ((c .before .if2) .taken) ((c .if3) .left)
 
--- src/walk.rt:205:17
 sub-d : tie.Need-sub-d
 sub-d c = omega (arith, ((c .before .before .before .before .before .before .pre)) .1 .placed .0)
 
--- src/walk.rt:206:35
 add-load : tie.Need-add-load
 add-load c = omega (arith, ((c .before .before .before .before .before .before .pre)) .1 .matching ((c .if4) .taken) .1, ((c .before .before .before .before .before .before .pre)) .1 .sized .places, ((c .before .before .before .before .before .before .good)))
 
--- src/walk.rt:206:34
 mul-load : tie.Need-mul-load
 mul-load c = omega (arith, ((c .before .before .before .before .before .before .pre)) .1 .matching ((c .if4) .taken) .1, ((c .before .before .before .before .before .before .pre)) .1 .sized .places, ((c .before .before .before .before .before .before .good)))
 
--- src/walk.rt:206:34
 add-load-2 : tie.Need-add-load-2
 add-load-2 c = omega (arith, ((c .before .before .before .before .before .before .pre)) .1 .matching ((c .if4) .taken) .1, ((c .before .before .before .before .before .before .pre)) .1 .sized .places, ((c .before .before .before .before .before .before .good)))
 
--- src/walk.rt:206:13
 load-requires : tie.Need-load-requires
 load-requires c κs = omega (arith, ((c .before .before .before .before .before .before .pre)) .1 .matching ((c .if4) .taken) .1, ((c .before .before .before .before .before .before .pre)) .1 .sized .places)
 
--- src/walk.rt:207:71
 add-emptying-rows : tie.Need-add-emptying-rows
 add-emptying-rows c = omega (arith, ((c .before .before .before .before .before .before .before .pre)) .1 .matching ((c .before .if4) .taken) .1, ((c .before .before .before .before .before .before .before .pre)) .1 .sized .places, ((c .before .before .before .before .before .before .before .good)))
 
--- src/walk.rt:207:9
 emptying-rows-requires : tie.Need-emptying-rows-requires
 emptying-rows-requires c κs = (((c .before .before .before .before .before .before .before .before .pre)) .0, omega arith, ((c .before .before .before .before .before .before .before .before .pre)) .1 .matching ((c .before .before .if4) .taken) .1, omega (arith, ((c .before .before .before .before .before .before .before .before .pre)) .1 .matching ((c .before .before .if4) .taken) .1, ((c .before .before .before .before .before .before .before .before .pre)) .1 .sized .emptied-rows, ((c .before .before .before .before .before .before .before .before .pre)) .1 .placed .0, ((c .before .before .before .before .before .before .before .before .pre)) .1 .placed .1), subst (EmptyRow ((c .before .before .before .before .before .before .before .before .args) .m) (((c .before .before .before .before .before .before .before .before .args) .list) .now) (((c .before .before .before .before .before .before .before .before .args) .sets) .now) (((c .before .before .before .before .before .before .before .before .args) .word) .now) (((c .before .before .before .before .before .before .before .before .args) .c) .position + (((c .before .before .before .before .before .before .before .before .args) .c) .end - ((c .before .before .before .before .before .before .before .before .args) .c) .start)) 0) (sym ((c .before .load) .ensures)) (empty-start ((c .before .before .before .before .before .before .before .before .args) .m) (((c .before .before .before .before .before .before .before .before .args) .list) .now) (((c .before .before .before .before .before .before .before .before .args) .sets) .now) (((c .before .before .before .before .before .before .before .before .args) .word) .now) (((c .before .before .before .before .before .before .before .before .args) .t) .now) (((c .before .before .before .before .before .before .before .before .args) .c) .position + (((c .before .before .before .before .before .before .before .before .args) .c) .end - ((c .before .before .before .before .before .before .before .before .args) .c) .start)) (((c .before .before .before .before .before .before .before .before .pre)) .1 .places (((c .before .before .before .before .before .before .before .before .args) .c) .position + (((c .before .before .before .before .before .before .before .before .args) .c) .end - ((c .before .before .before .before .before .before .before .before .args) .c) .start)) (((c .before .before .before .before .before .before .before .before .pre)) .1 .matching ((c .before .before .if4) .taken) .1))))
 
--- src/walk.rt:175:1
 same-length-2 : tie.Need-same-length-2
 same-length-2 c = ((c .before .emptying-rows) .ensures) .size
 
--- src/walk.rt:175:1
 returns-4 : tie.Need-returns-4
 returns-4 c = refresh-emptying _ _ _ _ _ _ _ _ _ (((c .before .before .before .before .before .before .before .before .before .before .pre)) .1) _ ((c .before .before .before .before .if4) .taken) ((c .before .emptying-rows) .ensures)
 
--- src/walk.rt:175:1
 returns-5 : tie.Need-returns-5
 returns-5 c = refresh-normal _ _ _ _ _ _ _ _ _ (((c .before .before .before .before .before .before .pre)) .1) (omega (arith, ((c .before .before .if1) .left), ((c .before .if2) .left), ((c .if4) .left), ((c .before .before .before .before .before .before .fits))))
 

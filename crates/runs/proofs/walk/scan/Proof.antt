@@ -18,59 +18,45 @@ Inv-loop m list first sets word c t emptied stored d q end k₀ k = (k ≤ m .tr
 abbrev μ-loop : tie.MeasureT-loop
 μ-loop m list first sets word c t emptied stored d q end k₀ k = m .transitions - k
 
--- src/walk.rt:127:26
 add-wide : tie.Need-add-wide Inv-loop μ-loop
 add-wide c = let P = placed ((c .before .before .args) .m) (((c .before .before .args) .word) .now) ((c .before .before .args) .c) (((c .before .before .pre)) .1) in omega (arith, P .state-below, rules _ _ (((c .before .before .pre)) .0) .states-fit)
 
--- src/walk.rt:127:20
 mul-wide : tie.Need-mul-wide Inv-loop μ-loop
 mul-wide c = let P = placed ((c .before .before .args) .m) (((c .before .before .args) .word) .now) ((c .before .before .args) .c) (((c .before .before .pre)) .1) in omega (arith, P .state-below, rules _ _ (((c .before .before .pre)) .0) .states-fit)
 
--- src/walk.rt:127:20
 element-copy-out-wide : tie.Need-element-copy-out-wide Inv-loop μ-loop
 element-copy-out-wide c = let P = placed ((c .before .before .args) .m) (((c .before .before .args) .word) .now) ((c .before .before .args) .c) (((c .before .before .pre)) .1) in omega (arith, P .state-below, rules _ _ (((c .before .before .pre)) .0) .states-fit)
 
--- src/walk.rt:127:9
 wide-requires : tie.Need-wide-requires Inv-loop μ-loop
 wide-requires c κs = search needs
 
--- src/walk.rt:128:22
 mul-wide-2 : tie.Need-mul-wide-2 Inv-loop μ-loop
 mul-wide-2 c = let P = placed ((c .before .before .before .before .args) .m) (((c .before .before .before .before .args) .word) .now) ((c .before .before .before .before .args) .c) (((c .before .before .before .before .pre)) .1) in omega (arith, P .state-below, rules _ _ (((c .before .before .before .before .pre)) .0) .states-fit)
 
--- src/walk.rt:128:22
 element-copy-out-wide-2 : tie.Need-element-copy-out-wide-2 Inv-loop μ-loop
 element-copy-out-wide-2 c = let P = placed ((c .before .before .before .before .args) .m) (((c .before .before .before .before .args) .word) .now) ((c .before .before .before .before .args) .c) (((c .before .before .before .before .pre)) .1) in omega (arith, P .state-below, rules _ _ (((c .before .before .before .before .pre)) .0) .states-fit)
 
--- src/walk.rt:128:9
 wide-requires-2 : tie.Need-wide-requires-2 Inv-loop μ-loop
 wide-requires-2 c κs = search needs
 
--- src/walk.rt:129:5
 loop-holds : tie.Need-loop-holds Inv-loop μ-loop
 loop-holds c = let P = placed ((c .before .before .before .before .before .before .args) .m) (((c .before .before .before .before .before .before .args) .word) .now) ((c .before .before .before .before .before .before .args) .c) (((c .before .before .before .before .before .before .pre)) .1) in (omega (arith, ((c .wide2) .ensures), ((c .before .before .before .before .before .before .pre)) .3 .within (((c .before .before .before .before .before .before .args) .c) .state) (omega (arith, P .state-below))), subst (Passed ((c .before .before .before .before .before .before .args) .m) (((c .before .before .before .before .before .before .args) .list) .now) (((c .before .before .before .before .before .before .args) .sets) .now) (((c .before .before .before .before .before .before .args) .word) .now) ((c .before .before .before .before .before .before .args) .c) ((c .before .before .before .before .before .before .args) .d)) (sym ((c .wide2) .ensures)) (scan-start ((c .before .before .before .before .before .before .args) .m) (((c .before .before .before .before .before .before .args) .list) .now) (((c .before .before .before .before .before .before .args) .sets) .now) (((c .before .before .before .before .before .before .args) .word) .now) ((c .before .before .before .before .before .before .args) .c) ((c .before .before .before .before .before .before .args) .d) (((c .before .before .before .before .before .before .args) .first) .now) (((c .before .before .before .before .before .before .pre)) .3) (omega (arith, P .state-below))))
 
--- src/walk.rt:130:12
 leads-requires : tie.Need-leads-requires Inv-loop μ-loop
 leads-requires c κs = let P = placed ((c .before .before .before .before .before .before .before .before .args) .m) (((c .before .before .before .before .before .before .before .before .args) .word) .now) ((c .before .before .before .before .before .before .before .before .args) .c) (((c .before .before .before .before .before .before .before .before .pre)) .1) in (((c .before .before .before .before .before .before .before .before .pre)) .0, ((c .before .before .before .before .before .before .before .before .pre)) .1, ((c .before .before .before .before .before .before .before .before .pre)) .2, omega (arith, ((c .loop-test) .taken), ((c .before .before .before .before .wide) .ensures), ((c .before .before .before .before .before .before .before .before .pre)) .3 .within (((c .before .before .before .before .before .before .before .before .args) .c) .state + 1) (omega (arith, P .state-below))))
 
--- src/walk.rt:131:13
 returns : tie.Need-returns Inv-loop μ-loop
 returns c = let P = placed ((c .before .before .before .before .before .before .before .before .before .before .args) .m) (((c .before .before .before .before .before .before .before .before .before .before .args) .word) .now) ((c .before .before .before .before .before .before .before .before .before .before .args) .c) (((c .before .before .before .before .before .before .before .before .before .before .pre)) .1) in scan-found _ _ _ _ _ _ _ _ (omega (arith, ((c .before .before .loop-test) .taken), ((c .before .before .before .before .before .before .wide) .ensures), ((c .before .before .before .before .before .before .before .before .before .before .pre)) .3 .within (((c .before .before .before .before .before .before .before .before .before .before .args) .c) .state + 1) (omega (arith, P .state-below)))) (((c .before .before .before .loop) .inv) .1) ((c .before .leads) .ensures) ((c .if1) .taken)
 
--- src/walk.rt:133:9
 add-k : tie.Need-add-k Inv-loop μ-loop
 add-k c = omega (arith, ((c .before .before .before .loop) .inv) .0, rules _ _ (((c .before .before .before .before .before .before .before .before .before .before .pre)) .0) .transitions-fit)
 
--- src/walk.rt:129:5
 loop-less : tie.Need-loop-less Inv-loop μ-loop
 loop-less c = let P = placed ((c .before .before .before .before .before .before .before .before .before .before .args) .m) (((c .before .before .before .before .before .before .before .before .before .before .args) .word) .now) ((c .before .before .before .before .before .before .before .before .before .before .args) .c) (((c .before .before .before .before .before .before .before .before .before .before .pre)) .1) in omega (arith, ((c .before .before .loop-test) .taken), ((c .before .before .before .before .before .before .wide) .ensures), ((c .before .before .before .before .before .before .before .before .before .before .pre)) .3 .within (((c .before .before .before .before .before .before .before .before .before .before .args) .c) .state + 1) (omega (arith, P .state-below)))
 
--- src/walk.rt:129:5
 loop-again : tie.Need-loop-again Inv-loop μ-loop
 loop-again c = let P = placed ((c .before .before .before .before .before .before .before .before .before .before .args) .m) (((c .before .before .before .before .before .before .before .before .before .before .args) .word) .now) ((c .before .before .before .before .before .before .before .before .before .before .args) .c) (((c .before .before .before .before .before .before .before .before .before .before .pre)) .1) in (omega (arith, ((c .before .before .loop-test) .taken), ((c .before .before .before .before .before .before .wide) .ensures), ((c .before .before .before .before .before .before .before .before .before .before .pre)) .3 .within (((c .before .before .before .before .before .before .before .before .before .before .args) .c) .state + 1) (omega (arith, P .state-below))), scan-more _ _ _ _ _ _ _ _ (((c .before .before .before .loop) .inv) .1) ((c .before .leads) .ensures) ((c .if1) .left))
 
--- src/walk.rt:110:1
 returns-2 : tie.Need-returns-2 Inv-loop μ-loop
 returns-2 c = let P = placed ((c .before .before .before .before .before .before .before .before .args) .m) (((c .before .before .before .before .before .before .before .before .args) .word) .now) ((c .before .before .before .before .before .before .before .before .args) .c) (((c .before .before .before .before .before .before .before .before .pre)) .1) in scan-none ((c .before .before .before .before .before .before .before .before .args) .m) (((c .before .before .before .before .before .before .before .before .args) .list) .now) (((c .before .before .before .before .before .before .before .before .args) .sets) .now) (((c .before .before .before .before .before .before .before .before .args) .word) .now) ((c .before .before .before .before .before .before .before .before .args) .c) ((c .before .before .before .before .before .before .before .before .args) .d) (((c .before .before .before .before .before .before .before .before .args) .first) .now) _ (((c .before .before .before .before .before .before .before .before .pre)) .3) (omega (arith, P .state-below)) (omega (arith, ((c .loop-test) .left), ((c .before .before .before .before .wide) .ensures))) (((c .before .loop) .inv) .1)
 

@@ -14,27 +14,21 @@ Inv-loop m row b₀ q₀ b q = (q ≤ m .states) × Started m row q b
 abbrev μ-loop : tie.MeasureT-loop
 μ-loop m row b₀ q₀ b q = m .states - q
 
--- src/walk.rt:274:5
 loop-holds : tie.Need-loop-holds Inv-loop μ-loop
 loop-holds c = (omega arith, start-begin _ _)
 
--- src/walk.rt:275:9
 better-requires : tie.Need-better-requires Inv-loop μ-loop
 better-requires c κs = (((c .before .before .before .pre)), ((c .if1) .taken), ((c .before .before .loop) .inv) .1)
 
--- src/walk.rt:276:9
 add-q : tie.Need-add-q Inv-loop μ-loop
 add-q c = omega (arith, ((c .before .if1) .taken), ((c .before .before .before .before .pre)))
 
--- src/walk.rt:274:5
 loop-less : tie.Need-loop-less Inv-loop μ-loop
 loop-less c = omega (arith, ((c .before .if1) .taken))
 
--- src/walk.rt:274:5
 loop-again : tie.Need-loop-again Inv-loop μ-loop
 loop-again c = (omega (arith, ((c .before .if1) .taken)), ((c .better) .ensures))
 
--- src/walk.rt:268:1
 returns : tie.Need-returns Inv-loop μ-loop
 returns c = start-end _ _ _ _ ((c .if1) .left) (((c .before .before .loop) .inv) .1)
 

@@ -23,71 +23,54 @@ Inv-loop list targets g h sets first word q moves t emptied₀ stored₀ run₀ 
 abbrev μ-loop : tie.MeasureT-loop
 μ-loop list targets g h sets first word q moves t emptied₀ stored₀ run₀ m c₀ d₀ k₀ emptied stored run c d k = d
 
--- src/walk.rt:233:14
 cast-run : tie.Need-cast-run Inv-loop μ-loop
 cast-run c = omega (arith, ((c .before .before .before .before .pre)) .1, rules _ _ (((c .before .before .before .before .pre)) .0) .states-fit)
 
--- src/walk.rt:233:5
 slice-write-run : tie.Need-slice-write-run Inv-loop μ-loop
 slice-write-run c = omega (arith, ((c .before .before .before .before .pre)) .7)
 
--- src/walk.rt:234:9
 start-at-requires : tie.Need-start-at-requires Inv-loop μ-loop
 start-at-requires c κs = search needs
 
--- src/walk.rt:237:5
 loop-holds : tie.Need-loop-holds Inv-loop μ-loop
 loop-holds c = (walk-start ((c .before .before .before .before .before .args) .t1) (((c .before .before .before .before .before .args) .list) .now) (((c .before .before .before .before .before .args) .sets) .now) (((c .before .before .before .before .before .args) .word) .now) (((c .before .before .before .before .before .args) .t) .now) _ _ (((c .before .before .before .before .before .args) .run) .now) ((c .before .before .before .before .before .args) .q) ((c .before .before .before .before .before .args) .moves) (((c .before .before .before .before .before .pre)) .1) (((c .before .before .before .before .before .pre)) .2) (((c .before .before .before .before .before .pre)) .3) (((c .before .before .before .before .before .pre)) .4) (((c .before .before .before .before .before .pre)) .5) (((c .before .before .before .before .before .pre)) .6) (((c .before .before .before .before .before .pre)) .7) (((c .before .before .before .before .before .pre)) .8) _ ((c .start-at) .ensures), refl, refl)
 
--- src/walk.rt:238:9
 sub-d : tie.Need-sub-d Inv-loop μ-loop
 sub-d c = omega (arith, ((c .loop-test) .taken))
 
--- src/walk.rt:239:13
 entry-requires : tie.Need-entry-requires Inv-loop μ-loop
 entry-requires c κs = let f = walk-entry _ _ _ _ _ _ _ _ _ _ _ _ ((c .before .before .loop-test) .taken) (((c .before .before .before .loop) .inv) .0) in (((c .before .before .before .before .before .before .before .before .before .pre)) .0, ((c .before .before .before .loop) .inv) .0 .placed-there, ((c .before .before .before .loop) .inv) .0 .ready, f .0, f .1, ((c .before .before .before .before .before .before .before .before .before .pre)) .10)
 
--- src/walk.rt:240:13
 moved-requires : tie.Need-moved-requires Inv-loop μ-loop
 moved-requires c κs = search needs
 
--- src/walk.rt:242:9
 refresh-requires : tie.Need-refresh-requires Inv-loop μ-loop
 refresh-requires c κs = (((c .before .before .before .before .before .before .before .before .before .before .before .before .before .before .before .before .pre)) .9, walk-refresh ((c .before .before .before .before .before .before .before .before .before .before .before .before .before .before .before .before .args) .t1) (((c .before .before .before .before .before .before .before .before .before .before .before .before .before .before .before .before .args) .list) .now) (((c .before .before .before .before .before .before .before .before .before .before .before .before .before .before .before .before .args) .sets) .now) (((c .before .before .before .before .before .before .before .before .before .before .before .before .before .before .before .before .args) .word) .now) (((c .before .before .before .before .before .before .before .before .before .before .before .before .before .before .before .before .pre)) .0) (((c .before .before .before .before .before .before .before .before .before .before .before .before .before .before .before .before .args) .t) .now) _ _ _ _ _ _ _ ((c .before .before .before .before .before .before .before .before .before .loop-test) .taken) (((c .before .before .before .before .before .before .before .before .before .before .loop) .inv) .0) ((c .before .before .before .before .before .before .entry) .ensures) _ (((c .before .before .before .moved) .ensures) ((c .before .before .before .before .before .before .before .before .before .before .before .before .before .before .before .before .args) .t1) refl refl refl))
 
--- src/walk.rt:244:9
 mul-run : tie.Need-mul-run Inv-loop μ-loop
 mul-run c = omega (arith, ((c .before .before .before .before .before .before .before .before .before .before .before .before .loop-test) .taken), ((c .before .before .before .before .before .before .before .before .before .before .before .before .before .loop) .inv) .0 .room, ((c .before .before .before .before .before .before .before .before .before .before .before .before .before .before .before .before .before .before .before .good)), length-set (((c .before .before .before .before .before .before .before .before .before .before .before .before .before .before .before .before .before .before .before .args) .run) .now) 0 ((c .before .before .before .before .before .before .before .before .before .before .before .before .before .before .before .before .before .before .before .args) .q))
 
--- src/walk.rt:244:9
 slice-write-run-2 : tie.Need-slice-write-run-2 Inv-loop μ-loop
 slice-write-run-2 c = omega (arith, ((c .before .before .before .before .before .before .before .before .before .before .before .before .loop-test) .taken), ((c .before .before .before .before .before .before .before .before .before .before .before .before .before .loop) .inv) .0 .room, ((c .before .before .before .before .before .before .before .before .before .before .before .before .before .loop) .inv) .0 .size)
 
--- src/walk.rt:245:9
 add-k : tie.Need-add-k Inv-loop μ-loop
 add-k c = omega (arith, ((c .before .before .before .before .before .before .before .before .before .before .before .before .loop-test) .taken), ((c .before .before .before .before .before .before .before .before .before .before .before .before .before .loop) .inv) .0 .room, ((c .before .before .before .before .before .before .before .before .before .before .before .before .before .before .before .before .before .before .before .good)), length-set (((c .before .before .before .before .before .before .before .before .before .before .before .before .before .before .before .before .before .before .before .args) .run) .now) 0 ((c .before .before .before .before .before .before .before .before .before .before .before .before .before .before .before .before .before .before .before .args) .q))
 
--- src/walk.rt:237:5
 loop-less : tie.Need-loop-less Inv-loop μ-loop
 loop-less c = omega (arith, ((c .before .before .before .before .before .before .before .before .before .before .before .before .loop-test) .taken))
 
--- src/walk.rt:237:5
 loop-again : tie.Need-loop-again Inv-loop μ-loop
 loop-again c = (walk-next ((c .before .before .before .before .before .before .before .before .before .before .before .before .before .before .before .before .before .before .before .args) .t1) (((c .before .before .before .before .before .before .before .before .before .before .before .before .before .before .before .before .before .before .before .args) .list) .now) (((c .before .before .before .before .before .before .before .before .before .before .before .before .before .before .before .before .before .before .before .args) .sets) .now) (((c .before .before .before .before .before .before .before .before .before .before .before .before .before .before .before .before .before .before .before .args) .word) .now) (((c .before .before .before .before .before .before .before .before .before .before .before .before .before .before .before .before .before .before .before .args) .t) .now) _ _ _ _ _ _ _ _ _ _ (((c .before .before .before .before .before .before .before .before .before .before .before .before .before .before .before .before .before .before .before .pre)) .0) ((c .before .before .before .before .before .before .before .before .before .before .before .before .loop-test) .taken) (((c .before .before .before .before .before .before .before .before .before .before .before .before .before .loop) .inv) .0) ((c .before .before .before .before .before .before .before .before .before .entry) .ensures) _ (ap (λ (z : Move). z .config) (((c .before .before .before .before .before .before .moved) .ensures) ((c .before .before .before .before .before .before .before .before .before .before .before .before .before .before .before .before .before .before .before .args) .t1) refl refl refl)) ((c .before .before .refresh) .ensures), ((c .before .before .refresh) .ensures) .emptied-size ∙ ((c .before .before .before .before .before .before .before .before .before .before .before .before .before .loop) .inv) .1, ((c .before .before .refresh) .ensures) .stored-size ∙ ((c .before .before .before .before .before .before .before .before .before .before .before .before .before .loop) .inv) .2)
 
--- src/walk.rt:212:1
 same-length : tie.Need-same-length Inv-loop μ-loop
 same-length c = ((c .before .loop) .inv) .1
 
--- src/walk.rt:212:1
 same-length-2 : tie.Need-same-length-2 Inv-loop μ-loop
 same-length-2 c = ((c .before .loop) .inv) .2
 
--- src/walk.rt:212:1
 same-length-3 : tie.Need-same-length-3 Inv-loop μ-loop
 same-length-3 c = ((c .before .loop) .inv) .0 .size ∙ length-set (((c .before .before .before .before .before .before .before .args) .run) .now) 0 ((c .before .before .before .before .before .before .before .args) .q)
 
--- src/walk.rt:212:1
 returns : tie.Need-returns Inv-loop μ-loop
 returns c = walk-end ((c .before .before .before .before .before .before .before .args) .t1) (((c .before .before .before .before .before .before .before .args) .list) .now) (((c .before .before .before .before .before .before .before .args) .sets) .now) (((c .before .before .before .before .before .before .before .args) .word) .now) (((c .before .before .before .before .before .before .before .args) .t) .now) _ _ (((c .before .before .before .before .before .before .before .args) .run) .now) _ _ _ _ _ ((c .before .before .before .before .before .before .before .args) .q) refl ((c .loop-test) .left) (((c .before .loop) .inv) .0)
 

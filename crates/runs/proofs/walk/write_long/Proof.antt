@@ -9,51 +9,39 @@ use Rattle.runs.proofs.walk.all_places.Reads as all-places-reads
 use Rattle.runs.proofs.walk.all_rows.Reads as all-rows-reads
 use Rattle.runs.proofs.walk.write_with.Reads as write-with-reads
 
--- src/walk.rt:377:17
 all-places-requires : tie.Need-all-places-requires
 all-places-requires c κs = search needs
 
--- src/walk.rt:378:20
 all-ends-requires : tie.Need-all-ends-requires
 all-ends-requires c κs = search needs
 
--- src/walk.rt:380:23
 all-rows-requires : tie.Need-all-rows-requires
 all-rows-requires c κs = search needs
 
--- src/walk.rt:381:22
 all-rows-requires-2 : tie.Need-all-rows-requires-2
 all-rows-requires-2 c κs = search needs
 
--- src/walk.rt:390:9
 slice-aggregate-write-with : tie.Need-slice-aggregate-write-with
 slice-aggregate-write-with c = search needs
 
--- src/walk.rt:391:9
 slice-aggregate-write-with-2 : tie.Need-slice-aggregate-write-with-2
 slice-aggregate-write-with-2 c = search needs
 
--- src/walk.rt:392:9
 slice-aggregate-write-with-3 : tie.Need-slice-aggregate-write-with-3
 slice-aggregate-write-with-3 c = search needs
 
--- src/walk.rt:393:9
 slice-aggregate-write-with-4 : tie.Need-slice-aggregate-write-with-4
 slice-aggregate-write-with-4 c = search needs
 
--- src/walk.rt:394:9
 slice-aggregate-write-with-5 : tie.Need-slice-aggregate-write-with-5
 slice-aggregate-write-with-5 c = search needs
 
--- src/walk.rt:382:5
 write-with-requires : tie.Need-write-with-requires
 write-with-requires c κs = (((c .before .before .before .before .before .before .before .before .before .before .before .before .before .before .pre)) .0, omega (arith, ((c .before .before .before .before .before .before .before .before .before .before .before .before .before .before .pre)) .1), ((c .before .before .before .before .before .before .before .before .before .before .before .before .before .before .pre)) .2, ((c .before .before .before .before .before .before .before .before .before .before .before .before .before .before .pre)) .3, ((c .before .before .before .before .before .before .before .before .before .before .before .before .before .before .pre)) .4, record { places = omega (arith, ((c .before .before .before .before .before .before .before .before .before .before .before .before .before .before .pre)) .1); rows = omega (arith, ((c .before .before .before .before .before .before .before .before .before .before .before .before .before .before .pre)) .1); counts = omega (arith, ((c .before .before .before .before .before .before .before .before .before .before .before .before .before .before .pre)) .1) }, record { places = omega (arith, ((c .before .before .before .before .before .before .before .before .before .before .before .before .before .before .pre)) .1); emptied-rows = omega (arith, ((c .before .before .before .before .before .before .before .before .before .before .before .before .before .before .pre)) .1); stored-rows = omega (arith, ((c .before .before .before .before .before .before .before .before .before .before .before .before .before .before .pre)) .1) }, ((c .before .before .before .before .before .before .before .before .before .before .before .before .before .before .pre)) .5)
 
--- src/walk.rt:363:1
 same-length : tie.Need-same-length
 same-length c = search needs
 
--- src/walk.rt:363:1
 returns : tie.Need-returns
 returns c = search needs
 

@@ -9,51 +9,39 @@ use Rattle.runs.proofs.walk.some_places.Reads as some-places-reads
 use Rattle.runs.proofs.walk.some_rows.Reads as some-rows-reads
 use Rattle.runs.proofs.walk.write_with.Reads as write-with-reads
 
--- src/walk.rt:414:17
 some-places-requires : tie.Need-some-places-requires
 some-places-requires c κs = search needs
 
--- src/walk.rt:415:20
 some-ends-requires : tie.Need-some-ends-requires
 some-ends-requires c κs = search needs
 
--- src/walk.rt:417:23
 some-rows-requires : tie.Need-some-rows-requires
 some-rows-requires c κs = search needs
 
--- src/walk.rt:418:22
 some-rows-requires-2 : tie.Need-some-rows-requires-2
 some-rows-requires-2 c κs = search needs
 
--- src/walk.rt:427:9
 slice-aggregate-write-with : tie.Need-slice-aggregate-write-with
 slice-aggregate-write-with c = search needs
 
--- src/walk.rt:428:9
 slice-aggregate-write-with-2 : tie.Need-slice-aggregate-write-with-2
 slice-aggregate-write-with-2 c = search needs
 
--- src/walk.rt:429:9
 slice-aggregate-write-with-3 : tie.Need-slice-aggregate-write-with-3
 slice-aggregate-write-with-3 c = search needs
 
--- src/walk.rt:430:9
 slice-aggregate-write-with-4 : tie.Need-slice-aggregate-write-with-4
 slice-aggregate-write-with-4 c = search needs
 
--- src/walk.rt:431:9
 slice-aggregate-write-with-5 : tie.Need-slice-aggregate-write-with-5
 slice-aggregate-write-with-5 c = search needs
 
--- src/walk.rt:419:5
 write-with-requires : tie.Need-write-with-requires
 write-with-requires c κs = (((c .before .before .before .before .before .before .before .before .before .before .before .before .before .before .pre)) .0, omega (arith, ((c .before .before .before .before .before .before .before .before .before .before .before .before .before .before .pre)) .1), ((c .before .before .before .before .before .before .before .before .before .before .before .before .before .before .pre)) .2, ((c .before .before .before .before .before .before .before .before .before .before .before .before .before .before .pre)) .3, ((c .before .before .before .before .before .before .before .before .before .before .before .before .before .before .pre)) .4, record { places = omega (arith, ((c .before .before .before .before .before .before .before .before .before .before .before .before .before .before .pre)) .1); rows = omega (arith, ((c .before .before .before .before .before .before .before .before .before .before .before .before .before .before .pre)) .1); counts = omega (arith, ((c .before .before .before .before .before .before .before .before .before .before .before .before .before .before .pre)) .1) }, record { places = omega (arith, ((c .before .before .before .before .before .before .before .before .before .before .before .before .before .before .pre)) .1); emptied-rows = omega (arith, ((c .before .before .before .before .before .before .before .before .before .before .before .before .before .before .pre)) .1); stored-rows = omega (arith, ((c .before .before .before .before .before .before .before .before .before .before .before .before .before .before .pre)) .1) }, ((c .before .before .before .before .before .before .before .before .before .before .before .before .before .before .pre)) .5)
 
--- src/walk.rt:400:1
 same-length : tie.Need-same-length
 same-length c = search needs
 
--- src/walk.rt:400:1
 returns : tie.Need-returns
 returns c = search needs
 

@@ -6,15 +6,12 @@ use Rattle.runs.proofs.walk.write_run.Reads as reads
 use Rattle.runs.proofs.walk.write_run.Lts as lts
 use Rattle.runs.proofs.walk.write_sized.Reads as write-sized-reads
 
--- src/walk.rt:516:5
 write-sized-requires : tie.Need-write-sized-requires
 write-sized-requires c κs = ((c .before .before .before .before .before .before .before .pre) .0, (c .before .before .before .before .before .before .before .pre) .1, (c .before .before .before .before .before .before .before .pre) .2, (c .before .before .before .before .before .before .before .pre) .3, known _ _ _ _ _ ((c .before .before .before .before .before .before .before .pre) .0) ((c .before .before .before .before .before .before .before .pre) .5) ((c .before .before .before .before .before .before .before .pre) .4), (c .before .before .before .before .before .before .before .pre) .6)
 
--- src/walk.rt:503:1
 same-length : tie.Need-same-length
 same-length c = search needs
 
--- src/walk.rt:503:1
 returns : tie.Need-returns
 returns c = search needs
 

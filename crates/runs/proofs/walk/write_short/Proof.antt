@@ -9,51 +9,39 @@ use Rattle.runs.proofs.walk.few_places.Reads as few-places-reads
 use Rattle.runs.proofs.walk.few_rows.Reads as few-rows-reads
 use Rattle.runs.proofs.walk.write_with.Reads as write-with-reads
 
--- src/walk.rt:451:17
 few-places-requires : tie.Need-few-places-requires
 few-places-requires c κs = search needs
 
--- src/walk.rt:452:20
 few-ends-requires : tie.Need-few-ends-requires
 few-ends-requires c κs = search needs
 
--- src/walk.rt:454:23
 few-rows-requires : tie.Need-few-rows-requires
 few-rows-requires c κs = search needs
 
--- src/walk.rt:455:22
 few-rows-requires-2 : tie.Need-few-rows-requires-2
 few-rows-requires-2 c κs = search needs
 
--- src/walk.rt:464:9
 slice-aggregate-write-with : tie.Need-slice-aggregate-write-with
 slice-aggregate-write-with c = search needs
 
--- src/walk.rt:465:9
 slice-aggregate-write-with-2 : tie.Need-slice-aggregate-write-with-2
 slice-aggregate-write-with-2 c = search needs
 
--- src/walk.rt:466:9
 slice-aggregate-write-with-3 : tie.Need-slice-aggregate-write-with-3
 slice-aggregate-write-with-3 c = search needs
 
--- src/walk.rt:467:9
 slice-aggregate-write-with-4 : tie.Need-slice-aggregate-write-with-4
 slice-aggregate-write-with-4 c = search needs
 
--- src/walk.rt:468:9
 slice-aggregate-write-with-5 : tie.Need-slice-aggregate-write-with-5
 slice-aggregate-write-with-5 c = search needs
 
--- src/walk.rt:456:5
 write-with-requires : tie.Need-write-with-requires
 write-with-requires c κs = (((c .before .before .before .before .before .before .before .before .before .before .before .before .before .before .pre)) .0, omega (arith, ((c .before .before .before .before .before .before .before .before .before .before .before .before .before .before .pre)) .1), ((c .before .before .before .before .before .before .before .before .before .before .before .before .before .before .pre)) .2, ((c .before .before .before .before .before .before .before .before .before .before .before .before .before .before .pre)) .3, ((c .before .before .before .before .before .before .before .before .before .before .before .before .before .before .pre)) .4, record { places = omega (arith, ((c .before .before .before .before .before .before .before .before .before .before .before .before .before .before .pre)) .1); rows = omega (arith, ((c .before .before .before .before .before .before .before .before .before .before .before .before .before .before .pre)) .1); counts = omega (arith, ((c .before .before .before .before .before .before .before .before .before .before .before .before .before .before .pre)) .1) }, record { places = omega (arith, ((c .before .before .before .before .before .before .before .before .before .before .before .before .before .before .pre)) .1); emptied-rows = omega (arith, ((c .before .before .before .before .before .before .before .before .before .before .before .before .before .before .pre)) .1); stored-rows = omega (arith, ((c .before .before .before .before .before .before .before .before .before .before .before .before .before .before .pre)) .1) }, ((c .before .before .before .before .before .before .before .before .before .before .before .before .before .before .pre)) .5)
 
--- src/walk.rt:437:1
 same-length : tie.Need-same-length
 same-length c = search needs
 
--- src/walk.rt:437:1
 returns : tie.Need-returns
 returns c = search needs
 

@@ -14,83 +14,63 @@ use Rattle.search.proofs.answer.run_length.Reads as run-length-reads
 use Rattle.search.proofs.best.cost.Reads as cost-reads
 use Rattle.search.proofs.write.write_runs.Reads as write-runs-reads
 
--- src/answer.rt:64:9
 cost-requires : tie.Need-cost-requires
 cost-requires c κs = search needs
 
--- src/answer.rt:66:9
 returns : tie.Need-returns
 returns c = says-none ((c .before .before .before .before .before .before .before .before) .args .first) (((c .before .before .before .before .before .before .before .before) .args .first-list) .now) ((c .before .before .before .before .before .before .before .before) .args .second) (((c .before .before .before .before .before .before .before .before) .args .second-list) .now) ((c .before .before .before .before .before .before .before .before) .args .m) (((c .before .before .before .before .before .before .before .before) .args .list) .now) (((c .before .before .before .before .before .before .before .before) .args .index) .now) ((c .before .before .before .before .before .before .before .before) .args .starts) ((c .before .before .before .before .before .before .before .before) .args .ends) (((c .before .before .before .before .before .before .before .before) .args .d) .now) (((c .before .before .before .before .before .before .before .before) .args .b) .now) ((c .before .before .before .before .before .before .before .before) .args .f) ((c .before .before .before .before .before .before .before .before) .pre) (((c .before .before .before .before .before .before .before .before) .args .word) .now) (((c .before .before .before .before .before .before .before .before) .args .first-run) .now) (((c .before .before .before .before .before .before .before .before) .args .second-run) .now) ((c .before) .cost .result) ((c .before) .cost .ensures) (c .if1 .taken)
 
--- src/answer.rt:68:9
 letters-of-requires : tie.Need-letters-of-requires
 letters-of-requires c κs = search needs
 
--- src/answer.rt:70:9
 returns-2 : tie.Need-returns-2
 returns-2 c = says-word ((c .before .before .before .before .before .before .before .before .before .before) .args .first) (((c .before .before .before .before .before .before .before .before .before .before) .args .first-list) .now) ((c .before .before .before .before .before .before .before .before .before .before) .args .second) (((c .before .before .before .before .before .before .before .before .before .before) .args .second-list) .now) ((c .before .before .before .before .before .before .before .before .before .before) .args .m) (((c .before .before .before .before .before .before .before .before .before .before) .args .list) .now) (((c .before .before .before .before .before .before .before .before .before .before) .args .index) .now) ((c .before .before .before .before .before .before .before .before .before .before) .args .starts) ((c .before .before .before .before .before .before .before .before .before .before) .args .ends) (((c .before .before .before .before .before .before .before .before .before .before) .args .d) .now) (((c .before .before .before .before .before .before .before .before .before .before) .args .b) .now) ((c .before .before .before .before .before .before .before .before .before .before) .args .f) ((c .before .before .before .before .before .before .before .before .before .before) .pre) (((c .before .before .before .before .before .before .before .before .before .before) .args .word) .now) (((c .before .before .before .before .before .before .before .before .before .before) .args .first-run) .now) (((c .before .before .before .before .before .before .before .before .before .before) .args .second-run) .now) ((c .before .before .before) .cost .result) ((c .before .before .before) .cost .ensures) ((c .before .before) .if1 .left) ((c .before) .letters-of .result) ((c .before) .letters-of .ensures) (c .if2 .taken)
 
--- src/answer.rt:75:9
 run-length-requires : tie.Need-run-length-requires
 run-length-requires c κs = length-fits ((c .before .before .before .before .before .before .before .before .before .before) .args .first) (((c .before .before .before .before .before .before .before .before .before .before) .args .first-list) .now) ((c .before .before .before .before .before .before .before .before .before .before) .args .second) (((c .before .before .before .before .before .before .before .before .before .before) .args .second-list) .now) ((c .before .before .before .before .before .before .before .before .before .before) .args .m) (((c .before .before .before .before .before .before .before .before .before .before) .args .list) .now) (((c .before .before .before .before .before .before .before .before .before .before) .args .index) .now) ((c .before .before .before .before .before .before .before .before .before .before) .args .starts) ((c .before .before .before .before .before .before .before .before .before .before) .args .ends) (((c .before .before .before .before .before .before .before .before .before .before) .args .d) .now) (((c .before .before .before .before .before .before .before .before .before .before) .args .b) .now) ((c .before .before .before .before .before .before .before .before .before .before) .args .f) ((c .before .before .before .before .before .before .before .before .before .before) .pre) (((c .before .before .before .before .before .before .before .before .before .before) .args .word) .now) (((c .before .before .before .before .before .before .before .before .before .before) .args .first-run) .now) (((c .before .before .before .before .before .before .before .before .before .before) .args .second-run) .now) ((c .before .before .before) .cost .result) ((c .before .before .before) .cost .ensures) ((c .before .before) .if1 .left) ((c .before) .letters-of .result) ((c .before) .letters-of .ensures)
 
--- src/answer.rt:77:9
 returns-3 : tie.Need-returns-3
 returns-3 c = says-first ((c .before .before .before .before .before .before .before .before .before .before .before .before) .args .first) (((c .before .before .before .before .before .before .before .before .before .before .before .before) .args .first-list) .now) ((c .before .before .before .before .before .before .before .before .before .before .before .before) .args .second) (((c .before .before .before .before .before .before .before .before .before .before .before .before) .args .second-list) .now) ((c .before .before .before .before .before .before .before .before .before .before .before .before) .args .m) (((c .before .before .before .before .before .before .before .before .before .before .before .before) .args .list) .now) (((c .before .before .before .before .before .before .before .before .before .before .before .before) .args .index) .now) ((c .before .before .before .before .before .before .before .before .before .before .before .before) .args .starts) ((c .before .before .before .before .before .before .before .before .before .before .before .before) .args .ends) (((c .before .before .before .before .before .before .before .before .before .before .before .before) .args .d) .now) (((c .before .before .before .before .before .before .before .before .before .before .before .before) .args .b) .now) ((c .before .before .before .before .before .before .before .before .before .before .before .before) .args .f) ((c .before .before .before .before .before .before .before .before .before .before .before .before) .pre) (((c .before .before .before .before .before .before .before .before .before .before .before .before) .args .word) .now) (((c .before .before .before .before .before .before .before .before .before .before .before .before) .args .first-run) .now) (((c .before .before .before .before .before .before .before .before .before .before .before .before) .args .second-run) .now) ((c .before .before .before .before .before) .cost .result) ((c .before .before .before .before .before) .cost .ensures) ((c .before .before .before .before) .if1 .left) ((c .before .before .before) .letters-of .result) ((c .before .before .before) .letters-of .ensures) ((c .before .before) .if2 .left) ((c .before) .run-length .result) ((c .before) .run-length .ensures) (c .if3 .taken)
 
--- src/answer.rt:79:17
 add-plain : tie.Need-add-plain
 add-plain c = search needs
 
--- src/answer.rt:81:9
 returns-4 : tie.Need-returns-4
 returns-4 c = says-second ((c .before .before .before .before .before .before .before .before .before .before .before .before .before) .args .first) (((c .before .before .before .before .before .before .before .before .before .before .before .before .before) .args .first-list) .now) ((c .before .before .before .before .before .before .before .before .before .before .before .before .before) .args .second) (((c .before .before .before .before .before .before .before .before .before .before .before .before .before) .args .second-list) .now) ((c .before .before .before .before .before .before .before .before .before .before .before .before .before) .args .m) (((c .before .before .before .before .before .before .before .before .before .before .before .before .before) .args .list) .now) (((c .before .before .before .before .before .before .before .before .before .before .before .before .before) .args .index) .now) ((c .before .before .before .before .before .before .before .before .before .before .before .before .before) .args .starts) ((c .before .before .before .before .before .before .before .before .before .before .before .before .before) .args .ends) (((c .before .before .before .before .before .before .before .before .before .before .before .before .before) .args .d) .now) (((c .before .before .before .before .before .before .before .before .before .before .before .before .before) .args .b) .now) ((c .before .before .before .before .before .before .before .before .before .before .before .before .before) .args .f) ((c .before .before .before .before .before .before .before .before .before .before .before .before .before) .pre) (((c .before .before .before .before .before .before .before .before .before .before .before .before .before) .args .word) .now) (((c .before .before .before .before .before .before .before .before .before .before .before .before .before) .args .first-run) .now) (((c .before .before .before .before .before .before .before .before .before .before .before .before .before) .args .second-run) .now) ((c .before .before .before .before .before .before) .cost .result) ((c .before .before .before .before .before .before) .cost .ensures) ((c .before .before .before .before .before) .if1 .left) ((c .before .before .before .before) .letters-of .result) ((c .before .before .before .before) .letters-of .ensures) ((c .before .before .before) .if2 .left) ((c .before .before) .run-length .result) ((c .before .before) .run-length .ensures) ((c .before) .if3 .left) (c .if4 .taken)
 
--- src/answer.rt:86:9
 entries-of-requires : tie.Need-entries-of-requires
 entries-of-requires c κs = search needs
 
--- src/answer.rt:101:9
 slice-relend-prefix-write-runs : tie.Need-slice-relend-prefix-write-runs
 slice-relend-prefix-write-runs c = search needs
 
--- src/answer.rt:101:9
 slice-aggregate-write-runs : tie.Need-slice-aggregate-write-runs
 slice-aggregate-write-runs c = sym (length-take-le ((c .before .before .before .before .before .before .before) .letters-of .result) (((c .before .before .before .before .before .before .before .before .before .before .before .before .before .before .before .before) .args .word) .now) ((c .before .before .before .before .before .before) .if2 .left))
 
--- src/answer.rt:102:9
 slice-relend-prefix-write-runs-2 : tie.Need-slice-relend-prefix-write-runs-2
 slice-relend-prefix-write-runs-2 c = entries-fit ((c .before .before .before .before .before .before .before .before .before .before .before .before .before .before .before .before) .args .first) (((c .before .before .before .before .before .before .before .before .before .before .before .before .before .before .before .before) .args .first-list) .now) ((c .before .before .before .before .before .before .before .before .before .before .before .before .before .before .before .before) .args .second) (((c .before .before .before .before .before .before .before .before .before .before .before .before .before .before .before .before) .args .second-list) .now) ((c .before .before .before .before .before .before .before .before .before .before .before .before .before .before .before .before) .args .m) (((c .before .before .before .before .before .before .before .before .before .before .before .before .before .before .before .before) .args .list) .now) (((c .before .before .before .before .before .before .before .before .before .before .before .before .before .before .before .before) .args .index) .now) ((c .before .before .before .before .before .before .before .before .before .before .before .before .before .before .before .before) .args .starts) ((c .before .before .before .before .before .before .before .before .before .before .before .before .before .before .before .before) .args .ends) (((c .before .before .before .before .before .before .before .before .before .before .before .before .before .before .before .before) .args .d) .now) (((c .before .before .before .before .before .before .before .before .before .before .before .before .before .before .before .before) .args .b) .now) ((c .before .before .before .before .before .before .before .before .before .before .before .before .before .before .before .before) .args .f) ((c .before .before .before .before .before .before .before .before .before .before .before .before .before .before .before .before) .pre) (((c .before .before .before .before .before .before .before .before .before .before .before .before .before .before .before .before) .args .word) .now) (((c .before .before .before .before .before .before .before .before .before .before .before .before .before .before .before .before) .args .first-run) .now) (((c .before .before .before .before .before .before .before .before .before .before .before .before .before .before .before .before) .args .second-run) .now) ((c .before .before .before .before .before .before .before .before .before) .cost .result) ((c .before .before .before .before .before .before .before .before .before) .cost .ensures) ((c .before .before .before .before .before .before .before .before) .if1 .left) ((c .before .before .before .before .before .before .before) .letters-of .result) ((c .before .before .before .before .before .before .before) .letters-of .ensures) ((c .before .before .before .before .before .before) .if2 .left) ((c .before .before .before .before .before) .run-length .result) ((c .before .before .before .before .before) .run-length .ensures) ((c .before .before .before .before) .if3 .left) ((c .before .before .before) .if4 .left) ((c .before .before) .entries-of .result) ((c .before .before) .entries-of .ensures)
 
--- src/answer.rt:102:9
 slice-aggregate-write-runs-2 : tie.Need-slice-aggregate-write-runs-2
 slice-aggregate-write-runs-2 c = sym (length-take-le ((c .before .before .before) .entries-of .result) (((c .before .before .before .before .before .before .before .before .before .before .before .before .before .before .before .before .before) .args .first-run) .now) (entries-fit ((c .before .before .before .before .before .before .before .before .before .before .before .before .before .before .before .before .before) .args .first) (((c .before .before .before .before .before .before .before .before .before .before .before .before .before .before .before .before .before) .args .first-list) .now) ((c .before .before .before .before .before .before .before .before .before .before .before .before .before .before .before .before .before) .args .second) (((c .before .before .before .before .before .before .before .before .before .before .before .before .before .before .before .before .before) .args .second-list) .now) ((c .before .before .before .before .before .before .before .before .before .before .before .before .before .before .before .before .before) .args .m) (((c .before .before .before .before .before .before .before .before .before .before .before .before .before .before .before .before .before) .args .list) .now) (((c .before .before .before .before .before .before .before .before .before .before .before .before .before .before .before .before .before) .args .index) .now) ((c .before .before .before .before .before .before .before .before .before .before .before .before .before .before .before .before .before) .args .starts) ((c .before .before .before .before .before .before .before .before .before .before .before .before .before .before .before .before .before) .args .ends) (((c .before .before .before .before .before .before .before .before .before .before .before .before .before .before .before .before .before) .args .d) .now) (((c .before .before .before .before .before .before .before .before .before .before .before .before .before .before .before .before .before) .args .b) .now) ((c .before .before .before .before .before .before .before .before .before .before .before .before .before .before .before .before .before) .args .f) ((c .before .before .before .before .before .before .before .before .before .before .before .before .before .before .before .before .before) .pre) (((c .before .before .before .before .before .before .before .before .before .before .before .before .before .before .before .before .before) .args .word) .now) (((c .before .before .before .before .before .before .before .before .before .before .before .before .before .before .before .before .before) .args .first-run) .now) (((c .before .before .before .before .before .before .before .before .before .before .before .before .before .before .before .before .before) .args .second-run) .now) ((c .before .before .before .before .before .before .before .before .before .before) .cost .result) ((c .before .before .before .before .before .before .before .before .before .before) .cost .ensures) ((c .before .before .before .before .before .before .before .before .before) .if1 .left) ((c .before .before .before .before .before .before .before .before) .letters-of .result) ((c .before .before .before .before .before .before .before .before) .letters-of .ensures) ((c .before .before .before .before .before .before .before) .if2 .left) ((c .before .before .before .before .before .before) .run-length .result) ((c .before .before .before .before .before .before) .run-length .ensures) ((c .before .before .before .before .before) .if3 .left) ((c .before .before .before .before) .if4 .left) ((c .before .before .before) .entries-of .result) ((c .before .before .before) .entries-of .ensures)))
 
--- src/answer.rt:103:9
 slice-relend-prefix-write-runs-3 : tie.Need-slice-relend-prefix-write-runs-3
 slice-relend-prefix-write-runs-3 c = search needs
 
--- src/answer.rt:103:9
 slice-aggregate-write-runs-3 : tie.Need-slice-aggregate-write-runs-3
 slice-aggregate-write-runs-3 c = sym (length-take-le _ (((c .before .before .before .before .before .before .before .before .before .before .before .before .before .before .before .before .before .before) .args .second-run) .now) ((c .before .before .before .before .before) .if4 .left))
 
--- src/answer.rt:87:5
 write-runs-requires : tie.Need-write-runs-requires
 write-runs-requires c κs = writable ((c .before .before .before .before .before .before .before .before .before .before .before .before .before .before .before .before .before .before) .args .first) (((c .before .before .before .before .before .before .before .before .before .before .before .before .before .before .before .before .before .before) .args .first-list) .now) ((c .before .before .before .before .before .before .before .before .before .before .before .before .before .before .before .before .before .before) .args .second) (((c .before .before .before .before .before .before .before .before .before .before .before .before .before .before .before .before .before .before) .args .second-list) .now) ((c .before .before .before .before .before .before .before .before .before .before .before .before .before .before .before .before .before .before) .args .m) (((c .before .before .before .before .before .before .before .before .before .before .before .before .before .before .before .before .before .before) .args .list) .now) (((c .before .before .before .before .before .before .before .before .before .before .before .before .before .before .before .before .before .before) .args .index) .now) ((c .before .before .before .before .before .before .before .before .before .before .before .before .before .before .before .before .before .before) .args .starts) ((c .before .before .before .before .before .before .before .before .before .before .before .before .before .before .before .before .before .before) .args .ends) (((c .before .before .before .before .before .before .before .before .before .before .before .before .before .before .before .before .before .before) .args .d) .now) (((c .before .before .before .before .before .before .before .before .before .before .before .before .before .before .before .before .before .before) .args .b) .now) ((c .before .before .before .before .before .before .before .before .before .before .before .before .before .before .before .before .before .before) .args .f) ((c .before .before .before .before .before .before .before .before .before .before .before .before .before .before .before .before .before .before) .pre) (((c .before .before .before .before .before .before .before .before .before .before .before .before .before .before .before .before .before .before) .args .word) .now) (((c .before .before .before .before .before .before .before .before .before .before .before .before .before .before .before .before .before .before) .args .first-run) .now) (((c .before .before .before .before .before .before .before .before .before .before .before .before .before .before .before .before .before .before) .args .second-run) .now) ((c .before .before .before .before .before .before .before .before .before .before .before) .cost .result) ((c .before .before .before .before .before .before .before .before .before .before .before) .cost .ensures) ((c .before .before .before .before .before .before .before .before .before .before) .if1 .left) ((c .before .before .before .before .before .before .before .before .before) .letters-of .result) ((c .before .before .before .before .before .before .before .before .before) .letters-of .ensures) ((c .before .before .before .before .before .before .before .before) .if2 .left) ((c .before .before .before .before .before .before .before) .run-length .result) ((c .before .before .before .before .before .before .before) .run-length .ensures) ((c .before .before .before .before .before .before) .if3 .left) ((c .before .before .before .before .before) .if4 .left) ((c .before .before .before .before) .entries-of .result) ((c .before .before .before .before) .entries-of .ensures)
 
--- src/answer.rt:43:1
 same-length : tie.Need-same-length
 same-length c = search needs
 
--- src/answer.rt:43:1
 same-length-2 : tie.Need-same-length-2
 same-length-2 c = search needs
 
--- src/answer.rt:43:1
 same-length-3 : tie.Need-same-length-3
 same-length-3 c = search needs
 
--- src/answer.rt:43:1
 returns-5 : tie.Need-returns-5
 returns-5 c = says-found ((c .before .before .before .before .before .before .before .before .before .before .before .before .before .before .before .before .before .before .before .before .before .before .before .before .before) .args .first) (((c .before .before .before .before .before .before .before .before .before .before .before .before .before .before .before .before .before .before .before .before .before .before .before .before .before) .args .first-list) .now) ((c .before .before .before .before .before .before .before .before .before .before .before .before .before .before .before .before .before .before .before .before .before .before .before .before .before) .args .second) (((c .before .before .before .before .before .before .before .before .before .before .before .before .before .before .before .before .before .before .before .before .before .before .before .before .before) .args .second-list) .now) ((c .before .before .before .before .before .before .before .before .before .before .before .before .before .before .before .before .before .before .before .before .before .before .before .before .before) .args .m) (((c .before .before .before .before .before .before .before .before .before .before .before .before .before .before .before .before .before .before .before .before .before .before .before .before .before) .args .list) .now) (((c .before .before .before .before .before .before .before .before .before .before .before .before .before .before .before .before .before .before .before .before .before .before .before .before .before) .args .index) .now) ((c .before .before .before .before .before .before .before .before .before .before .before .before .before .before .before .before .before .before .before .before .before .before .before .before .before) .args .starts) ((c .before .before .before .before .before .before .before .before .before .before .before .before .before .before .before .before .before .before .before .before .before .before .before .before .before) .args .ends) (((c .before .before .before .before .before .before .before .before .before .before .before .before .before .before .before .before .before .before .before .before .before .before .before .before .before) .args .d) .now) (((c .before .before .before .before .before .before .before .before .before .before .before .before .before .before .before .before .before .before .before .before .before .before .before .before .before) .args .b) .now) ((c .before .before .before .before .before .before .before .before .before .before .before .before .before .before .before .before .before .before .before .before .before .before .before .before .before) .args .f) ((c .before .before .before .before .before .before .before .before .before .before .before .before .before .before .before .before .before .before .before .before .before .before .before .before .before) .pre) (((c .before .before .before .before .before .before .before .before .before .before .before .before .before .before .before .before .before .before .before .before .before .before .before .before .before) .args .word) .now) (((c .before .before .before .before .before .before .before .before .before .before .before .before .before .before .before .before .before .before .before .before .before .before .before .before .before) .args .first-run) .now) (((c .before .before .before .before .before .before .before .before .before .before .before .before .before .before .before .before .before .before .before .before .before .before .before .before .before) .args .second-run) .now) ((c .before .before .before .before .before .before .before .before .before .before .before .before .before .before .before .before .before .before) .cost .result) ((c .before .before .before .before .before .before .before .before .before .before .before .before .before .before .before .before .before .before) .cost .ensures) ((c .before .before .before .before .before .before .before .before .before .before .before .before .before .before .before .before .before) .if1 .left) ((c .before .before .before .before .before .before .before .before .before .before .before .before .before .before .before .before) .letters-of .result) ((c .before .before .before .before .before .before .before .before .before .before .before .before .before .before .before .before) .letters-of .ensures) ((c .before .before .before .before .before .before .before .before .before .before .before .before .before .before .before) .if2 .left) ((c .before .before .before .before .before .before .before .before .before .before .before .before .before .before) .run-length .result) ((c .before .before .before .before .before .before .before .before .before .before .before .before .before .before) .run-length .ensures) ((c .before .before .before .before .before .before .before .before .before .before .before .before .before) .if3 .left) ((c .before .before .before .before .before .before .before .before .before .before .before .before) .if4 .left) ((c .before .before .before .before .before .before .before .before .before .before .before) .entries-of .result) ((c .before .before .before .before .before .before .before .before .before .before .before) .entries-of .ensures) _ _ _ (omega (arith, (c .before .before .before .before .before) .word .given, length-take-le ((c .before .before .before .before .before .before .before .before .before .before .before .before .before .before .before .before) .letters-of .result) (((c .before .before .before .before .before .before .before .before .before .before .before .before .before .before .before .before .before .before .before .before .before .before .before .before .before) .args .word) .now) ((c .before .before .before .before .before .before .before .before .before .before .before .before .before .before .before) .if2 .left))) (omega (arith, (c .before .before .before) .first-run .given, length-take-le ((c .before .before .before .before .before .before .before .before .before .before .before) .entries-of .result) (((c .before .before .before .before .before .before .before .before .before .before .before .before .before .before .before .before .before .before .before .before .before .before .before .before .before) .args .first-run) .now) (entries-fit ((c .before .before .before .before .before .before .before .before .before .before .before .before .before .before .before .before .before .before .before .before .before .before .before .before .before) .args .first) (((c .before .before .before .before .before .before .before .before .before .before .before .before .before .before .before .before .before .before .before .before .before .before .before .before .before) .args .first-list) .now) ((c .before .before .before .before .before .before .before .before .before .before .before .before .before .before .before .before .before .before .before .before .before .before .before .before .before) .args .second) (((c .before .before .before .before .before .before .before .before .before .before .before .before .before .before .before .before .before .before .before .before .before .before .before .before .before) .args .second-list) .now) ((c .before .before .before .before .before .before .before .before .before .before .before .before .before .before .before .before .before .before .before .before .before .before .before .before .before) .args .m) (((c .before .before .before .before .before .before .before .before .before .before .before .before .before .before .before .before .before .before .before .before .before .before .before .before .before) .args .list) .now) (((c .before .before .before .before .before .before .before .before .before .before .before .before .before .before .before .before .before .before .before .before .before .before .before .before .before) .args .index) .now) ((c .before .before .before .before .before .before .before .before .before .before .before .before .before .before .before .before .before .before .before .before .before .before .before .before .before) .args .starts) ((c .before .before .before .before .before .before .before .before .before .before .before .before .before .before .before .before .before .before .before .before .before .before .before .before .before) .args .ends) (((c .before .before .before .before .before .before .before .before .before .before .before .before .before .before .before .before .before .before .before .before .before .before .before .before .before) .args .d) .now) (((c .before .before .before .before .before .before .before .before .before .before .before .before .before .before .before .before .before .before .before .before .before .before .before .before .before) .args .b) .now) ((c .before .before .before .before .before .before .before .before .before .before .before .before .before .before .before .before .before .before .before .before .before .before .before .before .before) .args .f) ((c .before .before .before .before .before .before .before .before .before .before .before .before .before .before .before .before .before .before .before .before .before .before .before .before .before) .pre) (((c .before .before .before .before .before .before .before .before .before .before .before .before .before .before .before .before .before .before .before .before .before .before .before .before .before) .args .word) .now) (((c .before .before .before .before .before .before .before .before .before .before .before .before .before .before .before .before .before .before .before .before .before .before .before .before .before) .args .first-run) .now) (((c .before .before .before .before .before .before .before .before .before .before .before .before .before .before .before .before .before .before .before .before .before .before .before .before .before) .args .second-run) .now) ((c .before .before .before .before .before .before .before .before .before .before .before .before .before .before .before .before .before .before) .cost .result) ((c .before .before .before .before .before .before .before .before .before .before .before .before .before .before .before .before .before .before) .cost .ensures) ((c .before .before .before .before .before .before .before .before .before .before .before .before .before .before .before .before .before) .if1 .left) ((c .before .before .before .before .before .before .before .before .before .before .before .before .before .before .before .before) .letters-of .result) ((c .before .before .before .before .before .before .before .before .before .before .before .before .before .before .before .before) .letters-of .ensures) ((c .before .before .before .before .before .before .before .before .before .before .before .before .before .before .before) .if2 .left) ((c .before .before .before .before .before .before .before .before .before .before .before .before .before .before) .run-length .result) ((c .before .before .before .before .before .before .before .before .before .before .before .before .before .before) .run-length .ensures) ((c .before .before .before .before .before .before .before .before .before .before .before .before .before) .if3 .left) ((c .before .before .before .before .before .before .before .before .before .before .before .before) .if4 .left) ((c .before .before .before .before .before .before .before .before .before .before .before) .entries-of .result) ((c .before .before .before .before .before .before .before .before .before .before .before) .entries-of .ensures)))) (omega (arith, (c .before) .second-run .given, length-take-le ((c .before .before .before .before .before .before .before .before .before .before .before .before .before .before .before .before) .letters-of .result + 1) (((c .before .before .before .before .before .before .before .before .before .before .before .before .before .before .before .before .before .before .before .before .before .before .before .before .before) .args .second-run) .now) ((c .before .before .before .before .before .before .before .before .before .before .before .before) .if4 .left))) ((c .before .before .before .before .before .before) .write-runs .ensures)
 

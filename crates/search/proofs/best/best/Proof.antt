@@ -16,27 +16,21 @@ Inv-loop marks d b₀ q₀ b q = Best marks d q b × (q ≤ 64)
 abbrev μ-loop : tie.MeasureT-loop
 μ-loop marks d b₀ q₀ b q = 64 - q
 
--- src/best.rt:46:5
 loop-holds : tie.Need-loop-holds Inv-loop μ-loop
 loop-holds c = (best-none _ _, omega arith)
 
--- src/best.rt:47:9
 better-requires : tie.Need-better-requires Inv-loop μ-loop
 better-requires c κs = ((c .before) .loop .inv .0, omega arith)
 
--- src/best.rt:48:9
 add-q : tie.Need-add-q Inv-loop μ-loop
 add-q c = omega arith
 
--- src/best.rt:46:5
 loop-less : tie.Need-loop-less Inv-loop μ-loop
 loop-less c = omega arith
 
--- src/best.rt:46:5
 loop-again : tie.Need-loop-again Inv-loop μ-loop
 loop-again c = (c .better .ensures, omega arith)
 
--- src/best.rt:41:1
 returns : tie.Need-returns Inv-loop μ-loop
 returns c = subst (λ (k : ℕ). Best (((c .before .before) .args .marks) .now) (((c .before .before) .args .d) .now) k ((c .before) .loop .b)) (omega arith) ((c .before) .loop .inv .0)
 

@@ -10,27 +10,21 @@ use Rattle.search.proofs.best.better.Lts as lts
 use Rattle.fsbm.proofs.machine.is_final.Reads as is-final-reads
 use Rattle.search.proofs.best.cost.Reads as cost-reads
 
--- src/best.rt:30:9
 is-final-requires : tie.Need-is-final-requires
 is-final-requires c κs = search needs
 
--- src/best.rt:31:9
 returns : tie.Need-returns
 returns c = best-passes (((c .before .before) .args .marks) .now) (((c .before .before) .args .d) .now) ((c .before .before) .args .q) ((c .before .before) .args .b) ((c .before .before) .pre .0) (sym ((c .before) .is-final .ensures) ∙ not-true _ (c .if1 .taken))
 
--- src/best.rt:33:8
 cost-requires : tie.Need-cost-requires
 cost-requires c κs = search needs
 
--- src/best.rt:33:22
 cost-requires-2 : tie.Need-cost-requires-2
 cost-requires-2 c κs = search needs
 
--- src/best.rt:34:9
 returns-2 : tie.Need-returns-2
 returns-2 c = best-keeps (((c .before .before .before .before .before) .args .marks) .now) (((c .before .before .before .before .before) .args .d) .now) ((c .before .before .before .before .before) .args .q) ((c .before .before .before .before .before) .args .b) ((c .before .before .before .before .before) .pre .0) (omega (arith, c .if2 .taken, (c .before .before) .cost .ensures, (c .before) .cost2 .ensures))
 
--- src/best.rt:26:1
 returns-3 : tie.Need-returns-3
 returns-3 c = best-takes (((c .before .before .before .before .before) .args .marks) .now) (((c .before .before .before .before .before) .args .d) .now) ((c .before .before .before .before .before) .args .q) ((c .before .before .before .before .before) .args .b) ((c .before .before .before .before .before) .pre .0) ((c .before .before .before .before .before) .pre .1) (sym ((c .before .before .before .before) .is-final .ensures) ∙ not-false _ ((c .before .before .before) .if1 .left)) (omega (arith, c .if2 .left, (c .before .before) .cost .ensures, (c .before) .cost2 .ensures)) (best-top (((c .before .before .before .before .before) .args .marks) .now) (((c .before .before .before .before .before) .args .d) .now) ((c .before .before .before .before .before) .args .q) ((c .before .before .before .before .before) .args .b) ((c .before .before .before .before .before) .pre .0))
 

@@ -7,19 +7,15 @@ use Rattle.search.proofs.best.cost.Tie as tie
 use Rattle.search.proofs.best.cost.Reads as reads
 use Rattle.search.proofs.best.cost.Lts as lts
 
--- src/best.rt:20:9
 returns : tie.Need-returns
 returns c = sym (cost-past (((c .before) .args .d) .now) ((c .before) .args .q) (c .if1 .taken))
 
--- src/best.rt:22:5
 mul-result : tie.Need-mul-result
 mul-result c = search needs
 
--- src/best.rt:22:5
 element-copy-out-result : tie.Need-element-copy-out-result
 element-copy-out-result c = search needs
 
--- src/best.rt:16:1
 returns-2 : tie.Need-returns-2
 returns-2 c = cost-at (((c .before .before) .args .d) .now) ((c .before .before) .args .q) (omega (arith, (c .before) .if1 .left))
 

@@ -6,11 +6,9 @@ use Rattle.sheet.proofs.faults.column.Reads as reads
 use Rattle.sheet.proofs.faults.column.Lts as lts
 use Rattle.columns.proofs.number_in_five.Reads as number-in-five-reads
 
--- src/faults.rt:16:5
 number-in-five-requires : tie.Need-number-in-five-requires
 number-in-five-requires c κs = search needs
 
--- src/faults.rt:12:1
 returns : tie.Need-returns
 unfolding columnAt
 returns c = (c .number-in-five .ensures)

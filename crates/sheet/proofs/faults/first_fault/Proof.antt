@@ -11,63 +11,48 @@ use Rattle.sheet.proofs.faults.short_column.Reads as short-column-reads
 use Rattle.sheet.proofs.faults.state_faults.Reads as state-faults-reads
 use Rattle.sheet.proofs.faults.transition_faults.Reads as transition-faults-reads
 
--- src/faults.rt:229:9
 header-fault-requires : tie.Need-header-fault-requires
 header-fault-requires c κs = search needs
 
--- src/faults.rt:231:9
 returns : tie.Need-returns
 returns c = fault-header ((c .before .before .before .args .sheet) .now) (c .before .header-fault .result) (c .before .header-fault .ensures) (c .if1 .taken)
 
--- src/faults.rt:233:9
 short-column-requires : tie.Need-short-column-requires
 short-column-requires c κs = (omega (arith, header-long ((c .before .before .before .args .sheet) .now) (c .before .header-fault .result) (c .before .header-fault .ensures) (c .if1 .left)), header-short ((c .before .before .before .args .sheet) .now) (c .before .header-fault .result) (c .before .header-fault .ensures) (c .if1 .left) .0)
 
--- src/faults.rt:234:9
 short-column-requires-2 : tie.Need-short-column-requires-2
 short-column-requires-2 c κs = (omega (arith, header-long ((c .before .before .before .before .args .sheet) .now) (c .before .before .header-fault .result) (c .before .before .header-fault .ensures) (c .before .if1 .left)), header-short ((c .before .before .before .before .args .sheet) .now) (c .before .before .header-fault .result) (c .before .before .header-fault .ensures) (c .before .if1 .left) .1)
 
--- src/faults.rt:235:9
 column-requires : tie.Need-column-requires
 column-requires c κs = omega (arith, header-long ((c .before .before .before .before .before .args .sheet) .now) (c .before .before .before .header-fault .result) (c .before .before .before .header-fault .ensures) (c .before .before .if1 .left))
 
--- src/faults.rt:236:9
 state-faults-requires : tie.Need-state-faults-requires
 state-faults-requires c κs = states-few ((c .before .before .before .before .before .before .args .sheet) .now) (c .before .before .before .before .header-fault .result) (c .before .before .before .before .header-fault .ensures) (c .before .before .short-column .result) (c .before .short-column2 .result) (c .column .result) (c .before .before .before .if1 .left) (c .before .before .short-column .ensures) (c .before .short-column2 .ensures) (c .column .ensures)
 
--- src/faults.rt:238:9
 returns-2 : tie.Need-returns-2
 returns-2 c = fault-state ((c .before .before .before .before .before .before .before .before .args .sheet) .now) (c .before .before .before .before .before .before .header-fault .result) (c .before .before .before .before .before .before .header-fault .ensures) (c .before .before .before .before .short-column .result) (c .before .before .before .short-column2 .result) (c .before .before .column .result) (c .before .before .before .before .before .if1 .left) (c .before .before .before .before .short-column .ensures) (c .before .before .before .short-column2 .ensures) (c .before .before .column .ensures) (c .before .state-faults .result) (c .before .state-faults .ensures) (c .if2 .taken)
 
--- src/faults.rt:240:9
 transition-faults-requires : tie.Need-transition-faults-requires
 transition-faults-requires c κs = (states-few ((c .before .before .before .before .before .before .before .before .args .sheet) .now) (c .before .before .before .before .before .before .header-fault .result) (c .before .before .before .before .before .before .header-fault .ensures) (c .before .before .before .before .short-column .result) (c .before .before .before .short-column2 .result) (c .before .before .column .result) (c .before .before .before .before .before .if1 .left) (c .before .before .before .before .short-column .ensures) (c .before .before .before .short-column2 .ensures) (c .before .before .column .ensures), transitions-few ((c .before .before .before .before .before .before .before .before .args .sheet) .now) (c .before .before .before .before .before .before .header-fault .result) (c .before .before .before .before .before .before .header-fault .ensures) (c .before .before .before .before .short-column .result) (c .before .before .before .short-column2 .result) (c .before .before .column .result) (c .before .before .before .before .before .if1 .left) (c .before .before .before .before .short-column .ensures) (c .before .before .before .short-column2 .ensures) (c .before .before .column .ensures))
 
--- src/faults.rt:242:9
 returns-3 : tie.Need-returns-3
 returns-3 c = fault-transition ((c .before .before .before .before .before .before .before .before .before .before .args .sheet) .now) (c .before .before .before .before .before .before .before .before .header-fault .result) (c .before .before .before .before .before .before .before .before .header-fault .ensures) (c .before .before .before .before .before .before .short-column .result) (c .before .before .before .before .before .short-column2 .result) (c .before .before .before .before .column .result) (c .before .before .before .before .before .before .before .if1 .left) (c .before .before .before .before .before .before .short-column .ensures) (c .before .before .before .before .before .short-column2 .ensures) (c .before .before .before .before .column .ensures) (c .before .before .before .state-faults .result) (c .before .transition-faults .result) (c .before .before .before .state-faults .ensures) (c .before .before .if2 .left) (c .before .transition-faults .ensures) (c .if3 .taken)
 
--- src/faults.rt:244:13
 mul-if4 : tie.Need-mul-if4
 mul-if4 c = omega (arith, states-few ((c .before .before .before .before .before .before .before .before .before .before .args .sheet) .now) (c .before .before .before .before .before .before .before .before .header-fault .result) (c .before .before .before .before .before .before .before .before .header-fault .ensures) (c .before .before .before .before .before .before .short-column .result) (c .before .before .before .before .before .short-column2 .result) (c .before .before .before .before .column .result) (c .before .before .before .before .before .before .before .if1 .left) (c .before .before .before .before .before .before .short-column .ensures) (c .before .before .before .before .before .short-column2 .ensures) (c .before .before .before .before .column .ensures))
 
--- src/faults.rt:244:8
 add-if4 : tie.Need-add-if4
 add-if4 c = omega (arith, states-few ((c .before .before .before .before .before .before .before .before .before .before .args .sheet) .now) (c .before .before .before .before .before .before .before .before .header-fault .result) (c .before .before .before .before .before .before .before .before .header-fault .ensures) (c .before .before .before .before .before .before .short-column .result) (c .before .before .before .before .before .short-column2 .result) (c .before .before .before .before .column .result) (c .before .before .before .before .before .before .before .if1 .left) (c .before .before .before .before .before .before .short-column .ensures) (c .before .before .before .before .before .short-column2 .ensures) (c .before .before .before .before .column .ensures))
 
--- src/faults.rt:244:27
 mul-if4-2 : tie.Need-mul-if4-2
 mul-if4-2 c = omega (arith, transitions-few ((c .before .before .before .before .before .before .before .before .before .before .args .sheet) .now) (c .before .before .before .before .before .before .before .before .header-fault .result) (c .before .before .before .before .before .before .before .before .header-fault .ensures) (c .before .before .before .before .before .before .short-column .result) (c .before .before .before .before .before .short-column2 .result) (c .before .before .before .before .column .result) (c .before .before .before .before .before .before .before .if1 .left) (c .before .before .before .before .before .before .short-column .ensures) (c .before .before .before .before .before .short-column2 .ensures) (c .before .before .before .before .column .ensures))
 
--- src/faults.rt:244:8
 add-if4-2 : tie.Need-add-if4-2
 add-if4-2 c = omega (arith, states-few ((c .before .before .before .before .before .before .before .before .before .before .args .sheet) .now) (c .before .before .before .before .before .before .before .before .header-fault .result) (c .before .before .before .before .before .before .before .before .header-fault .ensures) (c .before .before .before .before .before .before .short-column .result) (c .before .before .before .before .before .short-column2 .result) (c .before .before .before .before .column .result) (c .before .before .before .before .before .before .before .if1 .left) (c .before .before .before .before .before .before .short-column .ensures) (c .before .before .before .before .before .short-column2 .ensures) (c .before .before .before .before .column .ensures), transitions-few ((c .before .before .before .before .before .before .before .before .before .before .args .sheet) .now) (c .before .before .before .before .before .before .before .before .header-fault .result) (c .before .before .before .before .before .before .before .before .header-fault .ensures) (c .before .before .before .before .before .before .short-column .result) (c .before .before .before .before .before .short-column2 .result) (c .before .before .before .before .column .result) (c .before .before .before .before .before .before .before .if1 .left) (c .before .before .before .before .before .before .short-column .ensures) (c .before .before .before .before .before .short-column2 .ensures) (c .before .before .before .before .column .ensures))
 
--- src/faults.rt:245:9
 returns-4 : tie.Need-returns-4
 returns-4 c = fault-bytes ((c .before .before .before .before .before .before .before .before .before .before .before .args .sheet) .now) (c .before .before .before .before .before .before .before .before .before .header-fault .result) (c .before .before .before .before .before .before .before .before .before .header-fault .ensures) (c .before .before .before .before .before .before .before .short-column .result) (c .before .before .before .before .before .before .short-column2 .result) (c .before .before .before .before .before .column .result) (c .before .before .before .before .before .before .before .before .if1 .left) (c .before .before .before .before .before .before .before .short-column .ensures) (c .before .before .before .before .before .before .short-column2 .ensures) (c .before .before .before .before .before .column .ensures) (c .before .before .before .before .state-faults .result) (c .before .before .transition-faults .result) (c .before .before .before .before .state-faults .ensures) (c .before .before .before .if2 .left) (c .before .before .transition-faults .ensures) (c .before .if3 .left) (c .if4 .taken)
 
--- src/faults.rt:226:1
 returns-5 : tie.Need-returns-5
 returns-5 c = fault-none ((c .before .before .before .before .before .before .before .before .before .before .before .args .sheet) .now) (c .before .before .before .before .before .before .before .before .before .header-fault .result) (c .before .before .before .before .before .before .before .before .before .header-fault .ensures) (c .before .before .before .before .before .before .before .short-column .result) (c .before .before .before .before .before .before .short-column2 .result) (c .before .before .before .before .before .column .result) (c .before .before .before .before .before .before .before .before .if1 .left) (c .before .before .before .before .before .before .before .short-column .ensures) (c .before .before .before .before .before .before .short-column2 .ensures) (c .before .before .before .before .before .column .ensures) (c .before .before .before .before .state-faults .result) (c .before .before .transition-faults .result) (c .before .before .before .before .state-faults .ensures) (c .before .before .before .if2 .left) (c .before .before .transition-faults .ensures) (c .before .if3 .left) (c .if4 .left)
 

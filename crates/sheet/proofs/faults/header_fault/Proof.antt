@@ -17,71 +17,54 @@ Inv-loop sheet numbers₀ c₀ numbers c = (c ≤ 3) × (length numbers ≡ 3) �
 abbrev μ-loop : tie.MeasureT-loop
 μ-loop sheet numbers₀ c₀ numbers c = 3 - c
 
--- src/faults.rt:43:9
 returns : tie.Need-returns Inv-loop μ-loop
 returns c = header-line ((c .before .before .args .sheet) .now) 1 (λ (q : 1 ≡ 0). omega arith) (line-short ((c .before .before .args .sheet) .now) 0 3 (c .if1 .taken))
 
--- src/faults.rt:47:5
 loop-holds : tie.Need-loop-holds Inv-loop μ-loop
 loop-holds c = (omega arith, refl, held-none _ 0 _)
 
--- src/faults.rt:48:31
 mul-column : tie.Need-mul-column Inv-loop μ-loop
 mul-column c = omega arith
 
--- src/faults.rt:48:13
 column-requires : tie.Need-column-requires Inv-loop μ-loop
 column-requires c κs = omega (arith, (c .before .before .if1 .left))
 
--- src/faults.rt:50:13
 returns-2 : tie.Need-returns-2 Inv-loop μ-loop
 returns-2 c = header-line ((c .before .before .before .before .before .before .args .sheet) .now) 2 (λ (q : 2 ≡ 0). omega arith) (line-column ((c .before .before .before .before .before .before .args .sheet) .now) 0 3 (c .before .before .before .before .if1 .left) (c .before .before .before .loop .c) (c .before .before .before .loop .numbers) ((c .before .before .before .loop .inv) .2) (c .before .before .loop-test .taken) (sym (from-zero ((c .before .before .before .before .before .before .args .sheet) .now) (c .before .before .before .loop .c) (c .before .column .result) (c .before .column .ensures)) ∙ (c .if2 .taken)))
 
--- src/faults.rt:52:9
 mul-numbers : tie.Need-mul-numbers Inv-loop μ-loop
 mul-numbers c = omega arith
 
--- src/faults.rt:52:9
 array-write-numbers : tie.Need-array-write-numbers Inv-loop μ-loop
 array-write-numbers c = omega arith
 
--- src/faults.rt:53:9
 add-c : tie.Need-add-c Inv-loop μ-loop
 add-c c = omega arith
 
--- src/faults.rt:47:5
 loop-less : tie.Need-loop-less Inv-loop μ-loop
 loop-less c = omega arith
 
--- src/faults.rt:47:5
 loop-again : tie.Need-loop-again Inv-loop μ-loop
 loop-again c = (omega arith, length-set (c .before .before .before .loop .numbers) (c .before .before .before .loop .c) (c .before .column .result) ∙ (c .before .before .before .loop .inv) .1, held-next ((c .before .before .before .before .before .before .args .sheet) .now) 0 (c .before .before .before .loop .c) (c .before .column .result) (c .before .before .before .loop .numbers) ((c .before .before .before .loop .inv) .2) (from-zero ((c .before .before .before .before .before .before .args .sheet) .now) (c .before .before .before .loop .c) (c .before .column .result) (c .before .column .ensures)) (c .if2 .left) (omega (arith, (c .before .before .before .loop .inv) .1, (c .before .before .loop-test .taken))))
 
--- src/faults.rt:55:8
 shared-slice-read-if3 : tie.Need-shared-slice-read-if3 Inv-loop μ-loop
 shared-slice-read-if3 c = omega (arith, (c .before .before .before .if1 .left))
 
--- src/faults.rt:56:9
 returns-3 : tie.Need-returns-3 Inv-loop μ-loop
 returns-3 c = header-line ((c .before .before .before .before .before .before .args .sheet) .now) 2 (λ (q : 2 ≡ 0). omega arith) (line-end ((c .before .before .before .before .before .before .args .sheet) .now) 0 3 (c .before .before .before .before .if1 .left) (c .before .before .before .loop .c) (c .before .before .before .loop .numbers) ((c .before .before .before .loop .inv) .2) (omega (arith, (c .before .before .before .loop .inv) .0, (c .before .before .loop-test .left))) (c .if3 .taken))
 
--- src/faults.rt:58:18
 array-read-counts-fault : tie.Need-array-read-counts-fault Inv-loop μ-loop
 array-read-counts-fault c = omega arith
 
--- src/faults.rt:58:30
 array-read-counts-fault-2 : tie.Need-array-read-counts-fault-2 Inv-loop μ-loop
 array-read-counts-fault-2 c = omega arith
 
--- src/faults.rt:58:42
 array-read-counts-fault-3 : tie.Need-array-read-counts-fault-3 Inv-loop μ-loop
 array-read-counts-fault-3 c = omega arith
 
--- src/faults.rt:58:5
 counts-fault-requires : tie.Need-counts-fault-requires Inv-loop μ-loop
 counts-fault-requires c κs = search needs
 
--- src/faults.rt:39:1
 returns-4 : tie.Need-returns-4 Inv-loop μ-loop
 returns-4 c = (c .counts-fault .ensures) ∙ header-counts ((c .before .before .before .before .before .before .before .args .sheet) .now) (c .before .before .before .before .loop .c) _ _ _ (c .before .before .before .before .loop .numbers) (line-good ((c .before .before .before .before .before .before .before .args .sheet) .now) 0 3 (c .before .before .before .before .before .if1 .left) (c .before .before .before .before .loop .c) (c .before .before .before .before .loop .numbers) ((c .before .before .before .before .loop .inv) .2) (omega (arith, (c .before .before .before .before .loop .inv) .0, (c .before .before .before .loop-test .left))) (c .before .if3 .left)) ((c .before .before .before .before .loop .inv) .2) (omega (arith, (c .before .before .before .before .loop .inv) .0, (c .before .before .before .loop-test .left))) refl refl refl
 

@@ -5,15 +5,12 @@ use Rattle.sheet.proofs.faults.is_named.Tie as tie
 use Rattle.sheet.proofs.faults.is_named.Reads as reads
 use Rattle.sheet.proofs.faults.is_named.Lts as lts
 
--- src/faults.rt:129:9
 returns : tie.Need-returns
 returns c = named-from (c .before .before .args .states) (c .before .before .args .letters) (asTransition (c .before .before .args .t)) (c .if1 .taken)
 
--- src/faults.rt:132:9
 returns-2 : tie.Need-returns-2
 returns-2 c = named-letter (c .before .before .before .before .args .states) (c .before .before .before .before .args .letters) (asTransition (c .before .before .before .before .args .t)) (c .before .before .if1 .left) (c .if2 .taken)
 
--- src/faults.rt:125:1
 returns-3 : tie.Need-returns-3
 returns-3 c = named-to (c .before .before .before .before .before .args .states) (c .before .before .before .before .before .args .letters) (asTransition (c .before .before .before .before .before .args .t)) (c .before .before .before .if1 .left) (c .before .if2 .left)
 

@@ -13,27 +13,21 @@ use Rattle.sheet.proofs.faults.order_fault.Lts as lts
 use Rattle.sheet.proofs.faults.is_named.Reads as is-named-reads
 use Rattle.sheet.proofs.faults.rises.Reads as rises-reads
 
--- src/faults.rt:155:9
 is-named-requires : tie.Need-is-named-requires
 is-named-requires c κs = search needs
 
--- src/faults.rt:156:9
 rises-requires : tie.Need-rises-requires
 rises-requires c κs = search needs
 
--- src/faults.rt:158:9
 returns : tie.Need-returns
 returns c = order-unnamed (c .before .before .before .args .states) (c .before .before .before .args .letters) (c .before .before .before .args .first) (asTransition (c .before .before .before .args .before)) (asTransition (c .before .before .before .args .t)) (c .before .before .is-named .result) (c .before .before .is-named .ensures) (not-true _ (c .if1 .taken))
 
--- src/faults.rt:161:9
 returns-2 : tie.Need-returns-2
 returns-2 c = order-first (c .before .before .before .before .args .states) (c .before .before .before .before .args .letters) (c .before .before .before .before .args .first) (asTransition (c .before .before .before .before .args .before)) (asTransition (c .before .before .before .before .args .t)) (c .before .before .before .is-named .result) (c .before .before .before .is-named .ensures) (not-false _ (c .before .if1 .left)) (c .if2 .taken)
 
--- src/faults.rt:164:9
 returns-3 : tie.Need-returns-3
 returns-3 c = order-falls (c .before .before .before .before .before .args .states) (c .before .before .before .before .before .args .letters) (c .before .before .before .before .before .args .first) (asTransition (c .before .before .before .before .before .args .before)) (asTransition (c .before .before .before .before .before .args .t)) (c .before .before .before .before .is-named .result) (c .before .before .before .before .is-named .ensures) (not-false _ (c .before .before .if1 .left)) (c .before .if2 .left) (c .before .before .before .rises .result) (c .before .before .before .rises .ensures) (not-true _ (c .if3 .taken))
 
--- src/faults.rt:152:1
 returns-4 : tie.Need-returns-4
 returns-4 c = order-rises (c .before .before .before .before .before .args .states) (c .before .before .before .before .before .args .letters) (c .before .before .before .before .before .args .first) (asTransition (c .before .before .before .before .before .args .before)) (asTransition (c .before .before .before .before .before .args .t)) (c .before .before .before .before .is-named .result) (c .before .before .before .before .is-named .ensures) (not-false _ (c .before .before .if1 .left)) (c .before .if2 .left) (c .before .before .before .rises .result) (c .before .before .before .rises .ensures) (not-false _ (c .if3 .left))
 

@@ -5,15 +5,12 @@ use Rattle.sheet.proofs.faults.rises.Tie as tie
 use Rattle.sheet.proofs.faults.rises.Reads as reads
 use Rattle.sheet.proofs.faults.rises.Lts as lts
 
--- src/faults.rt:142:9
 returns : tie.Need-returns
 returns c = precedes-from (asTransition (c .before .before .before .before .before .args .before)) (asTransition (c .before .before .before .before .before .args .t)) (c .before .before .if1 .taken)
 
--- src/faults.rt:145:9
 returns-2 : tie.Need-returns-2
 returns-2 c = precedes-letter (asTransition (c .before .before .before .before .before .before .before .before .args .before)) (asTransition (c .before .before .before .before .before .before .before .before .args .t)) (c .before .before .before .before .before .if1 .left) (c .before .before .if2 .taken)
 
--- src/faults.rt:138:1
 returns-3 : tie.Need-returns-3
 returns-3 c = precedes-to (asTransition (c .before .before .before .before .before .before .before .before .args .before)) (asTransition (c .before .before .before .before .before .before .before .before .args .t)) (c .before .before .before .before .before .if1 .left) (c .before .before .if2 .left)
 

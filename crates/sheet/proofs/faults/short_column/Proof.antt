@@ -6,16 +6,13 @@ use Rattle.sheet.proofs.faults.short_column.Reads as reads
 use Rattle.sheet.proofs.faults.short_column.Lts as lts
 use Rattle.columns.proofs.short_number.Reads as short-number-reads
 
--- src/faults.rt:32:5
 short-number-requires : tie.Need-short-number-requires
 unfolding columnAt
 short-number-requires c κs = (c .before .pre)
 
--- src/faults.rt:32:5
 cast-result : tie.Need-cast-result
 cast-result c = search needs
 
--- src/faults.rt:28:1
 returns : tie.Need-returns
 unfolding columnAt
 returns c = (c .short-number .ensures)

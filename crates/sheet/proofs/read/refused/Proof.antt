@@ -4,7 +4,6 @@ use Rattle.sheet.proofs.read.refused.Tie as tie
 use Rattle.sheet.proofs.read.refused.Reads as reads
 use Rattle.sheet.proofs.read.refused.Lts as lts
 
--- src/read.rt:19:1
 returns : tie.Need-returns
 returns c = refl
 

@@ -14,35 +14,27 @@ use Rattle.columns.proofs.write_number.Reads as write-number-reads
 use Rattle.columns.proofs.write_short.Reads as write-short-reads
 use Rattle.columns.proofs.write_shorter.Reads as write-shorter-reads
 
--- src/write.rt:26:38
 cast-write-shorter : tie.Need-cast-write-shorter
 cast-write-shorter c = search needs
 
--- src/write.rt:26:5
 write-shorter-requires : tie.Need-write-shorter-requires
 write-shorter-requires c κs = search needs
 
--- src/write.rt:27:36
 cast-write-short : tie.Need-cast-write-short
 cast-write-short c = search needs
 
--- src/write.rt:27:5
 write-short-requires : tie.Need-write-short-requires
 write-short-requires c κs = search needs
 
--- src/write.rt:28:5
 write-number-requires : tie.Need-write-number-requires
 write-number-requires c κs = search needs
 
--- src/write.rt:29:5
 slice-write-sheet : tie.Need-slice-write-sheet
 slice-write-sheet c = omega (arith, (c .before .before .before .before .before .before .before .before .before .before .before .before .before .pre) .0, (c .before .before .before .before .before .before .before .before .before .before .write-shorter .kept) .0, (c .before .before .before .before .before .before .write-short .kept) .0, (c .before .before .write-number .kept) .0)
 
--- src/write.rt:22:1
 same-length : tie.Need-same-length
 same-length c = ap length (line-three ((c .before .before .before .before .before .before .before .before .before .before .before .before .before .args .sheet) .now) ((c .before .before .before .before .before .before .before .before .before .before .write-shorter .last) .0) ((c .before .before .before .before .before .before .write-short .last) .0) 0 (c .before .before .before .before .before .before .before .before .before .before .before .before .before .args .states) (c .before .before .before .before .before .before .before .before .before .before .before .before .before .args .letters) (c .before .before .before .before .before .before .before .before .before .before .write-shorter .ensures) (c .before .before .before .before .before .before .write-short .ensures) ((c .before .before .write-number .last) .0) (c .before .before .before .before .before .before .before .before .before .before .before .before .before .args .transitions) (c .before .before .write-number .ensures) ((c .before .before .before .before .before .before .before .before .before .before .before .before .before .pre) .0)) ∙ put-length 0 ((c .before .before .before .before .before .before .before .before .before .before .before .before .before .args .sheet) .now) (lineOf ((c .before .before .before .before .before .before .before .before .before .before .before .before .before .args .states) ∷ (c .before .before .before .before .before .before .before .before .before .before .before .before .before .args .letters) ∷ (c .before .before .before .before .before .before .before .before .before .before .before .before .before .args .transitions) ∷ [])) (omega (arith, length-three (c .before .before .before .before .before .before .before .before .before .before .before .before .before .args .states) (c .before .before .before .before .before .before .before .before .before .before .before .before .before .args .letters) (c .before .before .before .before .before .before .before .before .before .before .before .before .before .args .transitions), (c .before .before .before .before .before .before .before .before .before .before .before .before .before .pre) .0))
 
--- src/write.rt:22:1
 returns : tie.Need-returns
 returns c = line-three ((c .before .before .before .before .before .before .before .before .before .before .before .before .before .args .sheet) .now) ((c .before .before .before .before .before .before .before .before .before .before .write-shorter .last) .0) ((c .before .before .before .before .before .before .write-short .last) .0) 0 (c .before .before .before .before .before .before .before .before .before .before .before .before .before .args .states) (c .before .before .before .before .before .before .before .before .before .before .before .before .before .args .letters) (c .before .before .before .before .before .before .before .before .before .before .write-shorter .ensures) (c .before .before .before .before .before .before .write-short .ensures) ((c .before .before .write-number .last) .0) (c .before .before .before .before .before .before .before .before .before .before .before .before .before .args .transitions) (c .before .before .write-number .ensures) ((c .before .before .before .before .before .before .before .before .before .before .before .before .before .pre) .0)
 

@@ -13,51 +13,39 @@ use Rattle.sheet.proofs.write.write_header.Reads as write-header-reads
 use Rattle.sheet.proofs.write.write_states.Reads as write-states-reads
 use Rattle.sheet.proofs.write.write_transitions.Reads as write-transitions-reads
 
--- src/write.rt:89:9
 is-well-formed-requires : tie.Need-is-well-formed-requires
 is-well-formed-requires c κs = search needs
 
--- src/write.rt:90:9
 returns : tie.Need-returns
 returns c = write-says _ _ _ _ _ (write-ill (c .before .before .before .before .args .t1) ((c .before .before .before .before .args .list) .now) ((c .before .before .before .before .args .sheet) .now) (c .before .is-well-formed .result) (c .before .is-well-formed .ensures) (not-true _ (c .if1 .taken)))
 
--- src/write.rt:95:22
 mul-start : tie.Need-mul-start
 mul-start c = omega (arith, well-formed-counts (c .before .before .before .before .args .t1) ((c .before .before .before .before .args .list) .now) (c .before .is-well-formed .result) (c .before .is-well-formed .ensures) (not-false _ (c .if1 .left)))
 
--- src/write.rt:95:17
 add-start : tie.Need-add-start
 add-start c = omega (arith, well-formed-counts (c .before .before .before .before .args .t1) ((c .before .before .before .before .args .list) .now) (c .before .is-well-formed .result) (c .before .is-well-formed .ensures) (not-false _ (c .if1 .left)))
 
--- src/write.rt:96:26
 mul-needed : tie.Need-mul-needed
 mul-needed c = omega (arith, well-formed-counts (c .before .before .before .before .args .t1) ((c .before .before .before .before .args .list) .now) (c .before .is-well-formed .result) (c .before .is-well-formed .ensures) (not-false _ (c .if1 .left)))
 
--- src/write.rt:96:18
 add-needed : tie.Need-add-needed
 add-needed c = omega (arith, well-formed-counts (c .before .before .before .before .args .t1) ((c .before .before .before .before .args .list) .now) (c .before .is-well-formed .result) (c .before .is-well-formed .ensures) (not-false _ (c .if1 .left)))
 
--- src/write.rt:98:9
 returns-2 : tie.Need-returns-2
 returns-2 c = write-says _ _ _ _ _ (write-short (c .before .before .before .before .before .args .t1) ((c .before .before .before .before .before .args .list) .now) ((c .before .before .before .before .before .args .sheet) .now) (c .before .before .is-well-formed .result) _ (c .before .before .is-well-formed .ensures) (not-false _ (c .before .if1 .left)) refl (c .if2 .taken))
 
--- src/write.rt:100:5
 write-header-requires : tie.Need-write-header-requires
 write-header-requires c κs = (omega (arith, (c .before .if2 .left)), omega (arith, well-formed-counts ((c .before .before .before .before .before .before .args) .t1) ((c .before .before .before .before .before .before .args .list) .now) (c .before .before .before .is-well-formed .result) (c .before .before .before .is-well-formed .ensures) (not-false _ (c .before .before .if1 .left)) .0), omega (arith, well-formed-letters ((c .before .before .before .before .before .before .args) .t1) ((c .before .before .before .before .before .before .args .list) .now) (c .before .before .before .is-well-formed .result) (c .before .before .before .is-well-formed .ensures) (not-false _ (c .before .before .if1 .left))))
 
--- src/write.rt:101:5
 write-states-requires : tie.Need-write-states-requires
 write-states-requires c κs = ((well-formed-counts (c .before .before .before .before .before .before .before .before .before .before .before .before .args .t1) ((c .before .before .before .before .before .before .before .before .before .before .before .before .args .list) .now) (c .before .before .before .before .before .before .before .before .before .is-well-formed .result) (c .before .before .before .before .before .before .before .before .before .is-well-formed .ensures) (not-false _ (c .before .before .before .before .before .before .before .before .if1 .left))) .0, omega (arith, (c .before .before .before .before .before .write-header .kept) .0, (c .before .before .before .before .before .before .before .if2 .left)))
 
--- src/write.rt:102:5
 write-transitions-requires : tie.Need-write-transitions-requires
 write-transitions-requires c κs = (well-formed-counts ((c .before .before .before .before .before .before .before .before .before .before .before .before .before .before .before .before .args) .t1) ((c .before .before .before .before .before .before .before .before .before .before .before .before .before .before .before .before .args .list) .now) (c .before .before .before .before .before .before .before .before .before .before .before .before .before .is-well-formed .result) (c .before .before .before .before .before .before .before .before .before .before .before .before .before .is-well-formed .ensures) (not-false _ (c .before .before .before .before .before .before .before .before .before .before .before .before .if1 .left)) .2, omega (arith, (c .before .before .before .before .before .before .before .before .before .write-header .kept) .0, (c .before .before .before .write-states .kept) .0, (c .before .before .before .before .before .before .before .before .before .before .before .if2 .left)), well-formed-short ((c .before .before .before .before .before .before .before .before .before .before .before .before .before .before .before .before .args) .t1) ((c .before .before .before .before .before .before .before .before .before .before .before .before .before .before .before .before .args .list) .now) (c .before .before .before .before .before .before .before .before .before .before .before .before .before .is-well-formed .result) (c .before .before .before .before .before .before .before .before .before .before .before .before .before .is-well-formed .ensures) (not-false _ (c .before .before .before .before .before .before .before .before .before .before .before .before .if1 .left)))
 
--- src/write.rt:86:1
 same-length : tie.Need-same-length
 same-length c = search needs
 
--- src/write.rt:86:1
 returns-3 : tie.Need-returns-3
 returns-3 c = write-says _ _ _ _ _ (write-long (c .before .before .before .before .before .before .before .before .before .before .before .before .before .before .before .before .before .before .before .args .t1) ((c .before .before .before .before .before .before .before .before .before .before .before .before .before .before .before .before .before .before .before .args .list) .now) ((c .before .before .before .before .before .before .before .before .before .before .before .before .before .before .before .before .before .before .before .args .sheet) .now) (c .before .before .before .before .before .before .before .before .before .before .before .before .before .before .before .before .is-well-formed .result) _ ((c .before .before .write-transitions .last) .0) (c .before .before .before .before .before .before .before .before .before .before .before .before .before .before .before .before .is-well-formed .ensures) (not-false _ (c .before .before .before .before .before .before .before .before .before .before .before .before .before .before .before .if1 .left)) refl (c .before .before .before .before .before .before .before .before .before .before .before .before .before .before .if2 .left) (sheet-put (c .before .before .before .before .before .before .before .before .before .before .before .before .before .before .before .before .before .before .before .args .t1) ((c .before .before .before .before .before .before .before .before .before .before .before .before .before .before .before .before .before .before .before .args .list) .now) ((c .before .before .before .before .before .before .before .before .before .before .before .before .before .before .before .before .before .before .before .args .sheet) .now) ((c .before .before .before .before .before .before .before .before .before .before .before .before .write-header .last) .0) ((c .before .before .before .before .before .before .write-states .last) .0) ((c .before .before .write-transitions .last) .0) _ (c .before .before .before .before .before .before .before .before .before .before .before .before .write-header .ensures) (c .before .before .before .before .before .before .write-states .ensures) (c .before .before .write-transitions .ensures) refl (c .before .before .before .before .before .before .before .before .before .before .before .before .before .before .if2 .left)))
 

@@ -13,39 +13,30 @@ use Rattle.sheet.proofs.write.write_transition.Lts as lts
 use Rattle.columns.proofs.write_short.Reads as write-short-reads
 use Rattle.columns.proofs.write_shorter.Reads as write-shorter-reads
 
--- src/write.rt:47:5
 write-shorter-requires : tie.Need-write-shorter-requires
 write-shorter-requires c κs = search needs
 
--- src/write.rt:48:33
 add-write-short : tie.Need-add-write-short
 add-write-short c = search needs
 
--- src/write.rt:48:5
 write-short-requires : tie.Need-write-short-requires
 write-short-requires c κs = search needs
 
--- src/write.rt:49:35
 add-write-shorter : tie.Need-add-write-shorter
 add-write-shorter c = search needs
 
--- src/write.rt:49:5
 write-shorter-requires-2 : tie.Need-write-shorter-requires-2
 write-shorter-requires-2 c κs = search needs
 
--- src/write.rt:50:11
 add-sheet : tie.Need-add-sheet
 add-sheet c = search needs
 
--- src/write.rt:50:5
 slice-write-sheet : tie.Need-slice-write-sheet
 slice-write-sheet c = omega (arith, (c .before .before .before .before .before .before .before .before .before .before .before .before .before .pre) .0, (c .before .before .before .before .before .before .before .before .before .before .write-shorter .kept) .0, (c .before .before .before .before .before .before .write-short .kept) .0, (c .before .before .write-shorter2 .kept) .0)
 
--- src/write.rt:43:1
 same-length : tie.Need-same-length
 same-length c = ap length (line-three ((c .before .before .before .before .before .before .before .before .before .before .before .before .before .args .sheet) .now) ((c .before .before .before .before .before .before .before .before .before .before .write-shorter .last) .0) ((c .before .before .before .before .before .before .write-short .last) .0) (c .before .before .before .before .before .before .before .before .before .before .before .before .before .args .at) (c .before .before .before .before .before .before .before .before .before .before .before .before .before .args .from) (c .before .before .before .before .before .before .before .before .before .before .before .before .before .args .letter) (c .before .before .before .before .before .before .before .before .before .before .write-shorter .ensures) (c .before .before .before .before .before .before .write-short .ensures) ((c .before .before .write-shorter2 .last) .0) (c .before .before .before .before .before .before .before .before .before .before .before .before .before .args .to) (c .before .before .write-shorter2 .ensures) ((c .before .before .before .before .before .before .before .before .before .before .before .before .before .pre) .0)) ∙ put-length (c .before .before .before .before .before .before .before .before .before .before .before .before .before .args .at) ((c .before .before .before .before .before .before .before .before .before .before .before .before .before .args .sheet) .now) (lineOf ((c .before .before .before .before .before .before .before .before .before .before .before .before .before .args .from) ∷ (c .before .before .before .before .before .before .before .before .before .before .before .before .before .args .letter) ∷ (c .before .before .before .before .before .before .before .before .before .before .before .before .before .args .to) ∷ [])) (omega (arith, length-three (c .before .before .before .before .before .before .before .before .before .before .before .before .before .args .from) (c .before .before .before .before .before .before .before .before .before .before .before .before .before .args .letter) (c .before .before .before .before .before .before .before .before .before .before .before .before .before .args .to), (c .before .before .before .before .before .before .before .before .before .before .before .before .before .pre) .0))
 
--- src/write.rt:43:1
 returns : tie.Need-returns
 returns c = line-three ((c .before .before .before .before .before .before .before .before .before .before .before .before .before .args .sheet) .now) ((c .before .before .before .before .before .before .before .before .before .before .write-shorter .last) .0) ((c .before .before .before .before .before .before .write-short .last) .0) (c .before .before .before .before .before .before .before .before .before .before .before .before .before .args .at) (c .before .before .before .before .before .before .before .before .before .before .before .before .before .args .from) (c .before .before .before .before .before .before .before .before .before .before .before .before .before .args .letter) (c .before .before .before .before .before .before .before .before .before .before .write-shorter .ensures) (c .before .before .before .before .before .before .write-short .ensures) ((c .before .before .write-shorter2 .last) .0) (c .before .before .before .before .before .before .before .before .before .before .before .before .before .args .to) (c .before .before .write-shorter2 .ensures) ((c .before .before .before .before .before .before .before .before .before .before .before .before .before .pre) .0)
 

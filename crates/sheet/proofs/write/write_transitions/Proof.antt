@@ -19,73 +19,56 @@ Inv-loop sheet₀ list start transitions at₀ k₀ sheet at k = (k ≤ transiti
 abbrev μ-loop : tie.MeasureT-loop
 μ-loop sheet₀ list start transitions at₀ k₀ sheet at k = transitions - k
 
--- src/write.rt:74:5
 loop-holds : tie.Need-loop-holds Inv-loop μ-loop
 loop-holds c = (omega arith, omega arith, each-none _ _ _, refl)
 
--- src/write.rt:75:17
 mul-i : tie.Need-mul-i Inv-loop μ-loop
 mul-i c = omega (arith, (c .before .before .before .before .pre) .0, (c .loop-test .taken), (c .before .before .before .before .good))
 
--- src/write.rt:76:37
 mul-write-transition : tie.Need-mul-write-transition Inv-loop μ-loop
 mul-write-transition c = omega (arith, (c .before .before .before .before .before .pre) .0, (c .before .loop-test .taken), (c .before .before .before .before .before .good))
 
--- src/write.rt:76:37
 shared-slice-read-write-transition : tie.Need-shared-slice-read-write-transition Inv-loop μ-loop
 shared-slice-read-write-transition c = omega (arith, (c .before .before .before .before .before .before .pre) .0, (c .before .before .loop-test .taken), (c .before .before .before .before .before .before .good))
 
--- src/write.rt:76:51
 add-write-transition : tie.Need-add-write-transition Inv-loop μ-loop
 add-write-transition c = omega (arith, (c .before .before .before .before .before .before .pre) .0, (c .before .before .loop-test .taken), (c .before .before .before .before .before .before .good))
 
--- src/write.rt:76:46
 mul-write-transition-2 : tie.Need-mul-write-transition-2 Inv-loop μ-loop
 mul-write-transition-2 c = omega (arith, (c .before .before .before .before .before .before .pre) .0, (c .before .before .loop-test .taken), (c .before .before .before .before .before .before .good))
 
--- src/write.rt:76:46
 shared-slice-read-write-transition-2 :
     tie.Need-shared-slice-read-write-transition-2 Inv-loop μ-loop
 shared-slice-read-write-transition-2 c = omega (arith, (c .before .before .before .before .before .before .before .pre) .0, (c .before .before .before .loop-test .taken), (c .before .before .before .before .before .before .before .good))
 
--- src/write.rt:76:64
 add-write-transition-2 : tie.Need-add-write-transition-2 Inv-loop μ-loop
 add-write-transition-2 c = omega (arith, (c .before .before .before .before .before .before .before .pre) .0, (c .before .before .before .loop-test .taken), (c .before .before .before .before .before .before .before .good))
 
--- src/write.rt:76:59
 mul-write-transition-3 : tie.Need-mul-write-transition-3 Inv-loop μ-loop
 mul-write-transition-3 c = omega (arith, (c .before .before .before .before .before .before .before .pre) .0, (c .before .before .before .loop-test .taken), (c .before .before .before .before .before .before .before .good))
 
--- src/write.rt:76:59
 shared-slice-read-write-transition-3 :
     tie.Need-shared-slice-read-write-transition-3 Inv-loop μ-loop
 shared-slice-read-write-transition-3 c = omega (arith, (c .before .before .before .before .before .before .before .before .pre) .0, (c .before .before .before .before .loop-test .taken), (c .before .before .before .before .before .before .before .before .good))
 
--- src/write.rt:76:9
 write-transition-requires : tie.Need-write-transition-requires Inv-loop μ-loop
 write-transition-requires c κs = (omega (arith, (c .before .before .before .before .before .before .before .before .pre) .1, (c .before .before .before .before .before .loop .inv) .1, (c .before .before .before .before .before .loop .inv) .3, (c .before .before .before .before .loop-test .taken)), (c .before .before .before .before .before .before .before .before .pre) .2 (c .before .before .before .before .before .loop .k) (c .before .before .before .before .loop-test .taken) .0, (c .before .before .before .before .before .before .before .before .pre) .2 (c .before .before .before .before .before .loop .k) (c .before .before .before .before .loop-test .taken) .1, (c .before .before .before .before .before .before .before .before .pre) .2 (c .before .before .before .before .before .loop .k) (c .before .before .before .before .loop-test .taken) .2)
 
--- src/write.rt:77:9
 add-at : tie.Need-add-at Inv-loop μ-loop
 add-at c = omega (arith, (c .before .before .before .before .before .before .before .before .before .before .before .pre) .1, (c .before .before .before .before .before .before .before .before .loop .inv) .1, (c .before .before .before .before .before .before .before .loop-test .taken), (c .before .before .before .before .before .before .before .before .before .before .before .good))
 
--- src/write.rt:78:9
 add-k : tie.Need-add-k Inv-loop μ-loop
 add-k c = omega (arith, (c .before .before .before .before .before .before .before .before .before .before .before .pre) .0, (c .before .before .before .before .before .before .before .loop-test .taken), (c .before .before .before .before .before .before .before .before .before .before .before .good))
 
--- src/write.rt:74:5
 loop-less : tie.Need-loop-less Inv-loop μ-loop
 loop-less c = omega (arith, (c .before .before .before .before .before .before .before .loop-test .taken))
 
--- src/write.rt:74:5
 loop-again : tie.Need-loop-again Inv-loop μ-loop
 loop-again c = (omega (arith, (c .before .before .before .before .before .before .before .loop-test .taken)), omega (arith, (c .before .before .before .before .before .before .before .before .loop .inv) .1), each-more 16 (c .before .before .before .before .before .before .before .before .before .before .before .args .start) (transitionLine ((c .before .before .before .before .before .before .before .before .before .before .before .args .list) .now)) (transition-wide ((c .before .before .before .before .before .before .before .before .before .before .before .args .list) .now)) ((c .before .before .before .before .before .before .before .before .before .before .before .args .sheet) .now) (c .before .before .before .before .before .before .before .before .loop .sheet) ((c .before .before .write-transition .last) .0) _ (c .before .before .before .before .before .before .before .before .loop .k) (c .before .before .before .before .before .before .before .before .loop .at) ((c .before .before .before .before .before .before .before .before .loop .inv) .2) (c .before .before .write-transition .ensures) (transition-piece ((c .before .before .before .before .before .before .before .before .before .before .before .args .list) .now) (c .before .before .before .before .before .before .before .before .loop .k)) ((c .before .before .before .before .before .before .before .before .loop .inv) .1) (omega (arith, (c .before .before .before .before .before .before .before .before .before .before .before .pre) .1, (c .before .before .before .before .before .before .before .loop-test .taken))), (c .before .before .write-transition .kept) .0 ∙ (c .before .before .before .before .before .before .before .before .loop .inv) .3)
 
--- src/write.rt:68:1
 same-length : tie.Need-same-length Inv-loop μ-loop
 same-length c = (c .before .loop .inv) .3
 
--- src/write.rt:68:1
 returns : tie.Need-returns Inv-loop μ-loop
 returns c = each-done (c .before .before .before .before .args .start) _ _ _ (c .before .loop .k) _ ((c .before .loop .inv) .0) (c .loop-test .left) ((c .before .loop .inv) .2)
 

@@ -15,31 +15,24 @@ use Rattle.shortest.proofs.find.cost.Reads as cost-reads
 use Rattle.shortest.proofs.find.makes.Reads as makes-reads
 use Rattle.shortest.proofs.find.number.Reads as number-reads
 
--- src/copy.rt:29:9
 returns : tie.Need-returns
 returns c = stop _ (ne-eqb _ _ ((c) .if1 .taken)) ∙ begun-is _ _ _ _ _ _
 
--- src/copy.rt:31:9
 is-buffering-requires : tie.Need-is-buffering-requires
 is-buffering-requires c κs = search needs
 
--- src/copy.rt:32:9
 returns-2 : tie.Need-returns-2
 returns-2 c = pass (eq-eqb _ _ ((c .before .before) .if1 .left)) (stop _ (sym ((c .before) .is-buffering .ensures) ∙ not-true _ ((c) .if2 .taken))) ∙ begun-is _ _ _ _ _ _
 
--- src/copy.rt:34:17
 cost-requires : tie.Need-cost-requires
 cost-requires c κs = search needs
 
--- src/copy.rt:34:38
 number-requires : tie.Need-number-requires
 number-requires c κs = search needs
 
--- src/copy.rt:34:5
 makes-requires : tie.Need-makes-requires
 makes-requires c κs = search needs
 
--- src/copy.rt:24:1
 returns-3 : tie.Need-returns-3
 returns-3 c = pass (eq-eqb _ _ ((c .before .before .before .before .before) .if1 .left)) (pass (sym ((c .before .before .before .before) .is-buffering .ensures) ∙ not-false _ ((c .before .before .before) .if2 .left)) ((c) .makes .ensures ∙ (ap (λ (v : ℕ). eqb (v + 1) ((c .before) .number .result)) ((c .before .before) .cost .ensures) ∙ ap (λ (v : ℕ). eqb (costOf ((c .before .before .before .before .before .before) .args .d .now) ((c .before .before .before .before .before .before) .args .s) + 1) v) ((c .before) .number .ensures)))) ∙ begun-is _ _ _ _ _ _
 

@@ -11,83 +11,63 @@ use Rattle.shortest.proofs.copy.walk_back.Reads as walk-back-reads
 use Rattle.shortest.proofs.put.again.Reads as again-reads
 use Rattle.shortest.proofs.put.unload.Reads as unload-reads
 
--- src/copy.rt:136:9
 sub-run : tie.Need-sub-run
 sub-run c = let f = copy-first _ _ _ _ _ _ _ _ _ _ _ _ ((c .before .before .before) .pre) in omega arith
 
--- src/copy.rt:136:5
 mul-run : tie.Need-mul-run
 mul-run c = search needs
 
--- src/copy.rt:136:5
 slice-write-run : tie.Need-slice-write-run
 slice-write-run c = let f = copy-first _ _ _ _ _ _ _ _ _ _ _ _ ((c .before .before .before) .pre) in omega (arith, (c .before .before .before) .pre .run-fits)
 
--- src/copy.rt:137:65
 sub-walk-back : tie.Need-sub-walk-back
 sub-walk-back c = let f = copy-first _ _ _ _ _ _ _ _ _ _ _ _ ((c .before .before .before .before .before) .pre) in omega arith
 
--- src/copy.rt:137:9
 walk-back-requires : tie.Need-walk-back-requires
 walk-back-requires c κs = copy-going _ _ _ _ _ _ _ _ _ _ _ _ ((c .before .before .before .before .before .before) .pre)
 
--- src/copy.rt:139:13
 sub-e : tie.Need-sub-e
 sub-e c = let f = copy-finished _ _ _ _ _ _ _ _ _ _ _ _ ((c .before .before .before .before .before .before .before .before .before .before .before .before) .pre) _ _ _ _ ((c .before .before .before .before .before) .walk-back .ensures) in omega (arith, f .entries-room)
 
--- src/copy.rt:140:5
 mul-run-2 : tie.Need-mul-run-2
 mul-run-2 c = let f = copy-finished _ _ _ _ _ _ _ _ _ _ _ _ ((c .before .before .before .before .before .before .before .before .before .before .before .before) .pre) _ _ _ _ ((c .before .before .before .before .before) .walk-back .ensures) in omega (arith, f .run-bound, (c .before .before .before .before .before .before .before .before .before .before .before .before) .good)
 
--- src/copy.rt:140:5
 slice-write-run-2 : tie.Need-slice-write-run-2
 slice-write-run-2 c = let f = copy-finished _ _ _ _ _ _ _ _ _ _ _ _ ((c .before .before .before .before .before .before .before .before .before .before .before .before) .pre) _ _ _ _ ((c .before .before .before .before .before) .walk-back .ensures) in omega (arith, f .entries-room, f .run-fits)
 
--- src/copy.rt:141:25
 sub-again : tie.Need-sub-again
 sub-again c = let f = copy-finished _ _ _ _ _ _ _ _ _ _ _ _ ((c .before .before .before .before .before .before .before .before .before .before .before .before .before) .pre) _ _ _ _ ((c .before .before .before .before .before .before) .walk-back .ensures) in omega (arith, f .letters-fit)
 
--- src/copy.rt:141:5
 again-requires : tie.Need-again-requires
 again-requires c κs = let f = copy-finished _ _ _ _ _ _ _ _ _ _ _ _ ((c .before .before .before .before .before .before .before .before .before .before .before .before .before) .pre) _ _ _ _ ((c .before .before .before .before .before .before) .walk-back .ensures) in (omega (arith, f .letters, f .letters-room), omega (arith, f .word-fits, f .letters-fit))
 
--- src/copy.rt:142:5
 unload-requires : tie.Need-unload-requires
 unload-requires c κs = let f = copy-finished _ _ _ _ _ _ _ _ _ _ _ _ ((c .before .before .before .before .before .before .before .before .before .before .before .before .before .before .before .before .before .before) .pre) _ _ _ _ ((c .before .before .before .before .before .before .before .before .before .before .before) .walk-back .ensures) in (omega (arith, f .kept-few), omega (arith, f .entries-room), omega (arith, f .run-fits, length-set ((c .before .before .before .before .before .before .before .before .before .before .before) .walk-back .last .1 .1 .1 .1 .1 .1 .1 .1 .1 .0) ((c .before .before .before .before .before .before .before .before .before .before .before) .walk-back .result .entry - 1) 65534))
 
--- src/copy.rt:143:13
 sub-f : tie.Need-sub-f
 sub-f c = let f = copy-finished _ _ _ _ _ _ _ _ _ _ _ _ ((c .before .before .before .before .before .before .before .before .before .before .before .before .before .before .before .before .before .before .before .before .before .before) .pre) _ _ _ _ ((c .before .before .before .before .before .before .before .before .before .before .before .before .before .before .before) .walk-back .ensures) in omega (arith, f .entries-room)
 
--- src/copy.rt:143:13
 sub-f-2 : tie.Need-sub-f-2
 sub-f-2 c = let f = copy-finished _ _ _ _ _ _ _ _ _ _ _ _ ((c .before .before .before .before .before .before .before .before .before .before .before .before .before .before .before .before .before .before .before .before .before .before) .pre) _ _ _ _ ((c .before .before .before .before .before .before .before .before .before .before .before .before .before .before .before) .walk-back .ensures) in omega (arith, f .entries-room)
 
--- src/copy.rt:144:5
 mul-run-3 : tie.Need-mul-run-3
 mul-run-3 c = let f = copy-finished _ _ _ _ _ _ _ _ _ _ _ _ ((c .before .before .before .before .before .before .before .before .before .before .before .before .before .before .before .before .before .before .before .before .before .before) .pre) _ _ _ _ ((c .before .before .before .before .before .before .before .before .before .before .before .before .before .before .before) .walk-back .ensures) in omega (arith, f .entries-room, f .run-bound, (c .before .before .before .before .before .before .before .before .before .before .before .before .before .before .before .before .before .before .before .before .before .before) .good)
 
--- src/copy.rt:144:5
 slice-write-run-3 : tie.Need-slice-write-run-3
 slice-write-run-3 c = let f = copy-finished _ _ _ _ _ _ _ _ _ _ _ _ ((c .before .before .before .before .before .before .before .before .before .before .before .before .before .before .before .before .before .before .before .before .before .before) .pre) _ _ _ _ ((c .before .before .before .before .before .before .before .before .before .before .before .before .before .before .before) .walk-back .ensures) in omega (arith, f .entries-room, f .run-fits, (c .before .before .before) .unload .ensures .size, length-set ((c .before .before .before .before .before .before .before .before .before .before .before .before .before .before .before) .walk-back .last .1 .1 .1 .1 .1 .1 .1 .1 .1 .0) ((c .before .before .before .before .before .before .before .before .before .before .before .before .before .before .before) .walk-back .result .entry - 1) 65534)
 
--- src/copy.rt:147:22
 sub-t18 : tie.Need-sub-t18
 sub-t18 c = let f = copy-finished _ _ _ _ _ _ _ _ _ _ _ _ ((c .before .before .before .before .before .before .before .before .before .before .before .before .before .before .before .before .before .before .before .before .before .before) .pre) _ _ _ _ ((c .before .before .before .before .before .before .before .before .before .before .before .before .before .before .before) .walk-back .ensures) in omega (arith, f .letters-fit)
 
--- src/copy.rt:147:17
 sub-t17 : tie.Need-sub-t17
 sub-t17 c = let f = copy-finished _ _ _ _ _ _ _ _ _ _ _ _ ((c .before .before .before .before .before .before .before .before .before .before .before .before .before .before .before .before .before .before .before .before .before .before) .pre) _ _ _ _ ((c .before .before .before .before .before .before .before .before .before .before .before .before .before .before .before) .walk-back .ensures) in omega (arith, f .letters, f .letters-room)
 
--- src/copy.rt:119:1
 same-length : tie.Need-same-length
 same-length c = search needs
 
--- src/copy.rt:119:1
 same-length-2 : tie.Need-same-length-2
 same-length-2 c = copy-done _ _ _ _ _ _ _ _ _ _ _ _ ((c .before .before .before .before .before .before .before .before .before .before .before .before .before .before .before .before .before .before .before .before .before .before) .pre) _ _ _ _ ((c .before .before .before .before .before .before .before .before .before .before .before .before .before .before .before) .walk-back .ensures) _ ((c .before .before .before .before .before .before .before .before) .again .ensures) _ ((c .before .before .before) .unload .ensures) .run-size
 
--- src/copy.rt:119:1
 returns : tie.Need-returns
 returns c = (copy-done _ _ _ _ _ _ _ _ _ _ _ _ ((c .before .before .before .before .before .before .before .before .before .before .before .before .before .before .before .before .before .before .before .before .before .before) .pre) _ _ _ _ ((c .before .before .before .before .before .before .before .before .before .before .before .before .before .before .before) .walk-back .ensures) _ ((c .before .before .before .before .before .before .before .before) .again .ensures) _ ((c .before .before .before) .unload .ensures), (c .before .before .before .before .before .before .before .before .before .before .before .before .before .before .before) .walk-back .ensures .walking .later-size)
 

@@ -10,35 +10,27 @@ use Rattle.shortest.proofs.copy.matched.Lts as lts
 use Rattle.fsbm.proofs.machine.transition_at.Reads as transition-at-reads
 use Rattle.shortest.proofs.put.put.Reads as put-reads
 
--- src/copy.rt:43:9
 returns : tie.Need-returns
 returns c = inl (record { past = (c) .if1 .taken; word-same = refl; run-same = refl; walk-same = refl })
 
--- src/copy.rt:45:9
 put-requires : tie.Need-put-requires
 put-requires c κs = (c .before .before .before .before .before .before) .pre .ready ((c .before .before) .if1 .left)
 
--- src/copy.rt:46:9
 transition-at-requires : tie.Need-transition-at-requires
 transition-at-requires c κs = search needs
 
--- src/copy.rt:49:19
 cast-t14 : tie.Need-cast-t14
 cast-t14 c = search needs
 
--- src/copy.rt:51:16
 sub-t15 : tie.Need-sub-t15
 sub-t15 c = omega (arith, (c .before .before .before .before .before .before .before .before .before .before .before .before .before .before) .pre .ready ((c .before .before .before .before .before .before .before .before .before .before) .if1 .left) .run-room)
 
--- src/copy.rt:38:1
 same-length : tie.Need-same-length
 same-length c = search needs
 
--- src/copy.rt:38:1
 same-length-2 : tie.Need-same-length-2
 same-length-2 c = search needs
 
--- src/copy.rt:38:1
 returns-2 : tie.Need-returns-2
 returns-2 c = matched-is _ _ _ _ _ ((c .before .before .before .before .before .before .before .before .before .before .before .before .before .before) .args .w) _ _ _ _ ((c .before .before) .transition-at .ensures) ((c .before .before .before .before .before .before .before .before .before .before) .if1 .left) ((c .before .before .before .before .before .before .before) .put .ensures)
 

@@ -18,43 +18,33 @@ Inv-loop list links d b h z word₀ i run₀ r later₀ m w₀ word run later w 
 abbrev μ-loop : tie.MeasureT-loop
 μ-loop list links d b h z word₀ i run₀ r later₀ m w₀ word run later w = cell b (w .storing) (w .matching)
 
--- src/copy.rt:102:5
 loop-holds : tie.Need-loop-holds Inv-loop μ-loop
 loop-holds c = walk-start _ _ _ _ _ _ _ _ _ _ _ _ ((c .before .before .before) .pre)
 
--- src/copy.rt:102:12
 begun-requires : tie.Need-begun-requires Inv-loop μ-loop
 begun-requires c κs = walk-states _ _ _ _ _ _ _ _ _ _ _ _ ((c .before .before .before .before .before .before) .pre) _ _ _ _ ((c .before .before) .loop .inv)
 
--- src/copy.rt:103:13
 back-requires : tie.Need-back-requires Inv-loop μ-loop
 back-requires c κs = let s = walk-states _ _ _ _ _ _ _ _ _ _ _ _ ((c .before .before .before .before .before .before .before .before) .pre) _ _ _ _ ((c .before .before .before .before) .loop .inv) in ((c .before .before .before .before .before .before .before .before) .pre .good, (c .before .before .before .before .before .before .before .before) .pre .into, s .0, s .1)
 
--- src/copy.rt:104:9
 matched-requires : tie.Need-matched-requires Inv-loop μ-loop
 matched-requires c κs = matched-ready _ _ _ _ _ _ _ _ _ _ _ _ ((c .before .before .before .before .before .before .before .before .before .before .before) .pre) _ _ _ _ ((c .before .before .before .before .before .before .before) .loop .inv) (sym ((c .before .before .before .before) .begun .ensures) ∙ not-true _ ((c .before .before .before) .if1 .taken)) _ _ ((c .before .before) .back .ensures)
 
--- src/copy.rt:105:9
 stored-requires : tie.Need-stored-requires Inv-loop μ-loop
 stored-requires c κs = stored-ready _ _ _ _ _ _ _ _ _ _ _ _ ((c .before .before .before .before .before .before .before .before .before .before .before .before .before .before .before .before .before) .pre) _ _ _ _ ((c .before .before .before .before .before .before .before .before .before .before .before .before .before) .loop .inv) (sym ((c .before .before .before .before .before .before .before .before .before .before) .begun .ensures) ∙ not-true _ ((c .before .before .before .before .before .before .before .before .before) .if1 .taken)) _ _ ((c .before .before .before .before .before .before .before .before) .back .ensures) _ _ _ ((c .before .before .before .before .before) .matched .ensures)
 
--- src/copy.rt:102:5
 loop-less : tie.Need-loop-less Inv-loop μ-loop
 loop-less c = walk-turn _ _ _ _ _ _ _ _ _ _ _ _ ((c .before .before .before .before .before .before .before .before .before .before .before .before .before .before .before .before .before .before) .pre) _ _ _ _ ((c .before .before .before .before .before .before .before .before .before .before .before .before .before .before) .loop .inv) (sym ((c .before .before .before .before .before .before .before .before .before .before .before) .begun .ensures) ∙ not-true _ ((c .before .before .before .before .before .before .before .before .before .before) .if1 .taken)) _ _ ((c .before .before .before .before .before .before .before .before .before) .back .ensures) _ _ _ ((c .before .before .before .before .before .before) .matched .ensures) _ _ ((c) .stored .ensures) .1
 
--- src/copy.rt:102:5
 loop-again : tie.Need-loop-again Inv-loop μ-loop
 loop-again c = walk-turn _ _ _ _ _ _ _ _ _ _ _ _ ((c .before .before .before .before .before .before .before .before .before .before .before .before .before .before .before .before .before .before) .pre) _ _ _ _ ((c .before .before .before .before .before .before .before .before .before .before .before .before .before .before) .loop .inv) (sym ((c .before .before .before .before .before .before .before .before .before .before .before) .begun .ensures) ∙ not-true _ ((c .before .before .before .before .before .before .before .before .before .before) .if1 .taken)) _ _ ((c .before .before .before .before .before .before .before .before .before) .back .ensures) _ _ _ ((c .before .before .before .before .before .before) .matched .ensures) _ _ ((c) .stored .ensures) .0
 
--- src/copy.rt:78:1
 same-length : tie.Need-same-length Inv-loop μ-loop
 same-length c = (c .before .before .before .before) .loop .inv .word-size
 
--- src/copy.rt:78:1
 same-length-2 : tie.Need-same-length-2 Inv-loop μ-loop
 same-length-2 c = (c .before .before .before .before) .loop .inv .run-size
 
--- src/copy.rt:78:1
 returns : tie.Need-returns Inv-loop μ-loop
 returns c = walk-end _ _ _ _ _ _ _ _ _ _ _ _ ((c .before .before .before .before .before .before .before .before) .pre) _ _ _ _ ((c .before .before .before .before) .loop .inv) (sym ((c .before) .begun .ensures) ∙ not-false _ ((c) .if1 .left))
 

@@ -14,47 +14,36 @@ use Rattle.shortest.proofs.find.find_match.Reads as find-match-reads
 use Rattle.shortest.proofs.find.find_store.Reads as find-store-reads
 use Rattle.shortest.proofs.find.number.Reads as number-reads
 
--- src/find.rt:206:9
 number-requires : tie.Need-number-requires
 number-requires c κs = search needs
 
--- src/find.rt:207:9
 find-store-requires : tie.Need-find-store-requires
 find-store-requires c κs = search needs
 
--- src/find.rt:209:9
 returns : tie.Need-returns
 returns c = back-storing _ _ _ _ _ _ ((c .before .before) .number .ensures) _ _ ((c .before) .find-store .ensures) ((c) .if1 .taken) (omega arith)
 
--- src/find.rt:211:9
 find-match-requires : tie.Need-find-match-requires
 find-match-requires c κs = search needs
 
--- src/find.rt:213:9
 returns-2 : tie.Need-returns-2
 returns-2 c = back-matching _ _ _ _ _ _ ((c .before .before .before .before) .number .ensures) _ _ ((c .before) .find-match .ensures) ((c) .if2 .taken) (omega arith)
 
--- src/find.rt:215:9
 find-letter-requires : tie.Need-find-letter-requires
 find-letter-requires c κs = search needs
 
--- src/find.rt:217:9
 returns-3 : tie.Need-returns-3
 returns-3 c = back-none _ _ _ _ _ _ ((c .before .before .before .before .before .before) .number .ensures) _ _ _ _ _ ((c .before .before .before .before .before) .find-store .ensures) ((c .before .before .before) .find-match .ensures) ((c .before) .find-letter .ensures) ((c .before .before .before .before) .if1 .left) ((c .before .before) .if2 .left) ((c) .if3 .taken)
 
--- src/find.rt:219:9
 transition-at-requires : tie.Need-transition-at-requires
 transition-at-requires c κs = search needs
 
--- src/find.rt:220:43
 cast-find-match : tie.Need-cast-find-match
 cast-find-match c = search needs
 
--- src/find.rt:220:9
 find-match-requires-2 : tie.Need-find-match-requires-2
 find-match-requires-2 c κs = let T = rules _ _ ((c .before .before .before .before .before .before .before .before .before .before) .pre .0) in ((c .before .before .before .before .before .before .before .before .before .before) .pre .0, (c .before .before .before .before .before .before .before .before .before .before) .pre .1, omega (arith, ap (λ (t : Transition). t .from) ((c .before) .transition-at .ensures), T .from-below ((c .before .before .before) .find-letter .result) ((c .before .before) .if3 .left), T .states-fit), (c .before .before .before .before .before .before .before .before .before .before) .pre .3)
 
--- src/find.rt:201:1
 returns-4 : tie.Need-returns-4
 returns-4 c = back-both _ _ _ _ _ _ ((c .before .before .before .before .before .before .before .before .before) .number .ensures) _ _ _ ((c .before .before) .transition-at .ensures) ((c .before .before .before .before) .find-letter .ensures) ((c .before .before .before) .if3 .left) ((c) .find-match2 .ensures)
 

@@ -6,15 +6,12 @@ use Rattle.shortest.proofs.find.cost.Tie as tie
 use Rattle.shortest.proofs.find.cost.Reads as reads
 use Rattle.shortest.proofs.find.cost.Lts as lts
 
--- src/find.rt:63:5
 mul-result : tie.Need-mul-result
 mul-result c = search needs
 
--- src/find.rt:63:5
 element-copy-out-result : tie.Need-element-copy-out-result
 element-copy-out-result c = search needs
 
--- src/find.rt:59:1
 returns : tie.Need-returns
 returns c = sym (cost-inside _ _ ((c .before) .pre))
 

@@ -18,55 +18,42 @@ Inv-loop m list links b s t want k₀ k = Finding (m .transitions) list s (λ j.
 abbrev μ-loop : tie.MeasureT-loop
 μ-loop m list links b s t want k₀ k = m .transitions - k
 
--- src/find.rt:190:22
 mul-wide : tie.Need-mul-wide Inv-loop μ-loop
 mul-wide c = search needs
 
--- src/find.rt:190:22
 element-copy-out-wide : tie.Need-element-copy-out-wide Inv-loop μ-loop
 element-copy-out-wide c = omega (arith, (c .before) .pre .2)
 
--- src/find.rt:190:9
 wide-requires : tie.Need-wide-requires Inv-loop μ-loop
 wide-requires c κs = search needs
 
--- src/find.rt:191:5
 loop-holds : tie.Need-loop-holds Inv-loop μ-loop
 loop-holds c = subst (λ (k : ℕ). Finding ((c .before .before .before) .args .m .transitions) ((c .before .before .before) .args .list .now) ((c .before .before .before) .args .s) (λ j. LetterStep ((c .before .before .before) .args .m) ((c .before .before .before) .args .list .now) ((c .before .before .before) .args .b .now) ((c .before .before .before) .args .t) ((c .before .before .before) .args .want) j) k) (sym ((c) .wide .ensures .0)) (finding-start _ _ _ _ _ ((c .before .before .before) .pre .1 .first ((c .before .before .before) .args .s) ((c .before .before .before) .pre .2)))
 
--- src/find.rt:192:12
 letter-fits-requires : tie.Need-letter-fits-requires Inv-loop μ-loop
 letter-fits-requires c κs = ((c .before .before .before .before .before .before) .pre .0, (c .before .before .before .before .before .before) .pre .1, (c .before .before .before .before .before .before) .pre .3, (c) .if1 .taken)
 
--- src/find.rt:193:13
 returns : tie.Need-returns Inv-loop μ-loop
 returns c = finding-found _ _ _ _ _ ((c .before .before .before .before) .loop .inv) ((c .before .before) .if1 .taken) ((c .before) .letter-fits .ensures .good ((c) .if2 .taken))
 
--- src/find.rt:195:24
 add-wide : tie.Need-add-wide Inv-loop μ-loop
 add-wide c = omega (arith, (c .before .before) .if1 .taken, rules _ _ ((c .before .before .before .before .before .before .before .before) .pre .0) .transitions-fit)
 
--- src/find.rt:195:18
 mul-wide-2 : tie.Need-mul-wide-2 Inv-loop μ-loop
 mul-wide-2 c = omega (arith, (c .before .before) .if1 .taken, rules _ _ ((c .before .before .before .before .before .before .before .before) .pre .0) .transitions-fit)
 
--- src/find.rt:195:18
 element-copy-out-wide-2 : tie.Need-element-copy-out-wide-2 Inv-loop μ-loop
 element-copy-out-wide-2 c = omega (arith, (c .before .before) .if1 .taken, rules _ _ ((c .before .before .before .before .before .before .before .before) .pre .0) .transitions-fit)
 
--- src/find.rt:195:9
 wide-requires-2 : tie.Need-wide-requires-2 Inv-loop μ-loop
 wide-requires-2 c κs = search needs
 
--- src/find.rt:191:5
 loop-less : tie.Need-loop-less Inv-loop μ-loop
 loop-less c = omega (arith, (c) .wide2 .ensures .0, (c .before .before .before .before .before .before .before .before .before .before) .pre .1 .link ((c .before .before .before .before .before .before) .loop .k) (omega arith) ((c .before .before .before .before) .if1 .taken) .on, (c .before .before .before .before) .if1 .taken)
 
--- src/find.rt:191:5
 loop-again : tie.Need-loop-again Inv-loop μ-loop
 loop-again c = subst (λ (k : ℕ). Finding ((c .before .before .before .before .before .before .before .before .before .before) .args .m .transitions) ((c .before .before .before .before .before .before .before .before .before .before) .args .list .now) ((c .before .before .before .before .before .before .before .before .before .before) .args .s) (λ j. LetterStep ((c .before .before .before .before .before .before .before .before .before .before) .args .m) ((c .before .before .before .before .before .before .before .before .before .before) .args .list .now) ((c .before .before .before .before .before .before .before .before .before .before) .args .b .now) ((c .before .before .before .before .before .before .before .before .before .before) .args .t) ((c .before .before .before .before .before .before .before .before .before .before) .args .want) j) k) (sym ((c) .wide2 .ensures .0)) (finding-next _ _ _ _ _ ((c .before .before .before .before .before .before) .loop .inv) _ ((c .before .before .before .before) .if1 .taken) ((c .before .before .before) .letter-fits .ensures .bad ((c .before .before) .if2 .left)) ((c .before .before .before .before .before .before .before .before .before .before) .pre .1 .link ((c .before .before .before .before .before .before) .loop .k) (omega arith) ((c .before .before .before .before) .if1 .taken)))
 
--- src/find.rt:186:1
 returns-2 : tie.Need-returns-2 Inv-loop μ-loop
 returns-2 c = finding-none _ _ _ _ _ ((c .before .before) .loop .inv) ((c) .if1 .left)
 

@@ -20,55 +20,42 @@ Inv-loop list links b s t x w want m k₀ k = Finding (m .transitions) list t (�
 abbrev μ-loop : tie.MeasureT-loop
 μ-loop list links b s t x w want m k₀ k = m .transitions - k
 
--- src/find.rt:152:22
 mul-wide : tie.Need-mul-wide Inv-loop μ-loop
 mul-wide c = search needs
 
--- src/find.rt:152:22
 element-copy-out-wide : tie.Need-element-copy-out-wide Inv-loop μ-loop
 element-copy-out-wide c = omega (arith, (c .before) .pre .3)
 
--- src/find.rt:152:9
 wide-requires : tie.Need-wide-requires Inv-loop μ-loop
 wide-requires c κs = search needs
 
--- src/find.rt:153:5
 loop-holds : tie.Need-loop-holds Inv-loop μ-loop
 loop-holds c = subst (λ (k : ℕ). Finding ((c .before .before .before) .args .t1 .transitions) ((c .before .before .before) .args .list .now) ((c .before .before .before) .args .t) (λ j. matchTest ((c .before .before .before) .args .t1 .marks) ((c .before .before .before) .args .list .now) ((c .before .before .before) .args .b .now) ((c .before .before .before) .args .s) ((c .before .before .before) .args .x) ((c .before .before .before) .args .w) ((c .before .before .before) .args .want) j ≡ true) k) (sym ((c) .wide .ensures .0)) (finding-start _ _ _ _ _ ((c .before .before .before) .pre .1 .first ((c .before .before .before) .args .t) ((c .before .before .before) .pre .3)))
 
--- src/find.rt:154:12
 match-fits-requires : tie.Need-match-fits-requires Inv-loop μ-loop
 match-fits-requires c κs = let T = rules _ _ ((c .before .before .before .before .before .before .before) .pre .0) in (omega (arith, T .from-below ((c .before .before .before) .loop .k) ((c .before .before) .loop-test .taken), T .states-fit), (c .before .before .before .before .before .before .before) .pre .2)
 
--- src/find.rt:155:13
 returns : tie.Need-returns Inv-loop μ-loop
 returns c = finding-found _ _ _ _ _ ((c .before .before .before .before .before) .loop .inv) ((c .before .before .before .before) .loop-test .taken) (sym ((c .before) .match-fits .ensures) ∙ (c) .if1 .taken)
 
--- src/find.rt:157:24
 add-wide : tie.Need-add-wide Inv-loop μ-loop
 add-wide c = omega (arith, (c .before .before .before .before) .loop-test .taken, rules _ _ ((c .before .before .before .before .before .before .before .before .before) .pre .0) .transitions-fit)
 
--- src/find.rt:157:18
 mul-wide-2 : tie.Need-mul-wide-2 Inv-loop μ-loop
 mul-wide-2 c = omega (arith, (c .before .before .before .before) .loop-test .taken, rules _ _ ((c .before .before .before .before .before .before .before .before .before) .pre .0) .transitions-fit)
 
--- src/find.rt:157:18
 element-copy-out-wide-2 : tie.Need-element-copy-out-wide-2 Inv-loop μ-loop
 element-copy-out-wide-2 c = omega (arith, (c .before .before .before .before) .loop-test .taken, rules _ _ ((c .before .before .before .before .before .before .before .before .before) .pre .0) .transitions-fit)
 
--- src/find.rt:157:9
 wide-requires-2 : tie.Need-wide-requires-2 Inv-loop μ-loop
 wide-requires-2 c κs = search needs
 
--- src/find.rt:153:5
 loop-less : tie.Need-loop-less Inv-loop μ-loop
 loop-less c = omega (arith, (c) .wide2 .ensures .0, (c .before .before .before .before .before .before .before .before .before .before .before) .pre .1 .link ((c .before .before .before .before .before .before .before) .loop .k) (omega arith) ((c .before .before .before .before .before .before) .loop-test .taken) .on, (c .before .before .before .before .before .before) .loop-test .taken)
 
--- src/find.rt:153:5
 loop-again : tie.Need-loop-again Inv-loop μ-loop
 loop-again c = subst (λ (k : ℕ). Finding ((c .before .before .before .before .before .before .before .before .before .before .before) .args .t1 .transitions) ((c .before .before .before .before .before .before .before .before .before .before .before) .args .list .now) ((c .before .before .before .before .before .before .before .before .before .before .before) .args .t) (λ j. matchTest ((c .before .before .before .before .before .before .before .before .before .before .before) .args .t1 .marks) ((c .before .before .before .before .before .before .before .before .before .before .before) .args .list .now) ((c .before .before .before .before .before .before .before .before .before .before .before) .args .b .now) ((c .before .before .before .before .before .before .before .before .before .before .before) .args .s) ((c .before .before .before .before .before .before .before .before .before .before .before) .args .x) ((c .before .before .before .before .before .before .before .before .before .before .before) .args .w) ((c .before .before .before .before .before .before .before .before .before .before .before) .args .want) j ≡ true) k) (sym ((c) .wide2 .ensures .0)) (finding-next _ _ _ _ _ ((c .before .before .before .before .before .before .before) .loop .inv) _ ((c .before .before .before .before .before .before) .loop-test .taken) (λ h. not-both ((c .before .before .before) .match-fits .ensures ∙ h) ((c .before .before) .if1 .left)) ((c .before .before .before .before .before .before .before .before .before .before .before) .pre .1 .link ((c .before .before .before .before .before .before .before) .loop .k) (omega arith) ((c .before .before .before .before .before .before) .loop-test .taken)))
 
--- src/find.rt:148:1
 returns-2 : tie.Need-returns-2 Inv-loop μ-loop
 returns-2 c = finding-none _ _ _ _ _ ((c .before) .loop .inv) ((c) .loop-test .left)
 

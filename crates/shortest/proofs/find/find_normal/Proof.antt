@@ -22,59 +22,45 @@ Inv-loop list links d q m want k₀ k = Finding (m .transitions) list q (λ k. n
 abbrev μ-loop : tie.MeasureT-loop
 μ-loop list links d q m want k₀ k = m .transitions - k
 
--- src/find.rt:121:9
 cost-requires : tie.Need-cost-requires Inv-loop μ-loop
 cost-requires c κs = (c .before) .pre .2
 
--- src/find.rt:122:22
 mul-wide : tie.Need-mul-wide Inv-loop μ-loop
 mul-wide c = search needs
 
--- src/find.rt:122:22
 element-copy-out-wide : tie.Need-element-copy-out-wide Inv-loop μ-loop
 element-copy-out-wide c = omega (arith, (c .before .before) .pre .2)
 
--- src/find.rt:122:9
 wide-requires : tie.Need-wide-requires Inv-loop μ-loop
 wide-requires c κs = search needs
 
--- src/find.rt:123:5
 loop-holds : tie.Need-loop-holds Inv-loop μ-loop
 loop-holds c = (subst (λ (k : ℕ). Finding ((c .before .before .before .before) .args .t1 .transitions) ((c .before .before .before .before) .args .list .now) ((c .before .before .before .before) .args .q) (λ j. normalTest ((c .before .before .before .before) .args .t1 .marks) ((c .before .before .before .before) .args .list .now) ((c .before .before .before .before) .args .d .now) (costOf ((c .before .before .before .before) .args .d .now) ((c .before .before .before .before) .args .q)) j ≡ true) k) (sym ((c) .wide .ensures .0)) (finding-start _ _ _ _ _ ((c .before .before .before .before) .pre .1 .first ((c .before .before .before .before) .args .q) ((c .before .before .before .before) .pre .2))), (c .before .before) .cost .ensures)
 
--- src/find.rt:124:12
 normal-fits-requires : tie.Need-normal-fits-requires Inv-loop μ-loop
 normal-fits-requires c κs = let T = rules _ _ ((c .before .before .before .before .before .before .before .before) .pre .0) in omega (arith, T .from-below ((c .before .before .before) .loop .k) ((c .before .before) .loop-test .taken), T .states-fit)
 
--- src/find.rt:125:13
 returns : tie.Need-returns Inv-loop μ-loop
 returns c = finding-found _ _ _ _ _ ((c .before .before .before .before .before) .loop .inv .0) ((c .before .before .before .before) .loop-test .taken) (ap (λ (w : ℕ). normalTest ((c .before .before .before .before .before .before .before .before .before .before) .args .t1 .marks) ((c .before .before .before .before .before .before .before .before .before .before) .args .list .now) ((c .before .before .before .before .before .before .before .before .before .before) .args .d .now) w ((c .before .before .before .before .before) .loop .k)) (sym ((c .before .before .before .before .before) .loop .inv .1)) ∙ (sym ((c .before) .normal-fits .ensures) ∙ (c) .if1 .taken))
 
--- src/find.rt:127:24
 add-wide : tie.Need-add-wide Inv-loop μ-loop
 add-wide c = omega (arith, (c .before .before .before .before) .loop-test .taken, rules _ _ ((c .before .before .before .before .before .before .before .before .before .before) .pre .0) .transitions-fit)
 
--- src/find.rt:127:18
 mul-wide-2 : tie.Need-mul-wide-2 Inv-loop μ-loop
 mul-wide-2 c = omega (arith, (c .before .before .before .before) .loop-test .taken, rules _ _ ((c .before .before .before .before .before .before .before .before .before .before) .pre .0) .transitions-fit)
 
--- src/find.rt:127:18
 element-copy-out-wide-2 : tie.Need-element-copy-out-wide-2 Inv-loop μ-loop
 element-copy-out-wide-2 c = omega (arith, (c .before .before .before .before) .loop-test .taken, rules _ _ ((c .before .before .before .before .before .before .before .before .before .before) .pre .0) .transitions-fit)
 
--- src/find.rt:127:9
 wide-requires-2 : tie.Need-wide-requires-2 Inv-loop μ-loop
 wide-requires-2 c κs = search needs
 
--- src/find.rt:123:5
 loop-less : tie.Need-loop-less Inv-loop μ-loop
 loop-less c = omega (arith, (c) .wide2 .ensures .0, (c .before .before .before .before .before .before .before .before .before .before .before .before) .pre .1 .link ((c .before .before .before .before .before .before .before) .loop .k) (omega arith) ((c .before .before .before .before .before .before) .loop-test .taken) .on, (c .before .before .before .before .before .before) .loop-test .taken)
 
--- src/find.rt:123:5
 loop-again : tie.Need-loop-again Inv-loop μ-loop
 loop-again c = (subst (λ (k : ℕ). Finding ((c .before .before .before .before .before .before .before .before .before .before .before .before) .args .t1 .transitions) ((c .before .before .before .before .before .before .before .before .before .before .before .before) .args .list .now) ((c .before .before .before .before .before .before .before .before .before .before .before .before) .args .q) (λ j. normalTest ((c .before .before .before .before .before .before .before .before .before .before .before .before) .args .t1 .marks) ((c .before .before .before .before .before .before .before .before .before .before .before .before) .args .list .now) ((c .before .before .before .before .before .before .before .before .before .before .before .before) .args .d .now) (costOf ((c .before .before .before .before .before .before .before .before .before .before .before .before) .args .d .now) ((c .before .before .before .before .before .before .before .before .before .before .before .before) .args .q)) j ≡ true) k) (sym ((c) .wide2 .ensures .0)) (finding-next _ _ _ _ _ ((c .before .before .before .before .before .before .before) .loop .inv .0) _ ((c .before .before .before .before .before .before) .loop-test .taken) (λ h. not-both ((c .before .before .before) .normal-fits .ensures ∙ (ap (λ (w : ℕ). normalTest ((c .before .before .before .before .before .before .before .before .before .before .before .before) .args .t1 .marks) ((c .before .before .before .before .before .before .before .before .before .before .before .before) .args .list .now) ((c .before .before .before .before .before .before .before .before .before .before .before .before) .args .d .now) w ((c .before .before .before .before .before .before .before) .loop .k)) ((c .before .before .before .before .before .before .before) .loop .inv .1) ∙ h)) ((c .before .before) .if1 .left)) ((c .before .before .before .before .before .before .before .before .before .before .before .before) .pre .1 .link ((c .before .before .before .before .before .before .before) .loop .k) (omega arith) ((c .before .before .before .before .before .before) .loop-test .taken))), (c .before .before .before .before .before .before .before) .loop .inv .1)
 
--- src/find.rt:117:1
 returns-2 : tie.Need-returns-2 Inv-loop μ-loop
 returns-2 c = finding-none _ _ _ _ _ ((c .before) .loop .inv .0) ((c) .loop-test .left)
 

@@ -13,47 +13,36 @@ use Rattle.fsbm.proofs.machine.is_buffering.Reads as is-buffering-reads
 use Rattle.fsbm.proofs.machine.transition_at.Reads as transition-at-reads
 use Rattle.shortest.proofs.find.find_match.Reads as find-match-reads
 
--- src/find.rt:168:9
 transition-at-requires : tie.Need-transition-at-requires
 transition-at-requires c κs = search needs
 
--- src/find.rt:170:9
 returns : tie.Need-returns
 returns c = letter-none _ _ _ _ _ _ _ ((c .before .before) .transition-at .ensures) ((c) .if1 .taken)
 
--- src/find.rt:172:8
 both-matching-requires : tie.Need-both-matching-requires
 both-matching-requires c κs = search needs
 
--- src/find.rt:173:9
 returns-2 : tie.Need-returns-2
 returns-2 c = letter-matching ((c .before .before .before .before .before .before .before .before) .args .t1) _ _ _ _ _ _ ((c .before .before .before .before .before .before) .transition-at .ensures) (sym ((c .before) .both-matching .ensures) ∙ (c) .if2 .taken)
 
--- src/find.rt:175:40
 cast-is-buffering : tie.Need-cast-is-buffering
 cast-is-buffering c = search needs
 
--- src/find.rt:175:8
 is-buffering-requires : tie.Need-is-buffering-requires
 is-buffering-requires c κs = search needs
 
--- src/find.rt:176:9
 returns-3 : tie.Need-returns-3
 returns-3 c = letter-buffering ((c .before .before .before .before .before .before .before .before .before .before .before .before .before) .args .t1) _ _ _ _ _ _ ((c .before .before .before .before .before .before .before .before .before .before .before) .transition-at .ensures) (sym ((c .before) .is-buffering .ensures) ∙ (c) .if3 .taken)
 
--- src/find.rt:178:43
 cast-find-match : tie.Need-cast-find-match
 cast-find-match c = search needs
 
--- src/find.rt:178:9
 find-match-requires : tie.Need-find-match-requires
 find-match-requires c κs = let T = rules _ _ ((c .before .before .before .before .before .before .before .before .before .before .before .before .before .before) .pre .0) in ((c .before .before .before .before .before .before .before .before .before .before .before .before .before .before) .pre .0, (c .before .before .before .before .before .before .before .before .before .before .before .before .before .before) .pre .1, omega (arith, ap (λ (t : Transition). t .from) ((c .before .before .before .before .before .before .before .before .before .before .before .before) .transition-at .ensures), T .from-below ((c .before .before .before .before .before .before .before .before .before .before .before .before .before .before) .args .k) ((c .before .before .before .before .before .before .before .before .before .before .before .before .before .before) .pre .3), T .states-fit), (c .before .before .before .before .before .before .before .before .before .before .before .before .before .before) .pre .2)
 
--- src/find.rt:180:9
 returns-4 : tie.Need-returns-4
 returns-4 c = letter-alone _ _ _ _ _ _ _ ((c .before .before .before .before .before .before .before .before .before .before .before .before .before .before) .transition-at .ensures) _ ((c .before) .find-match .ensures) ((c) .if4 .taken)
 
--- src/find.rt:164:1
 returns-5 : tie.Need-returns-5
 returns-5 c = letter-both _ _ _ _ _ _ _ ((c .before .before .before .before .before .before .before .before .before .before .before .before .before .before) .transition-at .ensures) _ ((c .before) .find-match .ensures) ((c .before .before .before .before .before .before .before .before .before .before .before .before) .if1 .left) (sym ((c .before .before .before .before .before .before .before .before .before) .both-matching .ensures) ∙ (c .before .before .before .before .before .before .before .before) .if2 .left) (sym ((c .before .before .before .before) .is-buffering .ensures) ∙ (c .before .before .before) .if3 .left) ((c) .if4 .left)
 

@@ -4,11 +4,9 @@ use Rattle.shortest.proofs.find.makes.Tie as tie
 use Rattle.shortest.proofs.find.makes.Reads as reads
 use Rattle.shortest.proofs.find.makes.Lts as lts
 
--- src/find.rt:45:9
 returns : tie.Need-returns
 returns c = makes-less ((c .before) .args .v) _ _ ((c) .if1 .taken)
 
--- src/find.rt:41:1
 returns-2 : tie.Need-returns-2
 returns-2 c = makes-is _ _ _ ((c) .if1 .left)
 

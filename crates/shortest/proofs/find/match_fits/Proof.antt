@@ -16,35 +16,27 @@ use Rattle.fsbm.proofs.machine.transition_at.Reads as transition-at-reads
 use Rattle.shortest.proofs.find.makes.Reads as makes-reads
 use Rattle.shortest.proofs.find.number.Reads as number-reads
 
--- src/find.rt:105:9
 transition-at-requires : tie.Need-transition-at-requires
 transition-at-requires c κs = search needs
 
--- src/find.rt:106:9
 both-matching-requires : tie.Need-both-matching-requires
 both-matching-requires c κs = search needs
 
--- src/find.rt:107:9
 returns : tie.Need-returns
 returns c = stop _ (sym ((c .before) .both-matching .ensures) ∙ not-true _ ((c) .if1 .taken)) ∙ match-is _ _ _ _ ((c .before .before) .transition-at .ensures) _ _ _ _ _
 
--- src/find.rt:110:9
 returns-2 : tie.Need-returns-2
 returns-2 c = pass (sym ((c .before .before .before) .both-matching .ensures) ∙ not-false _ ((c .before .before) .if1 .left)) (stop _ (ne-eqb _ _ ((c) .if2 .taken))) ∙ match-is _ _ _ _ ((c .before .before .before .before) .transition-at .ensures) _ _ _ _ _
 
--- src/find.rt:112:24
 cast-number : tie.Need-cast-number
 cast-number c = search needs
 
--- src/find.rt:112:11
 number-requires : tie.Need-number-requires
 number-requires c κs = ((c .before .before .before .before .before .before .before) .pre .1, omega (arith, ap (λ (t : Transition). t .from) ((c .before .before .before .before .before) .transition-at .ensures), (c .before .before .before .before .before .before .before) .pre .0))
 
--- src/find.rt:112:5
 makes-requires : tie.Need-makes-requires
 makes-requires c κs = search needs
 
--- src/find.rt:101:1
 returns-3 : tie.Need-returns-3
 returns-3 c = pass (sym ((c .before .before .before .before .before .before) .both-matching .ensures) ∙ not-false _ ((c .before .before .before .before .before) .if1 .left)) (pass (eq-eqb _ _ ((c .before .before .before) .if2 .left)) ((c) .makes .ensures ∙ ap (λ (v : ℕ). eqb (v + (c .before .before .before .before .before .before .before .before .before) .args .w) ((c .before .before .before .before .before .before .before .before .before) .args .want)) ((c .before) .number .ensures))) ∙ match-is _ _ _ _ ((c .before .before .before .before .before .before .before) .transition-at .ensures) _ _ _ _ _
 

@@ -19,43 +19,33 @@ use Rattle.shortest.proofs.find.cost.Reads as cost-reads
 use Rattle.shortest.proofs.find.makes.Reads as makes-reads
 use Rattle.least.proofs.fall.weight.Reads as weight-reads
 
--- src/find.rt:71:9
 transition-at-requires : tie.Need-transition-at-requires
 transition-at-requires c κs = search needs
 
--- src/find.rt:72:8
 both-matching-requires : tie.Need-both-matching-requires
 both-matching-requires c κs = search needs
 
--- src/find.rt:73:9
 returns : tie.Need-returns
 returns c = stop _ (ap not (sym ((c .before) .both-matching .ensures) ∙ (c) .if1 .taken)) ∙ normal-is _ _ _ _ ((c .before .before) .transition-at .ensures) _ _
 
--- src/find.rt:75:13
 cast-p : tie.Need-cast-p
 cast-p c = search needs
 
--- src/find.rt:76:8
 is-buffering-requires : tie.Need-is-buffering-requires
 is-buffering-requires c κs = search needs
 
--- src/find.rt:77:9
 returns-2 : tie.Need-returns-2
 returns-2 c = pass (ap not (sym ((c .before .before .before .before) .both-matching .ensures) ∙ (c .before .before .before) .if1 .left)) (stop _ (ap not (sym ((c .before) .is-buffering .ensures) ∙ (c) .if2 .taken))) ∙ normal-is _ _ _ _ ((c .before .before .before .before .before) .transition-at .ensures) _ _
 
--- src/find.rt:79:11
 cost-requires : tie.Need-cost-requires
 cost-requires c κs = omega (arith, ap (λ (t : Transition). t .from) ((c .before .before .before .before .before) .transition-at .ensures), (c .before .before .before .before .before .before .before) .pre)
 
--- src/find.rt:79:23
 weight-requires : tie.Need-weight-requires
 weight-requires c κs = search needs
 
--- src/find.rt:79:5
 makes-requires : tie.Need-makes-requires
 makes-requires c κs = search needs
 
--- src/find.rt:67:1
 returns-3 : tie.Need-returns-3
 returns-3 c = pass (ap not (sym ((c .before .before .before .before .before .before .before) .both-matching .ensures) ∙ (c .before .before .before .before .before .before) .if1 .left)) (pass (ap not (sym ((c .before .before .before .before) .is-buffering .ensures) ∙ (c .before .before .before) .if2 .left)) ((c) .makes .ensures ∙ (ap (λ (v : ℕ). eqb (v + (c .before) .weight .result) ((c .before .before .before .before .before .before .before .before .before .before) .args .want)) ((c .before .before) .cost .ensures) ∙ ap (λ (v : ℕ). eqb (costOf ((c .before .before .before .before .before .before .before .before .before .before) .args .d .now) ((c .before .before .before .before .before .before .before .before) .transition-at .result .from) + v) ((c .before .before .before .before .before .before .before .before .before .before) .args .want)) ((c .before) .weight .ensures .0)))) ∙ normal-is _ _ _ _ ((c .before .before .before .before .before .before .before .before) .transition-at .ensures) _ _
 

@@ -6,23 +6,18 @@ use Rattle.shortest.proofs.find.number.Tie as tie
 use Rattle.shortest.proofs.find.number.Reads as reads
 use Rattle.shortest.proofs.find.number.Lts as lts
 
--- src/find.rt:55:7
 mul-result : tie.Need-mul-result
 mul-result c = search needs
 
--- src/find.rt:55:7
 add-result : tie.Need-add-result
 add-result c = search needs
 
--- src/find.rt:55:5
 mul-result-2 : tie.Need-mul-result-2
 mul-result-2 c = search needs
 
--- src/find.rt:55:5
 element-copy-out-result : tie.Need-element-copy-out-result
 element-copy-out-result c = search needs
 
--- src/find.rt:51:1
 returns : tie.Need-returns
 returns c = sym (cell-inside _ _ _ ((c .before) .pre .0) ((c .before) .pre .1))
 

@@ -18,47 +18,36 @@ use Rattle.fsbm.proofs.machine.transition_at.Reads as transition-at-reads
 use Rattle.shortest.proofs.find.makes.Reads as makes-reads
 use Rattle.shortest.proofs.find.number.Reads as number-reads
 
--- src/find.rt:87:9
 transition-at-requires : tie.Need-transition-at-requires
 transition-at-requires c κs = search needs
 
--- src/find.rt:88:8
 both-matching-requires : tie.Need-both-matching-requires
 both-matching-requires c κs = search needs
 
--- src/find.rt:89:9
 returns : tie.Need-returns
 returns c = stop _ (ap not (sym ((c .before) .both-matching .ensures) ∙ (c) .if1 .taken)) ∙ store-is _ _ _ _ ((c .before .before) .transition-at .ensures) _ _ _
 
--- src/find.rt:91:37
 cast-is-buffering : tie.Need-cast-is-buffering
 cast-is-buffering c = search needs
 
--- src/find.rt:91:8
 is-buffering-requires : tie.Need-is-buffering-requires
 is-buffering-requires c κs = search needs
 
--- src/find.rt:92:9
 returns-2 : tie.Need-returns-2
 returns-2 c = pass (ap not (sym ((c .before .before .before .before) .both-matching .ensures) ∙ (c .before .before .before) .if1 .left)) (stop _ (ap not (sym ((c .before) .is-buffering .ensures) ∙ (c) .if2 .taken))) ∙ store-is _ _ _ _ ((c .before .before .before .before .before) .transition-at .ensures) _ _ _
 
--- src/find.rt:95:9
 returns-3 : tie.Need-returns-3
 returns-3 c = pass (ap not (sym ((c .before .before .before .before .before .before) .both-matching .ensures) ∙ (c .before .before .before .before .before) .if1 .left)) (pass (ap not (sym ((c .before .before .before) .is-buffering .ensures) ∙ (c .before .before) .if2 .left)) (stop _ (ne-eqb _ _ ((c) .if3 .taken)))) ∙ store-is _ _ _ _ ((c .before .before .before .before .before .before .before) .transition-at .ensures) _ _ _
 
--- src/find.rt:97:21
 cast-number : tie.Need-cast-number
 cast-number c = search needs
 
--- src/find.rt:97:11
 number-requires : tie.Need-number-requires
 number-requires c κs = (omega (arith, ap (λ (t : Transition). t .from) ((c .before .before .before .before .before .before .before .before) .transition-at .ensures), (c .before .before .before .before .before .before .before .before .before .before) .pre .0), (c .before .before .before .before .before .before .before .before .before .before) .pre .1)
 
--- src/find.rt:97:5
 makes-requires : tie.Need-makes-requires
 makes-requires c κs = search needs
 
--- src/find.rt:83:1
 returns-4 : tie.Need-returns-4
 returns-4 c = pass (ap not (sym ((c .before .before .before .before .before .before .before .before .before) .both-matching .ensures) ∙ (c .before .before .before .before .before .before .before .before) .if1 .left)) (pass (ap not (sym ((c .before .before .before .before .before .before) .is-buffering .ensures) ∙ (c .before .before .before .before .before) .if2 .left)) (pass (eq-eqb _ _ ((c .before .before .before) .if3 .left)) ((c) .makes .ensures ∙ ap (λ (v : ℕ). eqb (v + 1) ((c .before .before .before .before .before .before .before .before .before .before .before .before) .args .want)) ((c .before) .number .ensures)))) ∙ store-is _ _ _ _ ((c .before .before .before .before .before .before .before .before .before .before) .transition-at .ensures) _ _ _
 

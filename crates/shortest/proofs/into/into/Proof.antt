@@ -19,63 +19,48 @@ Inv-loop list links₀ k₀ links k = IntoFrom k₀ list k links × (k ≤ k₀)
 abbrev μ-loop : tie.MeasureT-loop
 μ-loop list links₀ k₀ links k = k
 
--- src/into.rt:23:5
 loop-holds : tie.Need-loop-holds Inv-loop μ-loop
 loop-holds c = (into-start _ _ (rules _ _ ((c .before) .pre)), omega arith)
 
--- src/into.rt:24:9
 sub-k : tie.Need-sub-k Inv-loop μ-loop
 sub-k c = omega (arith, (c) .loop-test .taken)
 
--- src/into.rt:25:13
 transition-at-requires : tie.Need-transition-at-requires Inv-loop μ-loop
 transition-at-requires c κs = search needs
 
--- src/into.rt:26:17
 cast-q : tie.Need-cast-q Inv-loop μ-loop
 cast-q c = search needs
 
--- src/into.rt:27:25
 mul-links : tie.Need-mul-links Inv-loop μ-loop
 mul-links c = search needs
 
--- src/into.rt:27:25
 array-read-links : tie.Need-array-read-links Inv-loop μ-loop
 array-read-links c = let e = ap (λ (t : Transition). t .to) ((c .before) .transition-at .ensures) in let T = rules _ _ ((c .before .before .before .before .before) .pre) in omega (arith, e, T .states-fit, T .to-below ((c .before .before .before) .loop .k - 1) (omega (arith, (c .before .before) .loop-test .taken, (c .before .before .before) .loop .inv .1)))
 
--- src/into.rt:27:15
 add-links : tie.Need-add-links Inv-loop μ-loop
 add-links c = omega (arith, (c .before .before .before) .loop .inv .1, rules _ _ ((c .before .before .before .before .before) .pre) .transitions-fit)
 
--- src/into.rt:27:9
 mul-links-2 : tie.Need-mul-links-2 Inv-loop μ-loop
 mul-links-2 c = omega (arith, (c .before .before .before) .loop .inv .1, rules _ _ ((c .before .before .before .before .before) .pre) .transitions-fit)
 
--- src/into.rt:27:9
 array-write-links : tie.Need-array-write-links Inv-loop μ-loop
 array-write-links c = omega (arith, (c .before .before .before) .loop .inv .1, rules _ _ ((c .before .before .before .before .before) .pre) .transitions-fit, (c .before .before) .loop-test .taken)
 
--- src/into.rt:28:20
 cast-links : tie.Need-cast-links Inv-loop μ-loop
 cast-links c = omega (arith, (c .before .before .before) .loop .inv .1, rules _ _ ((c .before .before .before .before .before) .pre) .transitions-fit)
 
--- src/into.rt:28:9
 mul-links-3 : tie.Need-mul-links-3 Inv-loop μ-loop
 mul-links-3 c = let e = ap (λ (t : Transition). t .to) ((c .before) .transition-at .ensures) in let T = rules _ _ ((c .before .before .before .before .before) .pre) in omega (arith, e, T .states-fit, T .to-below ((c .before .before .before) .loop .k - 1) (omega (arith, (c .before .before) .loop-test .taken, (c .before .before .before) .loop .inv .1)))
 
--- src/into.rt:28:9
 array-write-links-2 : tie.Need-array-write-links-2 Inv-loop μ-loop
 array-write-links-2 c = let e = ap (λ (t : Transition). t .to) ((c .before) .transition-at .ensures) in let T = rules _ _ ((c .before .before .before .before .before) .pre) in omega (arith, e, T .states-fit, T .to-below ((c .before .before .before) .loop .k - 1) (omega (arith, (c .before .before) .loop-test .taken, (c .before .before .before) .loop .inv .1)))
 
--- src/into.rt:23:5
 loop-less : tie.Need-loop-less Inv-loop μ-loop
 loop-less c = omega (arith, (c .before .before) .loop-test .taken)
 
--- src/into.rt:23:5
 loop-again : tie.Need-loop-again Inv-loop μ-loop
 loop-again c = (subst (λ (t : Transition). IntoFrom ((c .before .before .before .before .before) .args .m .transitions) ((c .before .before .before .before .before) .args .list .now) ((c .before .before .before) .loop .k - 1) (set (set ((c .before .before .before) .loop .links) (64 + ((c .before .before .before) .loop .k - 1)) (getD ((c .before .before .before) .loop .links) (t .to) 0)) (t .to) ((c .before .before .before) .loop .k - 1))) (sym ((c .before) .transition-at .ensures)) (into-turn _ _ (rules _ _ ((c .before .before .before .before .before) .pre)) ((c .before .before .before) .loop .links) _ _ (omega (arith, (c .before .before) .loop-test .taken)) ((c .before .before .before) .loop .inv .1) ((c .before .before .before) .loop .inv .0)), omega (arith, (c .before .before .before) .loop .inv .1))
 
--- src/into.rt:17:1
 returns : tie.Need-returns Inv-loop μ-loop
 returns c = subst (λ (k : ℕ). IntoFrom ((c .before .before .before) .args .m .transitions) ((c .before .before .before) .args .list .now) k ((c .before) .loop .links)) (omega (arith, (c) .loop-test .left)) ((c .before) .loop .inv .0)
 

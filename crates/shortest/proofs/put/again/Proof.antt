@@ -11,47 +11,36 @@ Inv-loop word₀ i n k₀ word k = Repeating word₀ i n word k
 abbrev μ-loop : tie.MeasureT-loop
 μ-loop word₀ i n k₀ word k = k
 
--- src/put.rt:29:5
 loop-holds : tie.Need-loop-holds Inv-loop μ-loop
 loop-holds c = repeat-start _ _ _ ((c) .pre .0) ((c) .pre .1)
 
--- src/put.rt:30:9
 sub-k : tie.Need-sub-k Inv-loop μ-loop
 sub-k c = omega (arith, (c) .loop-test .taken)
 
--- src/put.rt:31:32
 add-word : tie.Need-add-word Inv-loop μ-loop
 add-word c = omega (arith, (c .before) .loop .inv .low, (c .before .before) .pre .1, (c .before .before) .good)
 
--- src/put.rt:31:27
 slice-read-word : tie.Need-slice-read-word Inv-loop μ-loop
 slice-read-word c = omega (arith, (c .before .before) .loop .inv .low, (c .before .before) .loop .inv .size, (c .before .before .before) .pre .1, (c .before) .loop-test .taken)
 
--- src/put.rt:31:14
 sub-word : tie.Need-sub-word Inv-loop μ-loop
 sub-word c = omega (arith, (c .before .before .before) .pre .0)
 
--- src/put.rt:31:14
 add-word-2 : tie.Need-add-word-2 Inv-loop μ-loop
 add-word-2 c = omega (arith, (c .before .before) .loop .inv .low, (c .before .before .before) .pre .1, (c .before .before .before) .pre .0, (c .before .before .before) .good)
 
--- src/put.rt:31:9
 slice-write-word : tie.Need-slice-write-word Inv-loop μ-loop
 slice-write-word c = omega (arith, (c .before .before) .loop .inv .low, (c .before .before) .loop .inv .size, (c .before .before .before) .pre .1, (c .before .before .before) .pre .0, (c .before) .loop-test .taken)
 
--- src/put.rt:29:5
 loop-less : tie.Need-loop-less Inv-loop μ-loop
 loop-less c = omega (arith, (c .before) .loop-test .taken)
 
--- src/put.rt:29:5
 loop-again : tie.Need-loop-again Inv-loop μ-loop
 loop-again c = repeat-turn _ _ _ ((c .before .before .before) .pre .0) ((c .before .before .before) .pre .1) _ _ _ (omega (arith, (c .before) .loop-test .taken)) ((c .before .before) .loop .inv)
 
--- src/put.rt:24:1
 same-length : tie.Need-same-length Inv-loop μ-loop
 same-length c = (c .before) .loop .inv .size
 
--- src/put.rt:24:1
 returns : tie.Need-returns Inv-loop μ-loop
 returns c = repeat-end _ _ _ ((c .before .before) .pre .0) ((c .before .before) .pre .1) _ _ ((c) .loop-test .left) ((c .before) .loop .inv)
 

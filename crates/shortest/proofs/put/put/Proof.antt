@@ -9,59 +9,45 @@ use Rattle.shortest.proofs.put.put.Reads as reads
 use Rattle.shortest.proofs.put.put.Lts as lts
 use Rattle.fsbm.proofs.machine.transition_at.Reads as transition-at-reads
 
--- src/put.rt:14:18
 cast-run : tie.Need-cast-run
 cast-run c = search needs
 
--- src/put.rt:14:9
 sub-run : tie.Need-sub-run
 sub-run c = search needs
 
--- src/put.rt:14:5
 mul-run : tie.Need-mul-run
 mul-run c = search needs
 
--- src/put.rt:14:5
 slice-write-run : tie.Need-slice-write-run
 slice-write-run c = search needs
 
--- src/put.rt:15:9
 transition-at-requires : tie.Need-transition-at-requires
 transition-at-requires c κs = search needs
 
--- src/put.rt:17:9
 same-length : tie.Need-same-length
 same-length c = search needs
 
--- src/put.rt:17:9
 returns : tie.Need-returns
 returns c = put-epsilon _ _ _ _ _ _ ((c .before .before .before .before .before .before) .pre) _ ((c .before .before) .transition-at .ensures) ((c) .if1 .taken)
 
--- src/put.rt:19:19
 cast-word : tie.Need-cast-word
 cast-word c = omega (arith, (c .before .before .before .before .before .before .before) .pre .letter-small, ap (λ (t : Transition). t .letter) ((c .before .before .before) .transition-at .ensures))
 
--- src/put.rt:19:10
 sub-word : tie.Need-sub-word
 sub-word c = omega (arith, (c .before .before .before .before .before .before .before) .pre .word-room (λ z. (c .before) .if1 .left (ap (λ (t : Transition). t .letter) ((c .before .before .before) .transition-at .ensures) ∙ z)))
 
--- src/put.rt:19:5
 slice-write-word : tie.Need-slice-write-word
 slice-write-word c = omega (arith, (c .before .before .before .before .before .before .before) .pre .word-fits, (c .before .before .before .before .before .before .before) .pre .word-room (λ z. (c .before) .if1 .left (ap (λ (t : Transition). t .letter) ((c .before .before .before) .transition-at .ensures) ∙ z)))
 
--- src/put.rt:20:5
 sub-result : tie.Need-sub-result
 sub-result c = omega (arith, (c .before .before .before .before .before .before .before) .pre .word-room (λ z. (c .before) .if1 .left (ap (λ (t : Transition). t .letter) ((c .before .before .before) .transition-at .ensures) ∙ z)))
 
--- src/put.rt:10:1
 same-length-2 : tie.Need-same-length-2
 same-length-2 c = search needs
 
--- src/put.rt:10:1
 same-length-3 : tie.Need-same-length-3
 same-length-3 c = search needs
 
--- src/put.rt:10:1
 returns-2 : tie.Need-returns-2
 returns-2 c = put-letter _ _ _ _ _ _ ((c .before .before .before .before .before .before .before) .pre) _ ((c .before .before .before) .transition-at .ensures) ((c .before) .if1 .left)
 

@@ -12,51 +12,39 @@ Inv-loop later c run₀ r k₀ run k = Unloading later c run₀ r run k
 abbrev μ-loop : tie.MeasureT-loop
 μ-loop later c run₀ r k₀ run k = c - k
 
--- src/put.rt:41:5
 loop-holds : tie.Need-loop-holds Inv-loop μ-loop
 loop-holds c = unload-start _ _ _ _ ((c) .pre .1) ((c) .pre .2)
 
--- src/put.rt:42:26
 mul-run : tie.Need-mul-run Inv-loop μ-loop
 mul-run c = omega (arith, (c) .loop-test .taken, (c .before .before) .pre .0)
 
--- src/put.rt:42:26
 element-copy-out-run : tie.Need-element-copy-out-run Inv-loop μ-loop
 element-copy-out-run c = omega (arith, (c) .loop-test .taken, (c .before .before) .pre .0)
 
--- src/put.rt:42:13
 sub-run : tie.Need-sub-run Inv-loop μ-loop
 sub-run c = omega (arith, (c .before) .loop-test .taken, (c .before .before .before) .pre .1)
 
--- src/put.rt:42:13
 sub-run-2 : tie.Need-sub-run-2 Inv-loop μ-loop
 sub-run-2 c = omega (arith, (c .before) .loop-test .taken, (c .before .before .before) .pre .1)
 
--- src/put.rt:42:9
 mul-run-2 : tie.Need-mul-run-2 Inv-loop μ-loop
 mul-run-2 c = omega (arith, (c .before) .loop-test .taken, (c .before .before .before) .pre .1, (c .before .before .before) .pre .2, (c .before .before .before) .good)
 
--- src/put.rt:42:9
 slice-write-run : tie.Need-slice-write-run Inv-loop μ-loop
 slice-write-run c = omega (arith, (c .before) .loop-test .taken, (c .before .before .before) .pre .1, (c .before .before .before) .pre .2, (c .before .before) .loop .inv .size)
 
--- src/put.rt:43:9
 add-k : tie.Need-add-k Inv-loop μ-loop
 add-k c = omega (arith, (c .before) .loop-test .taken, (c .before .before .before) .pre .0)
 
--- src/put.rt:41:5
 loop-less : tie.Need-loop-less Inv-loop μ-loop
 loop-less c = omega (arith, (c .before) .loop-test .taken)
 
--- src/put.rt:41:5
 loop-again : tie.Need-loop-again Inv-loop μ-loop
 loop-again c = unload-turn _ _ _ _ ((c .before .before .before) .pre .1) ((c .before .before .before) .pre .2) _ _ ((c .before) .loop-test .taken) ((c .before .before) .loop .inv)
 
--- src/put.rt:36:1
 same-length : tie.Need-same-length Inv-loop μ-loop
 same-length c = (c .before) .loop .inv .size
 
--- src/put.rt:36:1
 returns : tie.Need-returns Inv-loop μ-loop
 returns c = unload-end _ _ _ _ ((c .before .before) .pre .1) ((c .before .before) .pre .2) _ _ ((c) .loop-test .left) ((c .before) .loop .inv)
 

@@ -14,35 +14,27 @@ Inv-loop m list index starts ends middles d b₀ q first k₀ b k = Guessing m l
 abbrev μ-loop : tie.MeasureT-loop
 μ-loop m list index starts ends middles d b₀ q first k₀ b k = 64 - k
 
--- src/write.rt:71:5
 loop-holds : tie.Need-loop-holds Inv-loop μ-loop
 loop-holds c = guess-start _ _ _ _ _ _ _ _ _ _ ((c .before) .pre .0)
 
--- src/write.rt:72:18
 add-h : tie.Need-add-h Inv-loop μ-loop
 add-h c = omega (arith, (c .before .before .before) .pre .2, (c) .loop-test .taken)
 
--- src/write.rt:73:12
 try-guess-requires : tie.Need-try-guess-requires Inv-loop μ-loop
 try-guess-requires c κs = ((c .before .before) .loop .inv .searching, omega arith)
 
--- src/write.rt:74:13
 returns : tie.Need-returns Inv-loop μ-loop
 returns c = guess-found _ _ _ _ _ _ _ _ ((c .before .before .before .before .before .before) .args .first) _ _ _ ((c .before .before .before .before .before .before) .pre .1) ((c .before) .try-guess .ensures) ((c) .if1 .taken)
 
--- src/write.rt:76:9
 add-k : tie.Need-add-k Inv-loop μ-loop
 add-k c = omega (arith, (c .before .before .before) .loop-test .taken)
 
--- src/write.rt:71:5
 loop-less : tie.Need-loop-less Inv-loop μ-loop
 loop-less c = omega (arith, (c .before .before .before) .loop-test .taken)
 
--- src/write.rt:71:5
 loop-again : tie.Need-loop-again Inv-loop μ-loop
 loop-again c = guess-next _ _ _ _ _ _ _ _ _ _ _ _ _ ((c .before .before .before .before) .loop .inv) ((c .before) .try-guess .ensures) ((c) .if1 .left)
 
--- src/write.rt:56:1
 returns-2 : tie.Need-returns-2 Inv-loop μ-loop
 returns-2 c = absurd (guess-end _ _ _ _ _ _ _ _ _ _ _ ((c .before .before .before) .pre .1) ((c) .loop-test .left) ((c .before) .loop .inv))
 

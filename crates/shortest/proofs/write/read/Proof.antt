@@ -8,31 +8,24 @@ use Rattle.shortest.proofs.write.read.Lts as lts
 use Rattle.fsbm.proofs.machine.transition_at.Reads as transition-at-reads
 use Rattle.shortest.proofs.put.put.Reads as put-reads
 
--- src/write.rt:23:9
 put-requires : tie.Need-put-requires
 put-requires c κs = search needs
 
--- src/write.rt:24:9
 transition-at-requires : tie.Need-transition-at-requires
 transition-at-requires c κs = search needs
 
--- src/write.rt:26:16
 cast-t13 : tie.Need-cast-t13
 cast-t13 c = search needs
 
--- src/write.rt:28:16
 sub-t14 : tie.Need-sub-t14
 sub-t14 c = search needs
 
--- src/write.rt:19:1
 same-length : tie.Need-same-length
 same-length c = search needs
 
--- src/write.rt:19:1
 same-length-2 : tie.Need-same-length-2
 same-length-2 c = search needs
 
--- src/write.rt:19:1
 returns : tie.Need-returns
 returns c = record { put = (c .before .before .before .before .before .before) .put .ensures; state = ap (λ (t : Transition). t .from) ((c .before) .transition-at .ensures); entry = refl }
 

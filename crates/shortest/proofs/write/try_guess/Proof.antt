@@ -16,31 +16,24 @@ use Rattle.shortest.proofs.find.makes.Reads as makes-reads
 use Rattle.shortest.proofs.find.number.Reads as number-reads
 use Rattle.stateset.proofs.member.Reads as member-reads
 
--- src/write.rt:48:9
 member-requires : tie.Need-member-requires
 member-requires c κs = search needs
 
--- src/write.rt:49:9
 returns : tie.Need-returns
 returns c = tried-not _ _ _ _ _ _ _ _ _ _ ((c .before .before .before) .pre .0) (λ i. not-both (eq-eqb _ _ i) (sym ((c .before) .member .ensures) ∙ not-true _ ((c) .if1 .taken)))
 
--- src/write.rt:51:5
 block-requires : tie.Need-block-requires
 block-requires c κs = (((c .before .before .before .before) .pre .0 .ready, (c .before .before .before .before) .pre .0 .buffers), ((c .before .before .before .before) .pre .0 .size, (c .before .before .before .before) .pre .0 .past, (c .before .before .before .before) .pre .1))
 
--- src/write.rt:52:17
 number-requires : tie.Need-number-requires
 number-requires c κs = ((c .before .before .before .before .before .before) .pre .1, number-below _ _ ((c .before .before .before .before .before .before) .pre .0 .top-small) ((c .before .before .before .before .before .before) .pre .0 .low))
 
--- src/write.rt:52:43
 cost-requires : tie.Need-cost-requires
 cost-requires c κs = number-below _ _ ((c .before .before .before .before .before .before .before) .pre .0 .top-small) ((c .before .before .before .before .before .before .before) .pre .0 .low)
 
--- src/write.rt:52:5
 makes-requires : tie.Need-makes-requires
 makes-requires c κs = search needs
 
--- src/write.rt:34:1
 returns-2 : tie.Need-returns-2
 returns-2 c = tried-block _ _ _ _ _ _ _ _ _ _ _ _ ((c .before .before .before .before .before .before .before .before .before) .pre .0) (eqb-true _ _ (sym ((c .before .before .before .before .before .before .before) .member .ensures) ∙ not-false _ ((c .before .before .before .before .before .before) .if1 .left))) ((c .before .before .before .before) .block .ensures) ((c) .makes .ensures ∙ (ap (λ (v : ℕ). eqb (v + 2) ((c .before) .cost .result)) ((c .before .before) .number .ensures) ∙ ap (λ (v : ℕ). eqb (cell ((c .before .before .before .before) .block .last .1 .1 .1 .1 .1 .1 .1 .1 .0) ((c .before .before .before .before .before .before .before .before .before) .args .h) ((c .before .before .before .before .before .before .before .before .before) .args .q) + 2) v) ((c .before) .cost .ensures)))
 

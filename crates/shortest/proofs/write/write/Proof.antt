@@ -18,43 +18,33 @@ Inv-loop m list links index starts ends middles d hints b₀ f word₀ run₀ la
 abbrev μ-loop : tie.MeasureT-loop
 μ-loop m list links index starts ends middles d hints b₀ f word₀ run₀ later₀ p₀ b word run later p = costOf d (p .state)
 
--- src/write.rt:144:5
 loop-holds : tie.Need-loop-holds Inv-loop μ-loop
 loop-holds c = (write-start _ _ _ _ _ _ ((c .before .before .before) .pre .1), (c .before .before .before) .pre .0 .size, (c .before .before .before) .pre .0 .past, (c .before .before .before) .pre .0 .later-size)
 
--- src/write.rt:144:15
 cost-requires : tie.Need-cost-requires Inv-loop μ-loop
 cost-requires c κs = number-below _ _ (((c .before .before .before .before) .pre .1) .top-small) (write-low _ _ _ _ _ _ ((c .before .before .before .before) .pre .1) _ _ _ ((c) .loop .inv .0))
 
--- src/write.rt:145:9
 step-requires : tie.Need-step-requires Inv-loop μ-loop
 step-requires c κs = step-ready _ _ _ _ _ _ _ _ _ _ _ ((c .before .before .before .before .before .before .before .before .before .before) .pre .0) _ _ ((c .before .before .before .before .before .before .before .before .before .before) .pre .1) _ _ _ ((c .before .before .before .before .before .before) .loop .inv .0) (omega (arith, (c .before .before .before .before) .if1 .taken, (c .before .before .before .before .before) .cost .ensures)) _ _ ((c .before .before .before .before .before .before) .loop .inv .1) ((c .before .before .before .before .before .before) .loop .inv .2) ((c .before .before .before .before .before .before) .loop .inv .3)
 
--- src/write.rt:144:5
 loop-less : tie.Need-loop-less Inv-loop μ-loop
 loop-less c = write-turn _ _ _ _ _ _ ((c .before .before .before .before .before .before .before .before .before .before .before .before .before .before .before) .pre .1) _ _ _ ((c .before .before .before .before .before .before .before .before .before .before .before) .loop .inv .0) _ _ _ ((c .before .before .before .before) .step .ensures .stepped) .1
 
--- src/write.rt:144:5
 loop-again : tie.Need-loop-again Inv-loop μ-loop
 loop-again c = (write-turn _ _ _ _ _ _ ((c .before .before .before .before .before .before .before .before .before .before .before .before .before .before .before) .pre .1) _ _ _ ((c .before .before .before .before .before .before .before .before .before .before .before) .loop .inv .0) _ _ _ ((c .before .before .before .before) .step .ensures .stepped) .0, (c .before .before .before .before) .step .ensures .size, (c .before .before .before .before) .step .ensures .past, (c .before .before .before .before) .step .ensures .later-size)
 
--- src/write.rt:147:14
 cast-run : tie.Need-cast-run Inv-loop μ-loop
 cast-run c = let l = number-below _ _ (((c .before .before .before .before .before .before .before) .pre .1) .top-small) (write-low _ _ _ _ _ _ ((c .before .before .before .before .before .before .before) .pre .1) _ _ _ ((c .before .before .before) .loop .inv .0)) in omega arith
 
--- src/write.rt:147:5
 slice-write-run : tie.Need-slice-write-run Inv-loop μ-loop
 slice-write-run c = omega (arith, (c .before .before .before .before .before .before .before) .pre .1 .some, (c .before .before .before) .loop .inv .0 .run-size)
 
--- src/write.rt:121:1
 same-length : tie.Need-same-length Inv-loop μ-loop
 same-length c = (c .before .before .before) .loop .inv .0 .word-size
 
--- src/write.rt:121:1
 same-length-2 : tie.Need-same-length-2 Inv-loop μ-loop
 same-length-2 c = length-set ((c .before .before .before) .loop .run) 0 _ ∙ (c .before .before .before) .loop .inv .0 .run-size
 
--- src/write.rt:121:1
 returns : tie.Need-returns Inv-loop μ-loop
 returns c = write-end _ _ _ _ _ _ ((c .before .before .before .before .before .before .before) .pre .1) _ _ _ ((c .before .before .before) .loop .inv .0) (omega (arith, (c .before) .if1 .left, (c .before .before) .cost .ensures))
 

@@ -9,15 +9,12 @@ use Rattle.split.proofs.lookup.key_at.Lts as lts
 use Rattle.fsbm.proofs.machine.transition_at.Reads as transition-at-reads
 use Rattle.split.proofs.lookup.key.Reads as key-reads
 
--- src/lookup.rt:21:9
 transition-at-requires : tie.Need-transition-at-requires
 transition-at-requires c κs = search needs
 
--- src/lookup.rt:22:5
 key-requires : tie.Need-key-requires
 key-requires c κs = search needs
 
--- src/lookup.rt:18:1
 returns : tie.Need-returns
 returns c = c .key .ensures ∙ ap (λ (z : Transition). order z) (c .before .transition-at .ensures)
 

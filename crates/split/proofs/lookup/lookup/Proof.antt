@@ -18,51 +18,39 @@ Inv-loop list p x q wanted lo₀ hi₀ lo hi = Between list hi₀ p x q lo hi ×
 abbrev μ-loop : tie.MeasureT-loop
 μ-loop list p x q wanted lo₀ hi₀ lo hi = hi - lo
 
--- src/lookup.rt:31:9
 key-requires : tie.Need-key-requires Inv-loop μ-loop
 key-requires c κs = search needs
 
--- src/lookup.rt:34:5
 loop-holds : tie.Need-loop-holds Inv-loop μ-loop
 loop-holds c = (between-start ((c .before .before) .args .m) _ _ _ _ ((c .before .before) .pre .1), (c) .key .ensures)
 
--- src/lookup.rt:34:15
 sub-loop : tie.Need-sub-loop Inv-loop μ-loop
 sub-loop c = let b = (c) .loop .inv .0 in omega (arith, b .low, b .high)
 
--- src/lookup.rt:35:25
 sub-mid : tie.Need-sub-mid Inv-loop μ-loop
 sub-mid c = let b = (c .before) .loop .inv .0 in omega (arith, b .low, b .high)
 
--- src/lookup.rt:35:19
 add-mid : tie.Need-add-mid Inv-loop μ-loop
 add-mid c = let b = (c .before) .loop .inv .0 in omega (arith, b .low, b .high, b .within, rules _ _ ((c .before .before .before .before) .pre .0) .transitions-fit)
 
--- src/lookup.rt:36:21
 key-at-requires : tie.Need-key-at-requires Inv-loop μ-loop
 key-at-requires c κs = search needs
 
--- src/lookup.rt:34:5
 loop-less : tie.Need-loop-less Inv-loop μ-loop
 loop-less c = let b = (c .before .before .before) .loop .inv .0 in omega (arith, b .low, b .high, (c .before .before) .loop-test .taken)
 
--- src/lookup.rt:34:5
 loop-again : tie.Need-loop-again Inv-loop μ-loop
 loop-again c = (between-below ((c .before .before .before .before .before .before) .args .m) _ _ _ _ (rules _ _ ((c .before .before .before .before .before .before) .pre .0)) _ _ ((c .before .before .before) .loop .inv .0) _ (omega (arith, (c .before .before) .loop-test .taken)) (omega (arith, (c) .if1 .taken, (c .before) .key-at .ensures, (c .before .before .before) .loop .inv .1)), (c .before .before .before) .loop .inv .1)
 
--- src/lookup.rt:34:5
 loop-less-2 : tie.Need-loop-less-2 Inv-loop μ-loop
 loop-less-2 c = let b = (c .before .before .before) .loop .inv .0 in omega (arith, b .low, b .high, (c .before .before) .loop-test .taken)
 
--- src/lookup.rt:34:5
 loop-again-2 : tie.Need-loop-again-2 Inv-loop μ-loop
 loop-again-2 c = (between-above ((c .before .before .before .before .before .before) .args .m) _ _ _ _ (rules _ _ ((c .before .before .before .before .before .before) .pre .0)) _ _ ((c .before .before .before) .loop .inv .0) _ (omega (arith, (c .before .before) .loop-test .taken)) (omega (arith, (c) .if1 .left, (c .before) .key-at .ensures, (c .before .before .before) .loop .inv .1)), (c .before .before .before) .loop .inv .1)
 
--- src/lookup.rt:42:5
 cast-result : tie.Need-cast-result Inv-loop μ-loop
 cast-result c = let b = (c .before) .loop .inv .0 in omega (arith, b .low, b .high, b .within, rules _ _ ((c .before .before .before .before) .pre .0) .transitions-fit)
 
--- src/lookup.rt:27:1
 returns : tie.Need-returns Inv-loop μ-loop
 returns c = between-end ((c .before .before .before .before) .args .m) _ _ _ _ (rules _ _ ((c .before .before .before .before) .pre .0)) _ _ ((c .before) .loop .inv .0) ((c) .loop-test .left)
 

@@ -12,27 +12,21 @@ use Rattle.split.proofs.split.first_part.Lts as lts
 use Rattle.fsbm.proofs.machine.transition_at.Reads as transition-at-reads
 use Rattle.split.proofs.lookup.lookup.Reads as lookup-reads
 
--- src/split.rt:14:9
 returns : tie.Need-returns
 returns c = search needs
 
--- src/split.rt:16:9
 transition-at-requires : tie.Need-transition-at-requires
 transition-at-requires c κs = search needs
 
--- src/split.rt:17:30
 div-lookup : tie.Need-div-lookup
 div-lookup c = search needs
 
--- src/split.rt:17:52
 div-lookup-2 : tie.Need-div-lookup-2
 div-lookup-2 c = search needs
 
--- src/split.rt:17:5
 lookup-requires : tie.Need-lookup-requires
 lookup-requires c κs = ((c .before .before .before .before .before .before) .pre .good, subst (λ (t : Transition). Listed ((c .before .before .before .before .before .before) .args .first .now) ((c .before .before .before .before .before .before) .args .m .transitions) (t .from / (c .before .before .before .before .before .before) .args .n) (t .letter) (t .to / (c .before .before .before .before .before .before) .args .n)) (sym ((c .before .before) .transition-at .ensures)) ((c .before .before .before .before .before .before) .pre .there ((c .before .before .before) .if1 .left)))
 
--- src/split.rt:9:1
 returns-2 : tie.Need-returns-2
 returns-2 c = record { changes = λ h. absurd (omega (arith, (c .before .before .before .before) .if1 .left)); takes = λ h. subst (λ (t : Transition). Takes ((c .before .before .before .before .before .before .before) .args .m) ((c .before .before .before .before .before .before .before) .args .first .now) ((c) .lookup .result) (t .from / (c .before .before .before .before .before .before .before) .args .n) (t .letter) (t .to / (c .before .before .before .before .before .before .before) .args .n)) ((c .before .before .before) .transition-at .ensures) ((c) .lookup .ensures) }
 

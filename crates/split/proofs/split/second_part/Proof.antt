@@ -14,47 +14,36 @@ use Rattle.split.proofs.split.second_part.Lts as lts
 use Rattle.fsbm.proofs.machine.transition_at.Reads as transition-at-reads
 use Rattle.split.proofs.lookup.lookup.Reads as lookup-reads
 
--- src/split.rt:27:9
 returns : tie.Need-returns
 returns c = inl (record { none = still-change ((c .before .before .before .before) .args .list .now) ((c .before .before .before .before) .args .e) ((c) .if1 .taken); place = refl; after = refl })
 
--- src/split.rt:29:9
 transition-at-requires : tie.Need-transition-at-requires
 transition-at-requires c κs = search needs
 
--- src/split.rt:31:9
 returns-2 : tie.Need-returns-2
 returns-2 c = inl (record { none = still-epsilon ((c .before .before .before .before .before .before .before) .args .list .now) ((c .before .before .before .before .before .before .before) .args .e) (ap (λ (t : Transition). t .letter) (sym ((c .before .before) .transition-at .ensures)) ∙ (c) .if2 .taken); place = refl; after = refl })
 
--- src/split.rt:33:13
 sub-r : tie.Need-sub-r
 sub-r c = let h = (c .before .before .before .before .before .before .before) .pre .there (is-letter ((c .before .before .before .before .before .before .before) .args .list .now) ((c .before .before .before .before .before .before .before) .args .e) ((c .before .before .before) .if1 .left) (λ z. (c) .if2 .left (ap (λ (t : Transition). t .letter) ((c .before .before) .transition-at .ensures) ∙ z))) .1 in omega arith
 
--- src/split.rt:34:42
 rem-lookup : tie.Need-rem-lookup
 rem-lookup c = search needs
 
--- src/split.rt:34:64
 rem-lookup-2 : tie.Need-rem-lookup-2
 rem-lookup-2 c = search needs
 
--- src/split.rt:34:16
 lookup-requires : tie.Need-lookup-requires
 lookup-requires c κs = ((c .before .before .before .before .before .before .before .before .before) .pre .good, subst (λ (t : Transition). Listed ((c .before .before .before .before .before .before .before .before .before) .args .second .now) ((c .before .before .before .before .before .before .before .before .before) .args .m .transitions) (t .from % (c .before .before .before .before .before .before .before .before .before) .args .n) (t .letter) (t .to % (c .before .before .before .before .before .before .before .before .before) .args .n)) (sym ((c .before .before .before .before) .transition-at .ensures)) ((c .before .before .before .before .before .before .before .before .before) .pre .there (is-letter ((c .before .before .before .before .before .before .before .before .before) .args .list .now) ((c .before .before .before .before .before .before .before .before .before) .args .e) ((c .before .before .before .before .before) .if1 .left) (λ z. (c .before .before) .if2 .left (ap (λ (t : Transition). t .letter) ((c .before .before .before .before) .transition-at .ensures) ∙ z))) .0))
 
--- src/split.rt:34:5
 mul-other : tie.Need-mul-other
 mul-other c = search needs
 
--- src/split.rt:34:5
 slice-write-other : tie.Need-slice-write-other
 slice-write-other c = let h = (c .before .before .before .before .before .before .before .before .before .before) .pre .there (is-letter ((c .before .before .before .before .before .before .before .before .before .before) .args .list .now) ((c .before .before .before .before .before .before .before .before .before .before) .args .e) ((c .before .before .before .before .before .before) .if1 .left) (λ z. (c .before .before .before) .if2 .left (ap (λ (t : Transition). t .letter) ((c .before .before .before .before .before) .transition-at .ensures) ∙ z))) .1 in omega (arith, (c .before .before .before .before .before .before .before .before .before .before) .pre .room)
 
--- src/split.rt:22:1
 same-length : tie.Need-same-length
 same-length c = search needs
 
--- src/split.rt:22:1
 returns-3 : tie.Need-returns-3
 returns-3 c = let l = is-letter ((c .before .before .before .before .before .before .before .before .before .before) .args .list .now) ((c .before .before .before .before .before .before .before .before .before .before) .args .e) ((c .before .before .before .before .before .before) .if1 .left) (λ z. (c .before .before .before) .if2 .left (ap (λ (t : Transition). t .letter) ((c .before .before .before .before .before) .transition-at .ensures) ∙ z)) in inr (record { letter = l; place = let h = (c .before .before .before .before .before .before .before .before .before .before) .pre .there l .1 in omega arith; entry = (c) .lookup .result; takes = subst (λ (t : Transition). Takes ((c .before .before .before .before .before .before .before .before .before .before) .args .m) ((c .before .before .before .before .before .before .before .before .before .before) .args .second .now) ((c) .lookup .result) (t .from % (c .before .before .before .before .before .before .before .before .before .before) .args .n) (t .letter) (t .to % (c .before .before .before .before .before .before .before .before .before .before) .args .n)) ((c .before .before .before .before .before) .transition-at .ensures) ((c) .lookup .ensures); after = refl })
 

@@ -16,79 +16,60 @@ Inv-loop m1 first m2 second list run₀ other₀ n k₀ p₀ run other k p = Spl
 abbrev μ-loop : tie.MeasureT-loop
 μ-loop m1 first m2 second list run₀ other₀ n k₀ p₀ run other k p = k
 
--- src/split.rt:45:13
 cast-n : tie.Need-cast-n Inv-loop μ-loop
 cast-n c = omega (arith, tables _ _ _ _ _ _ _ ((c .before .before .before .before .before .before) .pre) .second .states-fit)
 
--- src/split.rt:48:5
 loop-holds : tie.Need-loop-holds Inv-loop μ-loop
 loop-holds c = (split-start _ _ _ _ _ _ _ ((c .before .before .before .before .before .before) .pre), refl)
 
--- src/split.rt:49:9
 sub-k : tie.Need-sub-k Inv-loop μ-loop
 sub-k c = omega (arith, (c) .loop-test .taken)
 
--- src/split.rt:50:17
 mul-e : tie.Need-mul-e Inv-loop μ-loop
 mul-e c = let s = (c .before) .loop .inv .0 in omega (arith, s .high, s .low, (c .before .before .before .before .before .before .before .before) .good)
 
--- src/split.rt:50:17
 slice-read-e : tie.Need-slice-read-e Inv-loop μ-loop
 slice-read-e c = let s = (c .before .before) .loop .inv .0 in omega (arith, s .high, s .low, s .run-size)
 
--- src/split.rt:51:18
 first-part-requires : tie.Need-first-part-requires Inv-loop μ-loop
 first-part-requires c κs = first-ready _ _ _ _ _ _ _ ((c .before .before .before .before .before .before .before .before .before) .pre) _ _ _ ((c .before .before) .loop .k) _ (omega (arith, (c .before) .loop-test .taken)) (omega (arith, (c .before) .loop-test .taken)) ((c .before .before) .loop .inv .0)
 
--- src/split.rt:51:9
 mul-run : tie.Need-mul-run Inv-loop μ-loop
 mul-run c = let s = (c .before .before .before) .loop .inv .0 in omega (arith, s .high, s .low, (c .before .before .before .before .before .before .before .before .before .before) .good)
 
--- src/split.rt:51:9
 slice-write-run : tie.Need-slice-write-run Inv-loop μ-loop
 slice-write-run c = let s = (c .before .before .before) .loop .inv .0 in omega (arith, s .high, s .low, s .run-size)
 
--- src/split.rt:52:9
 second-part-requires : tie.Need-second-part-requires Inv-loop μ-loop
 second-part-requires c κs = second-ready _ _ _ _ _ _ _ ((c .before .before .before .before .before .before .before .before .before .before .before) .pre) _ _ _ ((c .before .before .before .before) .loop .k) _ (omega (arith, (c .before .before .before) .loop-test .taken)) (omega (arith, (c .before .before .before) .loop-test .taken)) ((c .before .before .before .before) .loop .inv .0)
 
--- src/split.rt:48:5
 loop-less : tie.Need-loop-less Inv-loop μ-loop
 loop-less c = omega (arith, (c .before .before .before .before .before .before) .loop-test .taken)
 
--- src/split.rt:48:5
 loop-again : tie.Need-loop-again Inv-loop μ-loop
 loop-again c = (split-turn _ _ _ _ _ _ _ ((c .before .before .before .before .before .before .before .before .before .before .before .before .before .before) .pre) _ _ _ ((c .before .before .before .before .before .before .before) .loop .k) _ (omega (arith, (c .before .before .before .before .before .before) .loop-test .taken)) (omega (arith, (c .before .before .before .before .before .before) .loop-test .taken)) ((c .before .before .before .before .before .before .before) .loop .inv .0) _ ((c .before .before .before .before) .first-part .ensures) _ _ ((c .before .before) .second-part .ensures), (c .before .before .before .before .before .before .before) .loop .inv .1)
 
--- src/split.rt:54:13
 slice-read-q : tie.Need-slice-read-q Inv-loop μ-loop
 slice-read-q c = let s = (c .before .before) .loop .inv .0 in omega (arith, s .low, s .high, s .run-size)
 
--- src/split.rt:55:14
 div-run : tie.Need-div-run Inv-loop μ-loop
 div-run c = omega (arith, tables _ _ _ _ _ _ _ ((c .before .before .before .before .before .before .before .before .before) .pre) .second .some-state)
 
--- src/split.rt:55:5
 slice-write-run-2 : tie.Need-slice-write-run-2 Inv-loop μ-loop
 slice-write-run-2 c = let s = (c .before .before) .loop .inv .0 in omega (arith, s .low, s .high, s .run-size)
 
--- src/split.rt:56:16
 rem-other : tie.Need-rem-other Inv-loop μ-loop
 rem-other c = omega (arith, tables _ _ _ _ _ _ _ ((c .before .before .before .before .before .before .before .before .before) .pre) .second .some-state)
 
--- src/split.rt:56:5
 slice-write-other : tie.Need-slice-write-other Inv-loop μ-loop
 slice-write-other c = let s = (c .before .before) .loop .inv .0 in omega (arith, s .other-size, (c .before .before .before .before .before .before .before .before .before) .pre .letters)
 
--- src/split.rt:41:1
 same-length : tie.Need-same-length Inv-loop μ-loop
 same-length c = length-set ((c .before .before) .loop .run) 0 _ ∙ (c .before .before) .loop .inv .0 .run-size
 
--- src/split.rt:41:1
 same-length-2 : tie.Need-same-length-2 Inv-loop μ-loop
 same-length-2 c = length-set ((c .before .before) .loop .other) 0 _ ∙ (c .before .before) .loop .inv .0 .other-size
 
--- src/split.rt:41:1
 returns : tie.Need-returns Inv-loop μ-loop
 returns c = split-done _ _ _ _ _ _ _ ((c .before .before .before .before .before .before .before .before .before) .pre) _ _ _ _ ((c .before) .loop-test .left) ((c .before .before) .loop .inv .0)
 

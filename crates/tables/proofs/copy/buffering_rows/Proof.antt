@@ -21,63 +21,48 @@ Inv-loop m list targets g h sets word t i stored₀ next₀ d₀ stored next d =
 abbrev μ-loop : tie.MeasureT-loop
 μ-loop m list targets g h sets word t i stored₀ next₀ d₀ stored next d = d
 
--- src/copy.rt:412:20
 dead-requires : tie.Need-dead-requires Inv-loop μ-loop
 dead-requires c κs = search needs
 
--- src/copy.rt:413:18
 sub-d : tie.Need-sub-d Inv-loop μ-loop
 sub-d c = omega (arith, ((c .before .before .before .before .pre)) .1)
 
--- src/copy.rt:414:5
 loop-holds : tie.Need-loop-holds Inv-loop μ-loop
 loop-holds c = buffer-rows-start _ _ _ _ (rules _ _ (((c .before .before .before .before .pre)) .0 .given .good)) _ (((c .before .before .before .before .pre)) .1) _ refl _ (((c .dead) .ensures) .0) _
 
--- src/copy.rt:415:22
 add-x : tie.Need-add-x Inv-loop μ-loop
 add-x c = omega (arith, ((c .before .loop) .inv) .inside, ((c .before .before .before .before .before .before .good)))
 
--- src/copy.rt:415:17
 shared-slice-read-x : tie.Need-shared-slice-read-x Inv-loop μ-loop
 shared-slice-read-x c = omega (arith, ((c .before .before .loop) .inv) .inside, ((c .before .loop-test) .taken))
 
--- src/copy.rt:415:17
 cast-x : tie.Need-cast-x Inv-loop μ-loop
 cast-x c = omega (arith, ((c .shared-slice-known4) .given) (((c .before .before .before .before .before .before .before .args) .i) + ((c .before .before .loop) .d)))
 
--- src/copy.rt:416:22
 fresh-change-requires : tie.Need-fresh-change-requires Inv-loop μ-loop
 fresh-change-requires c κs = (((c .before .before .before .before .before .before .before .pre)) .0, ((c .before .before .loop) .inv) .inside, ((c .before .before .before .before .before .before .before .pre)) .2, ((c .before .before .before .before .before .before .before .pre)) .4 (((c .before .before .before .before .before .before .before .args) .i) + ((c .before .before .loop) .d) + ((c .before .before .loop) .d)) (omega (arith, ((c .before .loop-test) .taken))) (((c .before .before .loop) .inv) .inside))
 
--- src/copy.rt:417:23
 blank-requires : tie.Need-blank-requires Inv-loop μ-loop
 blank-requires c κs = search needs
 
--- src/copy.rt:418:13
 stored-row-requires : tie.Need-stored-row-requires Inv-loop μ-loop
 stored-row-requires c κs = ((c .before .before .before .before .before .before .before .before .before .before .before .before .before .before .pre) .0 .given, (c .before .before .before .before .before .before .before .before .before .before .before .before .before .before .pre) .0 .letters _ (omega (arith, ((c .before .before .before .before .before .before .before .before .before .loop) .inv) .inside, ((c .before .before .before .before .before .before .before .before .loop-test) .taken))), (c .before .before .before .before .before .blank) .ensures)
 
--- src/copy.rt:432:9
 save-requires : tie.Need-save-requires Inv-loop μ-loop
 save-requires c κs = omega (arith, ((c .before .before .before .before .before .before .before .before .before .before .before .loop) .inv) .inside, ((c .before .before .before .before .before .before .before .before .before .before .before .loop) .inv) .size, ((c .before .before .before .before .before .before .before .before .before .before .before .before .before .before .before .before .pre)) .3)
 
--- src/copy.rt:433:9
 sub-d-2 : tie.Need-sub-d-2 Inv-loop μ-loop
 sub-d-2 c = omega (arith, ((c .before .before .before .before .before .before .before .before .before .before .before .before .loop-test) .taken))
 
--- src/copy.rt:414:5
 loop-less : tie.Need-loop-less Inv-loop μ-loop
 loop-less c = omega (arith, ((c .before .before .before .before .before .before .before .before .before .before .before .before .loop-test) .taken))
 
--- src/copy.rt:414:5
 loop-again : tie.Need-loop-again Inv-loop μ-loop
 loop-again c = buffer-rows-next _ _ _ _ (rules _ _ (((c .before .before .before .before .before .before .before .before .before .before .before .before .before .before .before .before .before .before .pre)) .0 .given .good)) _ _ _ _ _ _ _ _ _ ((c .before .before .before .before .before .before .before .before .before .before .before .before .loop-test) .taken) (omega (arith, ((c .before .before .before .before .before .before .before .before .before .before .before .before .before .loop) .inv) .inside, ((c .before .before .before .before .before .before .before .before .before .before .before .before .before .before .before .before .before .before .pre)) .3)) refl ((c .before .before .before .before .before .before .before .before .before .before .before .before .before .loop) .inv) ((c .before .before .before .before .before .before .before .before .before .before .fresh-change) .ensures) ((c .before .before .before .stored-row) .ensures) ((c .before .save) .ensures)
 
--- src/copy.rt:396:1
 same-length : tie.Need-same-length Inv-loop μ-loop
 same-length c = ((c .before .loop) .inv) .size
 
--- src/copy.rt:396:1
 returns : tie.Need-returns Inv-loop μ-loop
 returns c = buffer-rows-end _ _ _ _ (rules _ _ (((c .before .before .before .before .before .before .pre)) .0 .given .good)) _ _ _ _ _ ((c .loop-test) .left) ((c .before .loop) .inv)
 

@@ -18,55 +18,42 @@ Inv-loop m list targets g h sets word e d rows₀ row₀ r₀ rows row r = Empti
 abbrev μ-loop : tie.MeasureT-loop
 μ-loop m list targets g h sets word e d rows₀ row₀ r₀ rows row r = d - r
 
--- src/copy.rt:75:5
 save-requires : tie.Need-save-requires Inv-loop μ-loop
 save-requires c κs = omega (arith, ((c .before .before .before .before .pre)) .3)
 
--- src/copy.rt:77:5
 loop-holds : tie.Need-loop-holds Inv-loop μ-loop
 loop-holds c = empty-rows-start ((c .before .before .before .before .before .before .args) .m) (((c .before .before .before .before .before .before .args) .list) .now) (((c .before .before .before .before .before .before .args) .sets) .now) (((c .before .before .before .before .before .before .args) .word) .now) ((c .before .before .before .before .before .before .args) .e) ((c .before .before .before .before .before .before .args) .d) (((c .before .before .before .before .before .before .args) .rows) .now) (((c .before .before .before .before .before .before .args) .rows) .now) _ ((c .before .before .before .before .before .before .args) .last) (omega (arith, ((c .before .before .before .before .before .before .pre)) .3)) ((c .before .save) .ensures) (((c .before .before .before .before .before .before .pre)) .4)
 
--- src/copy.rt:78:9
 add-r : tie.Need-add-r Inv-loop μ-loop
 add-r c = omega (arith, ((c .loop-test) .taken), ((c .before .before .before .before .before .before .before .before .pre)) .1, ((c .before .before .before .before .before .before .before .before .pre)) .2)
 
--- src/copy.rt:79:22
 sub-x : tie.Need-sub-x Inv-loop μ-loop
 sub-x c = omega (arith, ((c .loop-test) .taken), ((c .before .before .before .before .before .before .before .before .pre)) .1, ((c .before .before .before .before .before .before .before .before .pre)) .2)
 
--- src/copy.rt:79:17
 shared-slice-read-x : tie.Need-shared-slice-read-x Inv-loop μ-loop
 shared-slice-read-x c = omega (arith, ((c .before .loop-test) .taken), ((c .before .before .before .before .before .before .before .before .before .pre)) .1, ((c .before .before .before .before .before .before .before .before .before .pre)) .2)
 
--- src/copy.rt:79:17
 cast-x : tie.Need-cast-x Inv-loop μ-loop
 cast-x c = omega (arith, ((c .shared-slice-known4) .given) (((c .before .before .before .before .before .before .before .before .before .args) .e) - (((c .before .before .loop) .r) + 1)))
 
--- src/copy.rt:80:24
 blank-requires : tie.Need-blank-requires Inv-loop μ-loop
 blank-requires c κs = search needs
 
--- src/copy.rt:81:9
 emptying-layer-requires : tie.Need-emptying-layer-requires Inv-loop μ-loop
 emptying-layer-requires c κs = ((c .before .before .before .before .before .before .before .before .before .before .before .before .pre) .0 .given, (c .before .before .before .before .before .before .before .before .before .before .before .before .pre) .0 .letters _ (omega (arith, ((c .before .before .before .before .loop-test) .taken), ((c .before .before .before .before .before .before .before .before .before .before .before .before .pre)) .1, ((c .before .before .before .before .before .before .before .before .before .before .before .before .pre)) .2)), (c .before .before .blank) .ensures)
 
--- src/copy.rt:83:9
 save-requires-2 : tie.Need-save-requires-2 Inv-loop μ-loop
 save-requires-2 c κs = omega (arith, ((c .before .before .before .before .before .before .loop-test) .taken), ((c .before .before .before .before .before .before .before .before .before .before .before .before .before .before .pre)) .3, ((c .before .before .before .before .before .before .before .loop) .inv) .rows-are .size, ap length ((c .before .before .before .before .before .before .before .before .before .save) .ensures), length-set (((c .before .before .before .before .before .before .before .before .before .before .before .before .before .before .args) .rows) .now) 0 ((c .before .before .before .before .before .before .before .before .before .before .before .before .before .before .args) .last))
 
--- src/copy.rt:77:5
 loop-less : tie.Need-loop-less Inv-loop μ-loop
 loop-less c = omega (arith, ((c .before .before .before .before .before .before .before .before .loop-test) .taken))
 
--- src/copy.rt:77:5
 loop-again : tie.Need-loop-again Inv-loop μ-loop
 loop-again c = empty-rows-next _ _ _ _ _ _ _ _ _ _ _ _ _ (omega (arith, ((c .before .before .before .before .before .before .before .before .loop-test) .taken), ((c .before .before .before .before .before .before .before .before .before .before .before .before .before .before .before .before .pre)) .3, ap length ((c .before .before .before .before .before .before .before .before .before .before .before .save) .ensures), length-set (((c .before .before .before .before .before .before .before .before .before .before .before .before .before .before .before .before .args) .rows) .now) 0 ((c .before .before .before .before .before .before .before .before .before .before .before .before .before .before .before .before .args) .last))) ((c .before .before .before .before .before .before .before .before .loop-test) .taken) (((c .before .before .before .before .before .before .before .before .before .before .before .before .before .before .before .before .pre)) .1) (((c .before .before .before .before .before .before .before .before .before .before .before .before .before .before .before .before .pre)) .2) refl ((c .before .before .before .before .before .before .before .before .before .loop) .inv) (((c .before .before .before .emptying-layer) .ensures) .0) ((c .before .save2) .ensures)
 
--- src/copy.rt:58:1
 same-length : tie.Need-same-length Inv-loop μ-loop
 same-length c = empty-rows-end _ _ _ _ _ _ _ (((c .before .before .before .before .before .before .before .before .args) .rows) .now) _ _ _ ((c .before .before .before .before .before .before .before .before .args) .last) ((c .before .before .before .save) .ensures) ((c .loop-test) .left) ((c .before .loop) .inv) .size
 
--- src/copy.rt:58:1
 returns : tie.Need-returns Inv-loop μ-loop
 returns c = empty-rows-end _ _ _ _ _ _ _ (((c .before .before .before .before .before .before .before .before .args) .rows) .now) _ _ _ ((c .before .before .before .before .before .before .before .before .args) .last) ((c .before .before .before .save) .ensures) ((c .loop-test) .left) ((c .before .loop) .inv)
 

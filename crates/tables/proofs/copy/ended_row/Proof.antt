@@ -13,83 +13,63 @@ use Rattle.tables.proofs.copy.keep.Reads as keep-reads
 use Rattle.tables.proofs.copy.load.Reads as load-reads
 use Rattle.tables.proofs.copy.wind.Reads as wind-reads
 
--- src/copy.rt:166:13
 mul-k : tie.Need-mul-k
 mul-k c = search needs
 
--- src/copy.rt:166:13
 slice-read-k : tie.Need-slice-read-k
 slice-read-k c = search needs
 
--- src/copy.rt:166:13
 cast-k : tie.Need-cast-k
 cast-k c = omega (arith, ((c .slice-known2) .given) ((c .before .before .before .before .before .args) .e))
 
--- src/copy.rt:168:23
 load-requires : tie.Need-load-requires
 load-requires c κs = search needs
 
--- src/copy.rt:169:13
 wind-requires : tie.Need-wind-requires
 wind-requires c κs = (((c .before .before .before .before .before .before .before .before .before .pre)) .0, ((c .before .before .before .if1) .taken), ((c .before .before .before .before .before .before .before .before .before .pre)) .1, ((c .before .before .before .before .before .before .before .before .before .pre)) .2, subst (EmptyRow ((c .before .before .before .before .before .before .before .before .before .args) .m) (((c .before .before .before .before .before .before .before .before .before .args) .list) .now) (((c .before .before .before .before .before .before .before .before .before .args) .sets) .now) (((c .before .before .before .before .before .before .before .before .before .args) .word) .now) ((c .before .before .before .before .before .before .before .before .before .args) .e) _) (sym ((c .before .load) .ensures)) (((c .before .before .before .before .before .before .before .before .before .pre)) .8 .best (omega (arith, ((c .before .before .before .if1) .taken), ((c .before .before .before .before .before .before .before .before .before .pre)) .1, ((c .before .before .before .before .before .before .before .before .before .pre)) .2, ((c .before .before .before .before .before .before .before .before .before .pre)) .3)) .1))
 
--- src/copy.rt:170:9
 keep-requires : tie.Need-keep-requires
 keep-requires c κs = search needs
 
--- src/copy.rt:170:9
 same-length : tie.Need-same-length
 same-length c = search needs
 
--- src/copy.rt:170:9
 same-length-2 : tie.Need-same-length-2
 same-length-2 c = search needs
 
--- src/copy.rt:170:9
 returns : tie.Need-returns
 returns c = ((c .before .before .before .keep) .ensures) _ _ _ _ _ (((c .before .before .before .before .before .before .before .before .before .before .before .before .before .before .before .before .before .pre)) .1) ((c .before .before .before .before .before .before .before .wind) .ensures)
 
--- src/copy.rt:173:17
 add-if3 : tie.Need-add-if3
 add-if3 c = search needs
 
--- src/copy.rt:174:13
 dead-requires : tie.Need-dead-requires
 dead-requires c κs = search needs
 
--- src/copy.rt:174:13
 returns-2 : tie.Need-returns-2
 returns-2 c = ended-blank _ _ _ _ _ _ _ _ _ _ _ (((c .before .before .before .before .before .before .before .before .before .pre)) .1) ((c .before .before .if2) .taken) ((c .before .if3) .taken) (((c .before .before .before .before .before .before .before .before .before .pre)) .8) (((c .dead) .ensures) .0)
 
--- src/copy.rt:177:27
 mul-load : tie.Need-mul-load
 mul-load c = search needs
 
--- src/copy.rt:177:27
 add-load : tie.Need-add-load
 add-load c = search needs
 
--- src/copy.rt:177:19
 load-requires-2 : tie.Need-load-requires-2
 load-requires-2 c κs = search needs
 
--- src/copy.rt:178:9
 wind-requires-2 : tie.Need-wind-requires-2
 wind-requires-2 c κs = (((c .before .before .before .before .before .before .before .before .before .pre)) .0, omega arith, ((c .before .before .before .before .before .before .before .before .before .pre)) .1, ((c .before .before .before .before .before .before .before .before .before .pre)) .2, subst (EmptyRow ((c .before .before .before .before .before .before .before .before .before .args) .m) (((c .before .before .before .before .before .before .before .before .before .args) .list) .now) (((c .before .before .before .before .before .before .before .before .before .args) .sets) .now) (((c .before .before .before .before .before .before .before .before .before .args) .word) .now) ((c .before .before .before .before .before .before .before .before .before .args) .e) 0) (sym ((c .before .load2) .ensures)) (empty-start ((c .before .before .before .before .before .before .before .before .before .args) .m) (((c .before .before .before .before .before .before .before .before .before .args) .list) .now) (((c .before .before .before .before .before .before .before .before .before .args) .sets) .now) (((c .before .before .before .before .before .before .before .before .before .args) .word) .now) (((c .before .before .before .before .before .before .before .before .before .args) .t) .now) ((c .before .before .before .before .before .before .before .before .before .args) .e) (((c .before .before .before .before .before .before .before .before .before .pre)) .5)))
 
--- src/copy.rt:179:5
 keep-requires-2 : tie.Need-keep-requires-2
 keep-requires-2 c κs = search needs
 
--- src/copy.rt:148:1
 same-length-3 : tie.Need-same-length-3
 same-length-3 c = search needs
 
--- src/copy.rt:148:1
 same-length-4 : tie.Need-same-length-4
 same-length-4 c = search needs
 
--- src/copy.rt:148:1
 returns-3 : tie.Need-returns-3
 returns-3 c = ((c .before .before .before .keep2) .ensures) _ _ _ _ _ (((c .before .before .before .before .before .before .before .before .before .before .before .before .before .before .before .before .before .pre)) .1) ((c .before .before .before .before .before .before .before .wind2) .ensures)
 

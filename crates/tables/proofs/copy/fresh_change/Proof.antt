@@ -16,51 +16,39 @@ use Rattle.tables.proofs.copy.load.Reads as load-reads
 use Rattle.tables.proofs.copy.wind.Reads as wind-reads
 use Rattle.tables.proofs.halves.halves_match.Reads as halves-match-reads
 
--- src/copy.rt:383:9
 halves-match-requires : tie.Need-halves-match-requires
 halves-match-requires c κs = search needs
 
--- src/copy.rt:384:9
 dead-requires : tie.Need-dead-requires
 dead-requires c κs = search needs
 
--- src/copy.rt:384:9
 returns : tie.Need-returns
 returns c = change-dead _ _ _ _ _ _ (rules _ _ (((c .before .before .before .before .before .before .pre)) .0 .given .good) .states-fit) (omega (arith, ((c .before .before .before .before .before .before .pre)) .1)) (((c .before .before .halves-match) .ensures) .unequal (not-true _ ((c .before .if1) .taken))) _ (((c .dead) .ensures) .0)
 
--- src/copy.rt:386:13
 add-e : tie.Need-add-e
 add-e c = search needs
 
--- src/copy.rt:386:13
 add-e-2 : tie.Need-add-e-2
 add-e-2 c = search needs
 
--- src/copy.rt:387:27
 mul-load : tie.Need-mul-load
 mul-load c = search needs
 
--- src/copy.rt:387:27
 add-load : tie.Need-add-load
 add-load c = search needs
 
--- src/copy.rt:387:19
 load-requires : tie.Need-load-requires
 load-requires c κs = search needs
 
--- src/copy.rt:388:9
 wind-requires : tie.Need-wind-requires
 wind-requires c κs = (((c .before .before .before .before .before .before .before .pre)) .0, omega arith, omega arith, ((c .before .before .before .before .before .before .before .pre)) .1, subst (EmptyRow ((c .before .before .before .before .before .before .before .args) .m) (((c .before .before .before .before .before .before .before .args) .list) .now) (((c .before .before .before .before .before .before .before .args) .sets) .now) (((c .before .before .before .before .before .before .before .args) .word) .now) (((c .before .before .before .before .before .before .before .args) .i) + ((c .before .before .before .before .before .before .before .args) .d) + ((c .before .before .before .before .before .before .before .args) .d)) 0) (sym ((c .before .load) .ensures)) (empty-start ((c .before .before .before .before .before .before .before .args) .m) (((c .before .before .before .before .before .before .before .args) .list) .now) (((c .before .before .before .before .before .before .before .args) .sets) .now) (((c .before .before .before .before .before .before .before .args) .word) .now) (((c .before .before .before .before .before .before .before .args) .t) .now) (((c .before .before .before .before .before .before .before .args) .i) + ((c .before .before .before .before .before .before .before .args) .d) + ((c .before .before .before .before .before .before .before .args) .d)) (((c .before .before .before .before .before .before .before .pre)) .3)))
 
--- src/copy.rt:390:9
 returns-2 : tie.Need-returns-2
 returns-2 c = change-wound _ _ _ _ _ _ (((c .before .before .before .before .before .before .before .before .before .pre)) .1) (((c .before .before .before .before .before .halves-match) .ensures) .equal (not-false _ ((c .before .before .before .before .if1) .left))) _ _ ((c .before .wind) .ensures) ((c .if2) .taken) _ refl refl
 
--- src/copy.rt:392:5
 dead-requires-2 : tie.Need-dead-requires-2
 dead-requires-2 c κs = search needs
 
--- src/copy.rt:367:1
 returns-3 : tie.Need-returns-3
 returns-3 c = change-blank _ _ _ _ _ _ (((c .before .before .before .before .before .before .before .before .before .before .pre)) .1) (((c .before .before .before .before .before .before .halves-match) .ensures) .equal (not-false _ ((c .before .before .before .before .before .if1) .left))) _ _ ((c .before .before .wind) .ensures) ((c .before .if2) .left) _ (((c .dead2) .ensures) .0)
 

@@ -10,55 +10,42 @@ use Rattle.tables.proofs.copy.is_idle.Reads as reads
 use Rattle.tables.proofs.copy.is_idle.Lts as lts
 use Rattle.tables.proofs.copy.wide.Reads as wide-reads
 
--- src/copy.rt:182:13
 mul-wide : tie.Need-mul-wide
 mul-wide c = search needs
 
--- src/copy.rt:182:13
 element-copy-out-wide : tie.Need-element-copy-out-wide
 element-copy-out-wide c = search needs
 
--- src/copy.rt:182:8
 wide-requires : tie.Need-wide-requires
 wide-requires c κs = search needs
 
--- src/copy.rt:183:9
 returns : tie.Need-returns
 returns c = λ w le shared t. idle-unequal w ((c .before .before .before .before .args) .i) ((c .before .before .before .before .args) .k) (((c .before .before .before .before .args) .counts) .now) (((c .before .before .before .before .args) .left) .now) (((c .before .before .before .before .pre)) .0) (((c .before .before .before .before .pre)) .1) le shared (omega (arith, ((c .if1) .taken), ((c .before .wide) .ensures)))
 
--- src/copy.rt:185:20
 add-end : tie.Need-add-end
 add-end c = search needs
 
--- src/copy.rt:185:20
 add-end-2 : tie.Need-add-end-2
 add-end-2 c = search needs
 
--- src/copy.rt:185:15
 mul-end : tie.Need-mul-end
 mul-end c = search needs
 
--- src/copy.rt:185:15
 shared-slice-read-end : tie.Need-shared-slice-read-end
 shared-slice-read-end c = search needs
 
--- src/copy.rt:185:15
 cast-end : tie.Need-cast-end
 cast-end c = omega (arith, ((c .shared-slice-known2) .given) (((c .before .before .before .before .before .args) .i) + ((c .before .before .before .before .before .args) .k) + ((c .before .before .before .before .before .args) .k)))
 
--- src/copy.rt:187:9
 returns-2 : tie.Need-returns-2
 returns-2 c = λ w le shared t. absurd (false≢true t)
 
--- src/copy.rt:189:8
 add-if3 : tie.Need-add-if3
 add-if3 c = search needs
 
--- src/copy.rt:190:9
 returns-3 : tie.Need-returns-3
 returns-3 c = λ w le shared t. absurd (false≢true t)
 
--- src/copy.rt:178:1
 returns-4 : tie.Need-returns-4
 returns-4 c = λ w le shared t. idle-blank w ((c .before .before .before .before .before .before .before .args) .i) ((c .before .before .before .before .before .before .before .args) .k) (((c .before .before .before .before .before .before .before .args) .counts) .now) (((c .before .before .before .before .before .before .before .args) .left) .now) (((c .before .before .before .before .before .before .before .pre)) .0) (((c .before .before .before .before .before .before .before .pre)) .1) le shared (omega (arith, ((c .before .before .before .if1) .left), ((c .before .before .before .before .wide) .ensures))) ((c .before .if2) .left) ((c .if3) .left)
 

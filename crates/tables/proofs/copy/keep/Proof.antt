@@ -9,55 +9,42 @@ use Rattle.tables.proofs.copy.keep.Lts as lts
 use Rattle.tables.proofs.copy.dead.Reads as dead-reads
 use Rattle.tables.proofs.copy.save.Reads as save-reads
 
--- src/copy.rt:134:17
 cast-count : tie.Need-cast-count
 cast-count c = search needs
 
--- src/copy.rt:136:9
 mul-left : tie.Need-mul-left
 mul-left c = search needs
 
--- src/copy.rt:136:9
 slice-write-left : tie.Need-slice-write-left
 slice-write-left c = search needs
 
--- src/copy.rt:137:9
 save-requires : tie.Need-save-requires
 save-requires c κs = search needs
 
--- src/copy.rt:138:9
 same-length : tie.Need-same-length
 same-length c = search needs
 
--- src/copy.rt:138:9
 same-length-2 : tie.Need-same-length-2
 same-length-2 c = search needs
 
--- src/copy.rt:138:9
 returns : tie.Need-returns
 returns c = λ m list sets w d le g. keep-live m list sets w _ d _ _ _ _ _ _ _ (((c .before .before .before .before .before .before .before .before .pre)) .2) le (((c .before .before .before .before .before .before .before .before .pre)) .0) (((c .before .before .before .before .before .before .before .before .pre)) .1) ((c .before .before .before .before .before .if1) .taken) refl ((c .before .before .save) .ensures) refl refl g
 
--- src/copy.rt:143:15
 add-left : tie.Need-add-left
 add-left c = search needs
 
--- src/copy.rt:143:5
 mul-left-2 : tie.Need-mul-left-2
 mul-left-2 c = search needs
 
--- src/copy.rt:143:5
 slice-write-left-2 : tie.Need-slice-write-left-2
 slice-write-left-2 c = search needs
 
--- src/copy.rt:144:5
 dead-requires : tie.Need-dead-requires
 dead-requires c κs = search needs
 
--- src/copy.rt:124:1
 same-length-3 : tie.Need-same-length-3
 same-length-3 c = search needs
 
--- src/copy.rt:124:1
 returns-2 : tie.Need-returns-2
 returns-2 c = λ m list sets w d le g. keep-dead m list sets w _ d _ _ _ _ _ _ (((c .before .before .before .before .pre)) .2) le (((c .before .before .before .before .pre)) .1) ((c .before .if1) .left) refl (((c .dead) .ensures) .0) g
 

@@ -19,31 +19,24 @@ Inv-loop i d counts left k₀ k = (k ≤ d) × ((w : List ℕ) → i + d + d ≤
 abbrev μ-loop : tie.MeasureT-loop
 μ-loop i d counts left k₀ k = k
 
--- src/copy.rt:201:5
 loop-holds : tie.Need-loop-holds Inv-loop μ-loop
 loop-holds c = (omega arith, λ w le shared. skip-start w _ _ _)
 
--- src/copy.rt:202:13
 is-idle-requires : tie.Need-is-idle-requires Inv-loop μ-loop
 is-idle-requires c κs = (((c .loop-test) .taken), omega (arith, ((c .before .loop) .inv) .0, ((c .before .before .before .pre)) .0), omega (arith, ((c .before .loop) .inv) .0, ((c .before .before .before .pre)) .1))
 
--- src/copy.rt:203:13
 returns : tie.Need-returns Inv-loop μ-loop
 returns c = ((c .before .before .before .loop) .inv) .1
 
--- src/copy.rt:205:9
 sub-k : tie.Need-sub-k Inv-loop μ-loop
 sub-k c = omega (arith, ((c .before .before .loop-test) .taken))
 
--- src/copy.rt:201:5
 loop-less : tie.Need-loop-less Inv-loop μ-loop
 loop-less c = omega (arith, ((c .before .before .loop-test) .taken))
 
--- src/copy.rt:201:5
 loop-again : tie.Need-loop-again Inv-loop μ-loop
 loop-again c = (omega (arith, ((c .before .before .before .loop) .inv) .0), λ w le shared. skip-more w _ _ _ _ ((c .before .before .loop-test) .taken) (((c .before .is-idle) .ensures) w (omega (arith, ((c .before .before .before .loop) .inv) .0)) shared (not-false _ ((c .if1) .left))) (((c .before .before .before .loop) .inv) .1 w le shared))
 
--- src/copy.rt:196:1
 returns-2 : tie.Need-returns-2 Inv-loop μ-loop
 returns-2 c = ((c .before .loop) .inv) .1
 

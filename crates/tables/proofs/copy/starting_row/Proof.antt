@@ -7,27 +7,21 @@ use Rattle.tables.proofs.copy.starting_row.Lts as lts
 use Rattle.tables.proofs.copy.dead.Reads as dead-reads
 use Rattle.tables.proofs.copy.storing_row.Reads as storing-row-reads
 
--- src/copy.rt:313:9
 dead-requires : tie.Need-dead-requires
 dead-requires c κs = search needs
 
--- src/copy.rt:313:9
 returns : tie.Need-returns
 returns c = starting-none _ _ _ _ _ _ _ _ _ ((c .before .if1) .taken) ((c .before .before .before .before .before .before .pre) .6)
 
--- src/copy.rt:315:5
 storing-row-requires : tie.Need-storing-row-requires
 storing-row-requires c κs = (c .before .before .before .before .before .before .before .pre)
 
--- src/copy.rt:293:1
 same-length : tie.Need-same-length
 same-length c = search needs
 
--- src/copy.rt:293:1
 same-length-2 : tie.Need-same-length-2
 same-length-2 c = search needs
 
--- src/copy.rt:293:1
 returns-2 : tie.Need-returns-2
 returns-2 c = starting-some _ _ _ _ _ _ _ _ _ ((c .before .before .before .storing-row) .ensures)
 

@@ -9,15 +9,12 @@ use Rattle.tables.proofs.copy.stored_row.Reads as reads
 use Rattle.tables.proofs.copy.stored_row.Lts as lts
 use Rattle.layers.proofs.layer.buffering_layer.Reads as buffering-layer-reads
 
--- src/copy.rt:273:13
 returns : tie.Need-returns
 returns c = stored-none _ _ _ (record { row = (c .before .before .before .before .args) .next .now; live = (c .before .before .before .before .args) .goes }) (record { row = (c .before .before .before .before .args) .change .now; live = (c .before .before .before .before .args) .turns }) _ (rules _ _ ((c .before .before .before .before .pre) .0 .good)) (not-true _ ((c .if2) .taken)) (not-true _ ((c .before .if1) .taken)) ((c .before .before .before .before .pre) .2)
 
--- src/copy.rt:276:5
 buffering-layer-requires : tie.Need-buffering-layer-requires
 buffering-layer-requires c κs = (c .before .before .before .before .pre)
 
--- src/copy.rt:255:1
 returns-2 : tie.Need-returns-2
 returns-2 c = stored-both _ _ _ (record { row = (c .before .before .before .before .before .args) .next .now; live = (c .before .before .before .before .before .args) .goes }) (record { row = (c .before .before .before .before .before .args) .change .now; live = (c .before .before .before .before .before .args) .turns }) _ (((c .buffering-layer) .ensures) .0) (((c .buffering-layer) .ensures) .1)
 

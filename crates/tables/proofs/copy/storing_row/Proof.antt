@@ -22,79 +22,60 @@ Inv-loop m list targets g h sets word t i counts ends₀ left₀ next₀ d₀ en
 abbrev μ-loop : tie.MeasureT-loop
 μ-loop m list targets g h sets word t i counts ends₀ left₀ next₀ d₀ ends left next d = d
 
--- src/copy.rt:298:20
 dead-requires : tie.Need-dead-requires Inv-loop μ-loop
 dead-requires c κs = search needs
 
--- src/copy.rt:299:31
 sub-skip-idle : tie.Need-sub-skip-idle Inv-loop μ-loop
 sub-skip-idle c = omega (arith, ((c .before .before .before .before .before .pre)) .1)
 
--- src/copy.rt:299:9
 skip-idle-requires : tie.Need-skip-idle-requires Inv-loop μ-loop
 skip-idle-requires c κs = (omega (arith, ((c .before .before .before .before .before .before .pre)) .2), omega (arith, ((c .before .before .before .before .before .before .pre)) .1, ((c .before .before .before .before .before .before .pre)) .6 .counts))
 
--- src/copy.rt:300:5
 loop-holds : tie.Need-loop-holds Inv-loop μ-loop
 loop-holds c = (storing-skip _ _ _ _ (rules _ _ (((c .before .before .before .before .before .before .before .pre)) .0 .given .good)) _ _ _ _ _ _ (((c .before .before .dead) .ensures) .1) (storing-start _ _ _ _ (rules _ _ (((c .before .before .before .before .before .before .before .pre)) .0 .given .good)) _ (((c .before .before .before .before .before .before .before .pre)) .1) _ refl _ (((c .before .before .dead) .ensures) .0) _ _ (((c .before .before .before .before .before .before .before .pre)) .6)) (((c .skip-idle) .ensures) _ (omega (arith, ((c .before .before .before .before .before .before .before .pre)) .1)) (((c .before .before .before .before .before .before .before .pre)) .5)), refl, refl)
 
--- src/copy.rt:301:22
 add-x : tie.Need-add-x Inv-loop μ-loop
 add-x c = omega (arith, ((c .before .loop) .inv) .0 .inside, ((c .before .before .before .before .before .before .before .before .before .pre)) .2)
 
--- src/copy.rt:301:17
 shared-slice-read-x : tie.Need-shared-slice-read-x Inv-loop μ-loop
 shared-slice-read-x c = omega (arith, ((c .before .before .loop) .inv) .0 .inside, ((c .before .loop-test) .taken))
 
--- src/copy.rt:301:17
 cast-x : tie.Need-cast-x Inv-loop μ-loop
 cast-x c = omega (arith, ((c .shared-slice-known4) .given) (((c .before .before .before .before .before .before .before .before .before .before .args) .i) + ((c .before .before .loop) .d)))
 
--- src/copy.rt:302:22
 change-row-requires : tie.Need-change-row-requires Inv-loop μ-loop
 change-row-requires c κs = (((c .before .before .before .before .before .before .before .before .before .before .before .before .pre)) .0, ((c .before .before .before .loop-test) .taken), ((c .before .before .before .before .loop) .inv) .0 .inside, ((c .before .before .before .before .before .before .before .before .before .before .before .before .pre)) .2, ((c .before .before .before .before .before .before .before .before .before .before .before .before .pre)) .3, ((c .before .before .before .before .before .before .before .before .before .before .before .before .pre)) .4 (((c .before .before .before .before .before .before .before .before .before .before .before .before .args) .i) + ((c .before .before .before .before .loop) .d) + ((c .before .before .before .before .loop) .d)) (omega (arith, ((c .before .before .before .loop-test) .taken))) (((c .before .before .before .before .loop) .inv) .0 .inside), ((c .before .before .before .before .before .before .before .before .before .before .before .before .pre)) .5, ((c .before .before .before .before .loop) .inv) .0 .ending)
 
--- src/copy.rt:317:23
 blank-requires : tie.Need-blank-requires Inv-loop μ-loop
 blank-requires c κs = search needs
 
--- src/copy.rt:318:13
 stored-row-requires : tie.Need-stored-row-requires Inv-loop μ-loop
 stored-row-requires c κs = ((c .before .before .before .before .before .before .before .before .before .before .before .before .before .before .before .before .before .before .before .before .before .before .pre) .0 .given, (c .before .before .before .before .before .before .before .before .before .before .before .before .before .before .before .before .before .before .before .before .before .before .pre) .0 .letters _ (omega (arith, ((c .before .before .before .before .before .before .before .before .before .before .before .before .before .before .loop) .inv) .0 .inside, ((c .before .before .before .before .before .before .before .before .before .before .before .before .before .loop-test) .taken))), (c .before .before .before .before .before .blank) .ensures)
 
--- src/copy.rt:332:9
 sub-d : tie.Need-sub-d Inv-loop μ-loop
 sub-d c = omega (arith, ((c .before .before .before .before .before .before .before .before .before .before .before .before .before .before .loop-test) .taken))
 
--- src/copy.rt:334:13
 skip-idle-requires-2 : tie.Need-skip-idle-requires-2 Inv-loop μ-loop
 skip-idle-requires-2 c κs = (omega (arith, ((c .before .before .before .before .before .before .before .before .before .before .before .before .before .before .before .before .before .loop) .inv) .0 .inside, ((c .before .before .before .before .before .before .before .before .before .before .before .before .before .before .before .before .before .before .before .before .before .before .before .before .before .pre)) .2), omega (arith, ((c .before .before .before .before .before .before .before .before .before .before .before .before .before .before .before .before .before .loop) .inv) .0 .inside, ((c .before .before .before .before .before .before .before .before .before .before .before .before .change-row) .ensures) .ending .counts))
 
--- src/copy.rt:300:5
 loop-less : tie.Need-loop-less Inv-loop μ-loop
 loop-less c = omega (arith, ((c .before .before .before .before .before .before .before .before .before .before .before .before .before .before .before .before .before .loop-test) .taken), ((c .skip-idle2) .ensures) _ (omega (arith, ((c .before .before .before .before .before .before .before .before .before .before .before .before .before .before .before .before .before .before .loop) .inv) .0 .inside)) (((c .before .before .before .before .before .before .before .before .before .before .before .before .before .before .before .before .before .before .before .before .before .before .before .before .before .before .pre)) .5) .within)
 
--- src/copy.rt:300:5
 loop-again : tie.Need-loop-again Inv-loop μ-loop
 loop-again c = (storing-skip _ _ _ _ (rules _ _ (((c .before .before .before .before .before .before .before .before .before .before .before .before .before .before .before .before .before .before .before .before .before .before .before .before .before .before .pre)) .0 .given .good)) _ _ _ _ _ _ (not-true _ ((c .before .before .if1) .taken)) (storing-next _ _ _ _ (rules _ _ (((c .before .before .before .before .before .before .before .before .before .before .before .before .before .before .before .before .before .before .before .before .before .before .before .before .before .before .pre)) .0 .given .good)) _ _ _ _ _ _ _ _ _ _ ((c .before .before .before .before .before .before .before .before .before .before .before .before .before .before .before .before .before .loop-test) .taken) refl (((c .before .before .before .before .before .before .before .before .before .before .before .before .before .before .before .before .before .before .loop) .inv) .0) ((c .before .before .before .before .before .before .before .before .before .before .before .before .before .change-row) .ensures) ((c .before .before .before .stored-row) .ensures)) (((c .skip-idle2) .ensures) _ (omega (arith, ((c .before .before .before .before .before .before .before .before .before .before .before .before .before .before .before .before .before .before .loop) .inv) .0 .inside)) (((c .before .before .before .before .before .before .before .before .before .before .before .before .before .before .before .before .before .before .before .before .before .before .before .before .before .before .pre)) .5)), ((c .before .before .before .before .before .before .before .before .before .before .before .before .ends) .given) ∙ ((c .before .before .before .before .before .before .before .before .before .before .before .before .before .before .before .before .before .before .loop) .inv) .1, ((c .before .before .before .before .before .before .before .before .before .before .before .left) .given) ∙ ((c .before .before .before .before .before .before .before .before .before .before .before .before .before .before .before .before .before .before .loop) .inv) .2)
 
--- src/copy.rt:300:5
 loop-less-2 : tie.Need-loop-less-2 Inv-loop μ-loop
 loop-less-2 c = omega (arith, ((c .before .before .before .before .before .before .before .before .before .before .before .before .before .before .before .loop-test) .taken))
 
--- src/copy.rt:300:5
 loop-again-2 : tie.Need-loop-again-2 Inv-loop μ-loop
 loop-again-2 c = (storing-next _ _ _ _ (rules _ _ (((c .before .before .before .before .before .before .before .before .before .before .before .before .before .before .before .before .before .before .before .before .before .before .before .before .pre)) .0 .given .good)) _ _ _ _ _ _ _ _ _ _ ((c .before .before .before .before .before .before .before .before .before .before .before .before .before .before .before .loop-test) .taken) refl (((c .before .before .before .before .before .before .before .before .before .before .before .before .before .before .before .before .loop) .inv) .0) ((c .before .before .before .before .before .before .before .before .before .before .before .change-row) .ensures) ((c .before .stored-row) .ensures), ((c .before .before .before .before .before .before .before .before .before .before .ends) .given) ∙ ((c .before .before .before .before .before .before .before .before .before .before .before .before .before .before .before .before .loop) .inv) .1, ((c .before .before .before .before .before .before .before .before .before .left) .given) ∙ ((c .before .before .before .before .before .before .before .before .before .before .before .before .before .before .before .before .loop) .inv) .2)
 
--- src/copy.rt:280:1
 same-length : tie.Need-same-length Inv-loop μ-loop
 same-length c = ((c .before .loop) .inv) .1
 
--- src/copy.rt:280:1
 same-length-2 : tie.Need-same-length-2 Inv-loop μ-loop
 same-length-2 c = ((c .before .loop) .inv) .2
 
--- src/copy.rt:280:1
 returns : tie.Need-returns Inv-loop μ-loop
 returns c = storing-end _ _ _ _ (rules _ _ (((c .before .before .before .before .before .before .before .before .before .pre)) .0 .given .good)) _ _ _ _ _ ((c .loop-test) .left) (((c .before .loop) .inv) .0)
 

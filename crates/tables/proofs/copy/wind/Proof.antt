@@ -18,47 +18,36 @@ Inv-loop m list targets g h sets word e r d row₀ k₀ row k = Winding m list s
 abbrev μ-loop : tie.MeasureT-loop
 μ-loop m list targets g h sets word e r d row₀ k₀ row k = d - k
 
--- src/copy.rt:105:5
 loop-holds : tie.Need-loop-holds Inv-loop μ-loop
 loop-holds c = record { within = ((c .before .before .before .pre)) .1; best = ((c .before .before .before .pre)) .4 }
 
--- src/copy.rt:106:9
 add-k : tie.Need-add-k Inv-loop μ-loop
 add-k c = omega (arith, ((c .loop-test) .taken), ((c .before .before .before .before .before .pre)) .2, ((c .before .before .before .before .before .pre)) .3)
 
--- src/copy.rt:107:22
 sub-x : tie.Need-sub-x Inv-loop μ-loop
 sub-x c = omega (arith, ((c .loop-test) .taken), ((c .before .before .before .before .before .pre)) .2, ((c .before .before .before .before .before .pre)) .3)
 
--- src/copy.rt:107:17
 shared-slice-read-x : tie.Need-shared-slice-read-x Inv-loop μ-loop
 shared-slice-read-x c = omega (arith, ((c .before .loop-test) .taken), ((c .before .before .before .before .before .before .pre)) .2, ((c .before .before .before .before .before .before .pre)) .3)
 
--- src/copy.rt:107:17
 cast-x : tie.Need-cast-x Inv-loop μ-loop
 cast-x c = omega (arith, ((c .shared-slice-known4) .given) (((c .before .before .before .before .before .before .args) .e) - (((c .before .before .loop) .k) + 1)))
 
--- src/copy.rt:108:24
 blank-requires : tie.Need-blank-requires Inv-loop μ-loop
 blank-requires c κs = search needs
 
--- src/copy.rt:109:13
 emptying-layer-requires : tie.Need-emptying-layer-requires Inv-loop μ-loop
 emptying-layer-requires c κs = ((c .before .before .before .before .before .before .before .before .before .pre) .0 .given, (c .before .before .before .before .before .before .before .before .before .pre) .0 .letters _ (omega (arith, ((c .before .before .before .before .loop-test) .taken), ((c .before .before .before .before .before .before .before .before .before .pre)) .2, ((c .before .before .before .before .before .before .before .before .before .pre)) .3)), (c .before .before .blank) .ensures)
 
--- src/copy.rt:110:13
 returns : tie.Need-returns Inv-loop μ-loop
 returns c = wound-dead _ _ _ _ _ _ (rules _ _ (((c .before .before .before .before .before .before .before .before .before .before .before .pre)) .0 .given .good)) _ _ _ (((c .before .before .before .before .before .before .before .before .before .before .before .pre)) .3) (wound-next _ _ _ _ _ _ _ _ _ _ ((c .before .before .before .before .before .before .loop-test) .taken) (((c .before .before .before .before .before .before .before .before .before .before .before .pre)) .2) (((c .before .before .before .before .before .before .before .before .before .before .before .pre)) .3) refl ((c .before .before .before .before .before .before .before .loop) .inv) (((c .before .emptying-layer) .ensures) .0)) (((c .before .emptying-layer) .ensures) .1 (not-true _ ((c .if1) .taken)))
 
--- src/copy.rt:105:5
 loop-less : tie.Need-loop-less Inv-loop μ-loop
 loop-less c = omega (arith, ((c .before .before .before .before .before .before .loop-test) .taken))
 
--- src/copy.rt:105:5
 loop-again : tie.Need-loop-again Inv-loop μ-loop
 loop-again c = wound-next _ _ _ _ _ _ _ _ _ _ ((c .before .before .before .before .before .before .loop-test) .taken) (((c .before .before .before .before .before .before .before .before .before .before .before .pre)) .2) (((c .before .before .before .before .before .before .before .before .before .before .before .pre)) .3) refl ((c .before .before .before .before .before .before .before .loop) .inv) (((c .before .emptying-layer) .ensures) .0)
 
--- src/copy.rt:88:1
 returns-2 : tie.Need-returns-2 Inv-loop μ-loop
 returns-2 c = wound-whole _ _ _ _ _ _ _ _ ((c .loop-test) .left) ((c .before .loop) .inv)
 

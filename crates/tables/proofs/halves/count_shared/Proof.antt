@@ -15,51 +15,39 @@ Inv-loop word i counts₀ room d₀ counts d = Counted word i d counts
 abbrev μ-loop : tie.MeasureT-loop
 μ-loop word i counts₀ room d₀ counts d = 128 - d
 
--- src/halves.rt:38:16
 sub-room : tie.Need-sub-room Inv-loop μ-loop
 sub-room c = search needs
 
--- src/halves.rt:40:5
 loop-holds : tie.Need-loop-holds Inv-loop μ-loop
 loop-holds c = counted-start _ _ _ (((c .before .pre)) .2)
 
--- src/halves.rt:42:13
 returns : tie.Need-returns Inv-loop μ-loop
 returns c = counted-room _ _ _ _ (((c .before .before .before .before .pre)) .0) ((c .if1) .taken) ((c .before .before .loop) .inv)
 
--- src/halves.rt:44:40
 mul-longer : tie.Need-mul-longer Inv-loop μ-loop
 mul-longer c = search needs
 
--- src/halves.rt:44:40
 element-copy-out-longer : tie.Need-element-copy-out-longer Inv-loop μ-loop
 element-copy-out-longer c = search needs
 
--- src/halves.rt:44:21
 longer-requires : tie.Need-longer-requires Inv-loop μ-loop
 longer-requires c κs = (omega (arith, ((c .before .if1) .left), ((c .before .before .before .before .before .pre)) .0), omega (arith, ((c .before .before .before .loop) .inv) .later ((c .before .before .before .loop) .d) (omega arith) ((c .before .before .loop-test) .taken) .inside, ((c .before .before .before .before .before .pre)) .1))
 
--- src/halves.rt:44:9
 mul-counts : tie.Need-mul-counts Inv-loop μ-loop
 mul-counts c = search needs
 
--- src/halves.rt:44:9
 element-write-counts : tie.Need-element-write-counts Inv-loop μ-loop
 element-write-counts c = search needs
 
--- src/halves.rt:45:9
 add-d : tie.Need-add-d Inv-loop μ-loop
 add-d c = omega (arith, ((c .before .before .before .loop-test) .taken))
 
--- src/halves.rt:40:5
 loop-less : tie.Need-loop-less Inv-loop μ-loop
 loop-less c = omega (arith, ((c .before .before .before .loop-test) .taken))
 
--- src/halves.rt:40:5
 loop-again : tie.Need-loop-again Inv-loop μ-loop
 loop-again c = counted-next _ _ _ _ _ _ ((c .before .before .before .loop-test) .taken) (((c .longer) .ensures) .1) refl ((c .before .before .before .before .loop) .inv)
 
--- src/halves.rt:34:1
 returns-2 : tie.Need-returns-2 Inv-loop μ-loop
 returns-2 c = counted-end _ _ _ _ ((c .loop-test) .left) ((c .before .loop) .inv)
 

@@ -15,47 +15,36 @@ Inv-loop word i d k₀ k = (j : ℕ) → j < k → getD word (i + j) 0 ≡ getD 
 abbrev μ-loop : tie.MeasureT-loop
 μ-loop word i d k₀ k = d - k
 
--- src/halves.rt:12:5
 loop-holds : tie.Need-loop-holds Inv-loop μ-loop
 loop-holds c = λ j l. absurd (omega arith)
 
--- src/halves.rt:13:17
 add-if1 : tie.Need-add-if1 Inv-loop μ-loop
 add-if1 c = omega (arith, ((c .loop-test) .taken), ((c .before .before .pre)), ((c .before .before .good)) .0 .0)
 
--- src/halves.rt:13:12
 shared-slice-read-if1 : tie.Need-shared-slice-read-if1 Inv-loop μ-loop
 shared-slice-read-if1 c = omega (arith, ((c .before .loop-test) .taken), ((c .before .before .before .pre)))
 
--- src/halves.rt:13:32
 add-if1-2 : tie.Need-add-if1-2 Inv-loop μ-loop
 add-if1-2 c = omega (arith, ((c .before .loop-test) .taken), ((c .before .before .before .pre)), ((c .before .before .before .good)) .0 .0)
 
--- src/halves.rt:13:32
 add-if1-3 : tie.Need-add-if1-3 Inv-loop μ-loop
 add-if1-3 c = omega (arith, ((c .before .loop-test) .taken), ((c .before .before .before .pre)), ((c .before .before .before .good)) .0 .0)
 
--- src/halves.rt:13:27
 shared-slice-read-if1-2 : tie.Need-shared-slice-read-if1-2 Inv-loop μ-loop
 shared-slice-read-if1-2 c = omega (arith, ((c .before .before .loop-test) .taken), ((c .before .before .before .before .pre)))
 
--- src/halves.rt:14:13
 returns : tie.Need-returns Inv-loop μ-loop
 returns c = halves-differ (((c .before .before .before .before .before .args) .word) .now) ((c .before .before .before .before .before .args) .i) ((c .before .before .before .before .before .args) .d) ((c .before .before .before .before .loop) .k) ((c .before .before .before .loop-test) .taken) ((c .if1) .taken)
 
--- src/halves.rt:16:9
 add-k : tie.Need-add-k Inv-loop μ-loop
 add-k c = omega (arith, ((c .before .before .before .loop-test) .taken), ((c .before .before .before .before .before .pre)), ((c .before .before .before .before .before .good)) .0 .0)
 
--- src/halves.rt:12:5
 loop-less : tie.Need-loop-less Inv-loop μ-loop
 loop-less c = omega (arith, ((c .before .before .before .loop-test) .taken))
 
--- src/halves.rt:12:5
 loop-again : tie.Need-loop-again Inv-loop μ-loop
 loop-again c = halves-more (((c .before .before .before .before .before .args) .word) .now) ((c .before .before .before .before .before .args) .i) ((c .before .before .before .before .before .args) .d) ((c .before .before .before .before .loop) .k) ((c .before .before .before .before .loop) .inv) ((c .if1) .left)
 
--- src/halves.rt:7:1
 returns-2 : tie.Need-returns-2 Inv-loop μ-loop
 returns-2 c = halves-end (((c .before .before .args) .word) .now) ((c .before .before .args) .i) ((c .before .before .args) .d) ((c .before .loop) .k) ((c .before .loop) .inv) ((c .loop-test) .left)
 

@@ -7,27 +7,21 @@ use Rattle.tables.proofs.halves.longer.Tie as tie
 use Rattle.tables.proofs.halves.longer.Reads as reads
 use Rattle.tables.proofs.halves.longer.Lts as lts
 
--- src/halves.rt:26:8
 shared-slice-read-if1 : tie.Need-shared-slice-read-if1
 shared-slice-read-if1 c = search needs
 
--- src/halves.rt:26:24
 add-if1 : tie.Need-add-if1
 add-if1 c = search needs
 
--- src/halves.rt:26:19
 shared-slice-read-if1-2 : tie.Need-shared-slice-read-if1-2
 shared-slice-read-if1-2 c = search needs
 
--- src/halves.rt:27:16
 add-result : tie.Need-add-result
 add-result c = search needs
 
--- src/halves.rt:27:9
 returns : tie.Need-returns
 returns c = (omega arith, λ s. shared-more _ _ _ _ (((c .before .before .before .pre)) .0) ((c .if1) .taken) s)
 
--- src/halves.rt:22:1
 returns-2 : tie.Need-returns-2
 returns-2 c = (omega arith, λ s. shared-none _ _ _ (((c .before .before .before .pre)) .0) ((c .if1) .left))
 

@@ -18,43 +18,33 @@ Inv-loop m list targets g h sets word t₀ ends₀ left₀ counts₀ p₀ t ends
 abbrev μ-loop : tie.MeasureT-loop
 μ-loop m list targets g h sets word t₀ ends₀ left₀ counts₀ p₀ t ends left counts p = p
 
--- src/table.rt:149:5
 fill-end-requires : tie.Need-fill-end-requires Inv-loop μ-loop
 fill-end-requires c κs = (c .before .before .before .before .before .before .before .pre)
 
--- src/table.rt:151:5
 loop-holds : tie.Need-loop-holds Inv-loop μ-loop
 loop-holds c = (((c .before .before .before .before .fill-end) .ensures) _ (shared-end _ _ refl zero-at), omega arith, refl, refl, refl)
 
--- src/table.rt:152:9
 sub-p : tie.Need-sub-p Inv-loop μ-loop
 sub-p c = omega (arith, ((c .loop-test) .taken))
 
--- src/table.rt:153:9
 fill-place-requires : tie.Need-fill-place-requires Inv-loop μ-loop
 fill-place-requires c κs = (((c .before .before .before .before .before .before .before .before .before .before .before .before .before .before .before .before .before .before .pre)) .0, omega (arith, ((c .before .before .before .before .loop-test) .taken), ((c .before .before .before .before .before .loop) .inv) .1), ((c .before .before .before .before .before .before .before .before .before .before .before .before .before .before .before .before .before .before .pre)) .1, filling-before _ _ _ _ _ _ _ _ _ ((c .before .before .before .before .loop-test) .taken) (((c .before .before .before .before .before .loop) .inv) .0))
 
--- src/table.rt:151:5
 loop-less : tie.Need-loop-less Inv-loop μ-loop
 loop-less c = omega (arith, ((c .before .before .before .before .before .before .before .before .before .loop-test) .taken))
 
--- src/table.rt:151:5
 loop-again : tie.Need-loop-again Inv-loop μ-loop
 loop-again c = (((c .before .before .before .before .fill-place) .ensures), omega (arith, ((c .before .before .before .before .before .before .before .before .before .before .loop) .inv) .1), ((c .before .before .before .t2) .given) ∙ ((c .before .before .before .before .before .before .before .before .before .before .loop) .inv) .2, ((c .before .before .ends2) .given) ∙ ((c .before .before .before .before .before .before .before .before .before .before .loop) .inv) .3, ((c .before .left2) .given) ∙ ((c .before .before .before .before .before .before .before .before .before .before .loop) .inv) .4)
 
--- src/table.rt:133:1
 same-length : tie.Need-same-length Inv-loop μ-loop
 same-length c = ((c .before .loop) .inv) .2 ∙ ((c .before .before .before .before .before .t) .given)
 
--- src/table.rt:133:1
 same-length-2 : tie.Need-same-length-2 Inv-loop μ-loop
 same-length-2 c = ((c .before .loop) .inv) .3 ∙ ((c .before .before .before .before .ends) .given)
 
--- src/table.rt:133:1
 same-length-3 : tie.Need-same-length-3 Inv-loop μ-loop
 same-length-3 c = ((c .before .loop) .inv) .4 ∙ ((c .before .before .before .left) .given)
 
--- src/table.rt:133:1
 returns : tie.Need-returns Inv-loop μ-loop
 returns c = filled-end _ _ _ _ _ _ _ _ _ ((c .loop-test) .left) (((c .before .loop) .inv) .0)
 

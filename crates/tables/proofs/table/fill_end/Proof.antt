@@ -15,35 +15,27 @@ use Rattle.layers.proofs.layer.place_layer.Reads as place-layer-reads
 use Rattle.tables.proofs.table.near_at.Reads as near-at-reads
 use Rattle.tables.proofs.table.place_rows.Reads as place-rows-reads
 
--- src/table.rt:89:16
 blank-requires : tie.Need-blank-requires
 blank-requires c κs = search needs
 
--- src/table.rt:90:9
 near-at-requires : tie.Need-near-at-requires
 near-at-requires c κs = (c .before .before .before .before .before .pre) .1
 
--- src/table.rt:91:9
 place-layer-requires : tie.Need-place-layer-requires
 place-layer-requires c κs = ((c .before .before .before .before .before .before .before .before .pre) .0 .given, (c .before .before .before .before .before .before .before .before .pre) .0 .given .epsilon, (c .before .before .near-at) .ensures .1)
 
--- src/table.rt:92:5
 place-rows-requires : tie.Need-place-rows-requires
 place-rows-requires c κs = search needs
 
--- src/table.rt:73:1
 same-length : tie.Need-same-length
 same-length c = search needs
 
--- src/table.rt:73:1
 same-length-2 : tie.Need-same-length-2
 same-length-2 c = search needs
 
--- src/table.rt:73:1
 same-length-3 : tie.Need-same-length-3
 same-length-3 c = search needs
 
--- src/table.rt:73:1
 returns : tie.Need-returns
 returns c = λ counts shared. filling-placed ((c .before .before .before .before .before .before .before .before .before .before .before .before .before .before .before .before .before .args) .m) (((c .before .before .before .before .before .before .before .before .before .before .before .before .before .before .before .before .before .args) .list) .now) (((c .before .before .before .before .before .before .before .before .before .before .before .before .before .before .before .before .before .args) .sets) .now) (((c .before .before .before .before .before .before .before .before .before .before .before .before .before .before .before .before .before .args) .word) .now) (length (((c .before .before .before .before .before .before .before .before .before .before .before .before .before .before .before .before .before .args) .word) .now)) ((c .before .before .before .before .before .before .before .before .place-layer) .result) (((c .before .before .before .before .before .before .before .before .before .before .before .before .before .before .before .before .before .args) .t) .now) _ (omega arith) (((c .before .before .before .before .before .before .before .before .before .before .before .before .before .before .before .before .before .pre)) .2 .places) (((c .before .before .before .before .place-rows) .ensures) .put) (rules _ _ ((c .before .before .before .before .before .before .before .before .before .before .before .before .before .before .before .before .before .pre) .0 .given .good)) (((c .before .before .before .before .before .before .before .before .before .before .before .before .before .before .before .before .before .args) .ends) .now) _ (((c .before .before .before .before .before .before .before .before .before .before .before .before .before .before .before .before .before .args) .left) .now) _ counts (((c .before .before .before .before .before .before .before .before .before .before .before .before .before .before .before .before .before .pre)) .2 .rows) (((c .before .before .before .before .before .before .before .before .before .before .before .before .before .before .before .before .before .pre)) .2 .counts) (λ (k : ℕ) (a : length (((c .before .before .before .before .before .before .before .before .before .before .before .before .before .before .before .before .before .args) .word) .now) + 1 ≤ k) (b : k ≤ length (((c .before .before .before .before .before .before .before .before .before .before .before .before .before .before .before .before .before .args) .word) .now)). absurd (omega arith)) (λ (k : ℕ) (a : length (((c .before .before .before .before .before .before .before .before .before .before .before .before .before .before .before .before .before .args) .word) .now) + 1 ≤ k) (b : k ≤ length (((c .before .before .before .before .before .before .before .before .before .before .before .before .before .before .before .before .before .args) .word) .now)). absurd (omega arith)) shared (place-end ((c .before .before .before .before .before .before .before .before .before .before .before .before .before .before .before .before .before .args) .m) (((c .before .before .before .before .before .before .before .before .before .before .before .before .before .before .before .before .before .args) .list) .now) (((c .before .before .before .before .before .before .before .before .before .before .before .before .before .before .before .before .before .args) .sets) .now) (((c .before .before .before .before .before .before .before .before .before .before .before .before .before .before .before .before .before .args) .word) .now) (length (((c .before .before .before .before .before .before .before .before .before .before .before .before .before .before .before .before .before .args) .word) .now)) _ _ _ _ _ _ refl ((c .before .before .before .before .before .before .before .before .before .before .before .near-at) .ensures .0) _ refl (((c .before .before .before .before .before .before .before .before .place-layer) .ensures) .0)) (((c .before .before .before .before .before .before .before .before .place-layer) .ensures) .1) ((c .before .before .before .before .place-rows) .ensures)
 

@@ -21,87 +21,66 @@ use Rattle.tables.proofs.table.near_at.Reads as near-at-reads
 use Rattle.tables.proofs.table.place_rows.Reads as place-rows-reads
 use Rattle.tables.proofs.table.unreached.Reads as unreached-reads
 
--- src/table.rt:114:5
 count-shared-requires : tie.Need-count-shared-requires
 count-shared-requires c κs = search needs
 
--- src/table.rt:115:9
 near-at-requires : tie.Need-near-at-requires
 near-at-requires c κs = omega (arith, (c .before .before .before .before .before .before .pre) .1, (c .before .before .before .before .before .before .pre) .2)
 
--- src/table.rt:117:23
 unreached-requires : tie.Need-unreached-requires
 unreached-requires c κs = search needs
 
--- src/table.rt:117:9
 place-rows-requires : tie.Need-place-rows-requires
 place-rows-requires c κs = (omega (arith, ((c .before .before .before .before .before .before .before .before .before .before .before .before .pre)) .1, ((c .before .before .before .before .before .before .before .before .before .before .before .before .pre)) .3 .places), omega (arith, ((c .before .before .before .before .before .before .before .before .before .before .before .before .pre)) .1, ((c .before .before .before .before .before .before .before .before .before .before .before .before .pre)) .3 .ending .rows), omega (arith, ((c .before .before .before .before .before .before .before .before .before .before .before .before .pre)) .1, ((c .before .before .before .before .before .before .before .before .before .before .before .before .pre)) .3 .ending .counts))
 
--- src/table.rt:118:9
 same-length : tie.Need-same-length
 same-length c = search needs
 
--- src/table.rt:118:9
 same-length-2 : tie.Need-same-length-2
 same-length-2 c = search needs
 
--- src/table.rt:118:9
 same-length-3 : tie.Need-same-length-3
 same-length-3 c = search needs
 
--- src/table.rt:118:9
 returns : tie.Need-returns
 returns c = filling-placed ((c .before .before .before .before .before .before .before .before .before .before .before .before .before .before .before .before .before .args) .m) (((c .before .before .before .before .before .before .before .before .before .before .before .before .before .before .before .before .before .args) .list) .now) (((c .before .before .before .before .before .before .before .before .before .before .before .before .before .before .before .before .before .args) .sets) .now) (((c .before .before .before .before .before .before .before .before .before .before .before .before .before .before .before .before .before .args) .word) .now) ((c .before .before .before .before .before .before .before .before .before .before .before .before .before .before .before .before .before .args) .p) ((c .before .before .before .before .before .before .before .before .unreached) .result) (((c .before .before .before .before .before .before .before .before .before .before .before .before .before .before .before .before .before .args) .t) .now) _ (omega (arith, ((c .before .before .before .before .before .before .before .before .before .before .before .before .before .before .before .before .before .pre)) .1)) (((c .before .before .before .before .before .before .before .before .before .before .before .before .before .before .before .before .before .pre)) .3 .places) (((c .before .before .before .before .place-rows) .ensures) .put) (rules _ _ ((c .before .before .before .before .before .before .before .before .before .before .before .before .before .before .before .before .before .pre) .0 .given .good)) (((c .before .before .before .before .before .before .before .before .before .before .before .before .before .before .before .before .before .args) .ends) .now) _ (((c .before .before .before .before .before .before .before .before .before .before .before .before .before .before .before .before .before .args) .left) .now) _ _ (((c .before .before .before .before .before .before .before .before .before .before .before .before .before .before .before .before .before .pre)) .3 .ending .rows) (((c .before .before .before .before .before .before .before .before .before .before .before .before .before .before .before .before .before .pre)) .3 .ending .counts) (((c .before .before .before .before .before .before .before .before .before .before .before .before .before .before .before .before .before .pre)) .3 .each) (((c .before .before .before .before .before .before .before .before .before .before .before .before .before .before .before .before .before .pre)) .3 .ending .each) ((c .before .before .before .before .before .before .before .before .before .before .before .count-shared) .ensures) (unreached-best ((c .before .before .before .before .before .before .before .before .before .before .before .before .before .before .before .before .before .args) .m) (((c .before .before .before .before .before .before .before .before .before .before .before .before .before .before .before .before .before .args) .list) .now) (((c .before .before .before .before .before .before .before .before .before .before .before .before .before .before .before .before .before .args) .sets) .now) (((c .before .before .before .before .before .before .before .before .before .before .before .before .before .before .before .before .before .args) .word) .now) ((c .before .before .before .before .before .before .before .before .before .before .before .before .before .before .before .before .before .args) .p) ((c .before .before .before .before .before .before .before .before .unreached) .ensures) (blank-best ((c .before .before .before .before .before .before .before .before .before .before .before .before .before .before .before .before .before .args) .m) (((c .before .before .before .before .before .before .before .before .before .before .before .before .before .before .before .before .before .args) .list) .now) (((c .before .before .before .before .before .before .before .before .before .before .before .before .before .before .before .before .before .args) .sets) .now) (((c .before .before .before .before .before .before .before .before .before .before .before .before .before .before .before .before .before .args) .word) .now) _ _ _ ((c .before .before .before .before .before .before .before .before .before .before .before .before .before .before .before .before .before .pre) .0 .given) (((c .before .before .before .before .before .before .before .before .before .before .before .before .before .before .before .before .before .args) .t) .now) ((c .before .before .before .before .before .before .before .before .before .before .before .before .before .before .before .before .before .args) .p) _ (((c .before .before .before .before .before .before .before .before .before .before .before .before .before .before .before .before .before .pre)) .1) ((c .before .before .before .before .before .before .before .before .before .before .near-at) .ensures .0) ((c .before .before .before .before .before .before .before .before .before .if1) .taken) (((c .before .before .before .before .before .before .before .before .before .before .before .before .before .before .before .before .before .pre)) .3 .each (((c .before .before .before .before .before .before .before .before .before .before .before .before .before .before .before .before .before .args) .p) + 1) (omega arith) (omega (arith, ((c .before .before .before .before .before .before .before .before .before .before .before .before .before .before .before .before .before .pre)) .1))))) (unreached-none _ _ (rules _ _ ((c .before .before .before .before .before .before .before .before .before .before .before .before .before .before .before .before .before .pre) .0 .given .good)) _ ((c .before .before .before .before .before .before .before .before .unreached) .ensures)) ((c .before .before .before .before .place-rows) .ensures)
 
--- src/table.rt:120:9
 intersection-requires : tie.Need-intersection-requires
 intersection-requires c κs = search needs
 
--- src/table.rt:121:19
 starting-row-requires : tie.Need-starting-row-requires
 starting-row-requires c κs = (((c .before .before .before .before .before .before .before .before .before .before .before .before .before .pre)) .0, ((c .before .before .before .before .before .before .before .before .before .before .before .before .before .pre)) .1, ((c .before .before .before .before .before .before .before .before .before .before .before .before .before .pre)) .2, ((c .before .before .before .before .before .before .before .before .before .before .before .before .before .pre)) .3 .places, λ q a b. ((c .before .before .before .before .before .before .before .before .before .before .before .before .before .pre)) .3 .each q (omega arith) b, ((c .before .before .before .before .before .before .before .count-shared) .ensures), ((c .before .before .before .before .before .before .before .before .before .before .before .before .before .pre)) .3 .ending)
 
--- src/table.rt:124:33
 add-load : tie.Need-add-load
 add-load c = search needs
 
--- src/table.rt:124:32
 mul-load : tie.Need-mul-load
 mul-load c = search needs
 
--- src/table.rt:124:18
 load-requires : tie.Need-load-requires
 load-requires c κs = search needs
 
--- src/table.rt:125:13
 shared-slice-read-x : tie.Need-shared-slice-read-x
 shared-slice-read-x c = search needs
 
--- src/table.rt:125:13
 cast-x : tie.Need-cast-x
 cast-x c = omega (arith, ((c .shared-slice-known4) .given) ((c .before .before .before .before .before .before .before .before .before .before .before .before .before .before .before .before .before .before .before .before .args) .p))
 
--- src/table.rt:126:9
 place-layer-requires : tie.Need-place-layer-requires
 place-layer-requires c κs = ((c .before .before .before .before .before .before .before .before .before .before .before .before .before .before .before .before .before .before .before .before .before .before .before .pre) .0 .given, (c .before .before .before .before .before .before .before .before .before .before .before .before .before .before .before .before .before .before .before .before .before .before .before .pre) .0 .letters _ ((c .before .before .before .before .before .before .before .before .before .before .before .before .before .before .before .before .before .before .before .before .before .before .before .pre) .1), (c .before .before .before .before .before .before .before .before .before .before .before .before .before .before .before .before .near-at) .ensures .1)
 
--- src/table.rt:129:5
 place-rows-requires-2 : tie.Need-place-rows-requires-2
 place-rows-requires-2 c κs = (omega (arith, ((c .before .before .before .before .before .before .before .before .before .before .before .before .before .before .before .before .before .before .before .before .before .before .before .before .before .before .before .pre)) .1, ((c .before .before .before .before .before .before .before .before .before .before .before .before .before .before .before .before .before .before .before .before .before .before .before .before .before .before .before .pre)) .3 .places), omega (arith, ((c .before .before .before .before .before .before .before .before .before .before .before .before .before .before .before .before .before .before .before .before .before .before .before .before .before .before .before .pre)) .1, ((c .before .before .before .before .before .before .before .before .before .before .before .before .before .starting-row) .ensures) .ending .rows), omega (arith, ((c .before .before .before .before .before .before .before .before .before .before .before .before .before .before .before .before .before .before .before .before .before .before .before .before .before .before .before .pre)) .1, ((c .before .before .before .before .before .before .before .before .before .before .before .before .before .starting-row) .ensures) .ending .counts))
 
--- src/table.rt:96:1
 same-length-4 : tie.Need-same-length-4
 same-length-4 c = search needs
 
--- src/table.rt:96:1
 same-length-5 : tie.Need-same-length-5
 same-length-5 c = search needs
 
--- src/table.rt:96:1
 same-length-6 : tie.Need-same-length-6
 same-length-6 c = search needs
 
--- src/table.rt:96:1
 returns-2 : tie.Need-returns-2
 returns-2 c = filling-placed ((c .before .before .before .before .before .before .before .before .before .before .before .before .before .before .before .before .before .before .before .before .before .before .before .before .before .before .before .before .before .before .before .before .args) .m) (((c .before .before .before .before .before .before .before .before .before .before .before .before .before .before .before .before .before .before .before .before .before .before .before .before .before .before .before .before .before .before .before .before .args) .list) .now) (((c .before .before .before .before .before .before .before .before .before .before .before .before .before .before .before .before .before .before .before .before .before .before .before .before .before .before .before .before .before .before .before .before .args) .sets) .now) (((c .before .before .before .before .before .before .before .before .before .before .before .before .before .before .before .before .before .before .before .before .before .before .before .before .before .before .before .before .before .before .before .before .args) .word) .now) ((c .before .before .before .before .before .before .before .before .before .before .before .before .before .before .before .before .before .before .before .before .before .before .before .before .before .before .before .before .before .before .before .before .args) .p) ((c .before .before .before .before .before .before .before .before .place-layer) .result) (((c .before .before .before .before .before .before .before .before .before .before .before .before .before .before .before .before .before .before .before .before .before .before .before .before .before .before .before .before .before .before .before .before .args) .t) .now) _ (omega (arith, ((c .before .before .before .before .before .before .before .before .before .before .before .before .before .before .before .before .before .before .before .before .before .before .before .before .before .before .before .before .before .before .before .before .pre)) .1)) (((c .before .before .before .before .before .before .before .before .before .before .before .before .before .before .before .before .before .before .before .before .before .before .before .before .before .before .before .before .before .before .before .before .pre)) .3 .places) (((c .before .before .before .before .place-rows2) .ensures) .put) (rules _ _ ((c .before .before .before .before .before .before .before .before .before .before .before .before .before .before .before .before .before .before .before .before .before .before .before .before .before .before .before .before .before .before .before .before .pre) .0 .given .good)) (((c .before .before .before .before .before .before .before .before .before .before .before .before .before .before .before .before .before .before .starting-row) .last) .1 .1 .1 .1 .1 .1 .1 .1 .1 .1 .1 .0) _ (((c .before .before .before .before .before .before .before .before .before .before .before .before .before .before .before .before .before .before .starting-row) .last) .1 .1 .1 .1 .1 .1 .1 .1 .1 .1 .1 .1 .0) _ _ (((c .before .before .before .before .before .before .before .before .before .before .before .before .before .before .before .before .before .before .starting-row) .ensures) .ending .rows) (((c .before .before .before .before .before .before .before .before .before .before .before .before .before .before .before .before .before .before .starting-row) .ensures) .ending .counts) (((c .before .before .before .before .before .before .before .before .before .before .before .before .before .before .before .before .before .before .before .before .before .before .before .before .before .before .before .before .before .before .before .before .pre)) .3 .each) (((c .before .before .before .before .before .before .before .before .before .before .before .before .before .before .before .before .before .before .starting-row) .ensures) .ending .each) ((c .before .before .before .before .before .before .before .before .before .before .before .before .before .before .before .before .before .before .before .before .before .before .before .before .before .before .count-shared) .ensures) (place-before ((c .before .before .before .before .before .before .before .before .before .before .before .before .before .before .before .before .before .before .before .before .before .before .before .before .before .before .before .before .before .before .before .before .args) .m) (((c .before .before .before .before .before .before .before .before .before .before .before .before .before .before .before .before .before .before .before .before .before .before .before .before .before .before .before .before .before .before .before .before .args) .list) .now) (((c .before .before .before .before .before .before .before .before .before .before .before .before .before .before .before .before .before .before .before .before .before .before .before .before .before .before .before .before .before .before .before .before .args) .sets) .now) (((c .before .before .before .before .before .before .before .before .before .before .before .before .before .before .before .before .before .before .before .before .before .before .before .before .before .before .before .before .before .before .before .before .args) .word) .now) ((c .before .before .before .before .before .before .before .before .before .before .before .before .before .before .before .before .before .before .before .before .before .before .before .before .before .before .before .before .before .before .before .before .args) .p) _ _ _ _ _ _ _ (((c .before .before .before .before .before .before .before .before .before .before .before .before .before .before .before .before .before .before .before .before .before .before .before .before .before .before .before .before .before .before .before .before .pre)) .1) ((c .before .before .before .before .before .before .before .before .before .before .before .before .before .before .before .before .before .before .before .before .before .before .before .before .before .near-at) .ensures .0) refl (onward-best ((c .before .before .before .before .before .before .before .before .before .before .before .before .before .before .before .before .before .before .before .before .before .before .before .before .before .before .before .before .before .before .before .before .args) .m) (((c .before .before .before .before .before .before .before .before .before .before .before .before .before .before .before .before .before .before .before .before .before .before .before .before .before .before .before .before .before .before .before .before .args) .list) .now) (((c .before .before .before .before .before .before .before .before .before .before .before .before .before .before .before .before .before .before .before .before .before .before .before .before .before .before .before .before .before .before .before .before .args) .sets) .now) (((c .before .before .before .before .before .before .before .before .before .before .before .before .before .before .before .before .before .before .before .before .before .before .before .before .before .before .before .before .before .before .before .before .args) .word) .now) (((c .before .before .before .before .before .before .before .before .before .before .before .before .before .before .before .before .before .before .before .before .before .before .before .before .before .before .before .before .before .before .before .before .args) .t) .now) (((c .before .before .before .before .before .before .before .before .before .before .before .before .before .before .before .before .before .before .before .before .before .before .before .before .before .before .before .before .before .before .before .before .args) .p) + 1) (((c .before .before .before .before .before .before .before .before .before .before .before .before .before .before .before .before .before .before .before .before .before .before .before .before .before .before .before .before .before .before .before .before .pre)) .3 .each (((c .before .before .before .before .before .before .before .before .before .before .before .before .before .before .before .before .before .before .before .before .before .before .before .before .before .before .before .before .before .before .before .before .args) .p) + 1) (omega arith) (omega (arith, ((c .before .before .before .before .before .before .before .before .before .before .before .before .before .before .before .before .before .before .before .before .before .before .before .before .before .before .before .before .before .before .before .before .pre)) .1))) _ ((c .before .before .before .before .before .before .before .before .before .before .before .before .before .load) .ensures)) (λ some. ((c .before .before .before .before .before .before .before .before .before .before .before .before .before .before .before .before .before .before .starting-row) .ensures) .row (begins-some ((c .before .before .before .before .before .before .before .before .before .before .before .before .before .before .before .before .before .before .before .before .before .before .before .before .before .before .before .before .before .before .before .before .args) .m) (((c .before .before .before .before .before .before .before .before .before .before .before .before .before .before .before .before .before .before .before .before .before .before .before .before .before .before .before .before .before .before .before .before .args) .list) .now) (((c .before .before .before .before .before .before .before .before .before .before .before .before .before .before .before .before .before .before .before .before .before .before .before .before .before .before .before .before .before .before .before .before .args) .sets) .now) (((c .before .before .before .before .before .before .before .before .before .before .before .before .before .before .before .before .before .before .before .before .before .before .before .before .before .before .before .before .before .before .before .before .args) .word) .now) _ _ _ ((c .before .before .before .before .before .before .before .before .before .before .before .before .before .before .before .before .before .before .before .before .before .before .before .before .before .before .before .before .before .before .before .before .pre) .0 .given) ((c .before .before .before .before .before .before .before .before .before .before .before .before .before .before .before .before .before .before .before .before .before .before .before .before .before .before .before .before .before .before .before .before .args) .p) _ _ (((c .before .before .before .before .before .before .before .before .before .before .before .before .before .before .before .before .before .before .before .before .before .before .before .before .before .before .before .before .before .before .before .before .pre)) .1) ((c .before .before .before .before .before .before .before .before .before .before .before .before .before .before .before .before .before .before .before .before .before .before .before .before .before .near-at) .ensures .0) ((c .before .before .before .before .before .before .before .before .before .before .before .before .before .before .before .before .before .before .before .before .before .before .before .intersection) .ensures) some)) _ (λ h. false≢true h) (((c .before .before .before .before .before .before .before .before .place-layer) .ensures) .0)) (((c .before .before .before .before .before .before .before .before .place-layer) .ensures) .1) ((c .before .before .before .before .place-rows2) .ensures)
 

@@ -9,23 +9,18 @@ use Rattle.tables.proofs.table.near_at.Lts as lts
 use Rattle.stateset.proofs.full.Reads as full-reads
 use Rattle.stateset.proofs.intersection.Reads as intersection-reads
 
--- src/table.rt:69:28
 mul-intersection : tie.Need-mul-intersection
 mul-intersection c = search needs
 
--- src/table.rt:69:28
 element-copy-out-intersection : tie.Need-element-copy-out-intersection
 element-copy-out-intersection c = search needs
 
--- src/table.rt:69:37
 full-requires : tie.Need-full-requires
 full-requires c κs = search needs
 
--- src/table.rt:69:5
 intersection-requires : tie.Need-intersection-requires
 intersection-requires c κs = search needs
 
--- src/table.rt:65:1
 returns : tie.Need-returns
 returns c = ((c .intersection) .ensures .value ∙ ap (bitAnd (getD ((c .before .before .before .args) .sets .now) ((c .before .before .before .args) .p) 0)) ((c .before .full) .ensures .value), λ q i. (c .before .full) .ensures .members q .0 ((c .intersection) .ensures .members q .0 i .1) .0)
 

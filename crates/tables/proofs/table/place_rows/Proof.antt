@@ -9,55 +9,42 @@ use Rattle.tables.proofs.table.place_rows.Lts as lts
 use Rattle.tables.proofs.copy.save.Reads as save-reads
 use Rattle.tables.proofs.table.put_place.Reads as put-place-reads
 
--- src/table.rt:42:5
 put-place-requires : tie.Need-put-place-requires
 put-place-requires c κs = search needs
 
--- src/table.rt:44:9
 mul-left : tie.Need-mul-left
 mul-left c = search needs
 
--- src/table.rt:44:9
 slice-write-left : tie.Need-slice-write-left
 slice-write-left c = search needs
 
--- src/table.rt:45:9
 same-length : tie.Need-same-length
 same-length c = search needs
 
--- src/table.rt:45:9
 same-length-2 : tie.Need-same-length-2
 same-length-2 c = search needs
 
--- src/table.rt:45:9
 returns : tie.Need-returns
 returns c = record { put = (c .before .before .before .put-place) .ensures; going = λ t. absurd (false≢true (sym (not-true _ ((c .if1) .taken)) ∙ t)); dead = λ f. (refl, refl) }
 
--- src/table.rt:48:5
 save-requires : tie.Need-save-requires
 save-requires c κs = search needs
 
--- src/table.rt:49:5
 mul-left-2 : tie.Need-mul-left-2
 mul-left-2 c = search needs
 
--- src/table.rt:49:5
 slice-write-left-2 : tie.Need-slice-write-left-2
 slice-write-left-2 c = search needs
 
--- src/table.rt:32:1
 same-length-3 : tie.Need-same-length-3
 same-length-3 c = search needs
 
--- src/table.rt:32:1
 same-length-4 : tie.Need-same-length-4
 same-length-4 c = search needs
 
--- src/table.rt:32:1
 same-length-5 : tie.Need-same-length-5
 same-length-5 c = search needs
 
--- src/table.rt:32:1
 returns-2 : tie.Need-returns-2
 returns-2 c = record { put = (c .before .before .before .before .before .before .before .put-place) .ensures; going = λ t. ((c .before .save) .ensures, refl); dead = λ f. absurd (false≢true (sym f ∙ not-false _ ((c .before .before .before .before .if1) .left))) }
 

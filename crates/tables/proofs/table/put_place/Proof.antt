@@ -5,43 +5,33 @@ use Rattle.tables.proofs.table.put_place.Reads as reads
 use Rattle.tables.proofs.table.put_place.Lts as lts
 use Rattle.tables.proofs.copy.save.Reads as save-reads
 
--- src/table.rt:26:19
 mul-save : tie.Need-mul-save
 mul-save c = search needs
 
--- src/table.rt:26:5
 save-requires : tie.Need-save-requires
 save-requires c κs = search needs
 
--- src/table.rt:27:19
 mul-save-2 : tie.Need-mul-save-2
 mul-save-2 c = search needs
 
--- src/table.rt:27:19
 add-save : tie.Need-add-save
 add-save c = search needs
 
--- src/table.rt:27:5
 save-requires-2 : tie.Need-save-requires-2
 save-requires-2 c κs = search needs
 
--- src/table.rt:28:19
 mul-save-3 : tie.Need-mul-save-3
 mul-save-3 c = search needs
 
--- src/table.rt:28:19
 add-save-2 : tie.Need-add-save-2
 add-save-2 c = search needs
 
--- src/table.rt:28:5
 save-requires-3 : tie.Need-save-requires-3
 save-requires-3 c κs = search needs
 
--- src/table.rt:19:1
 same-length : tie.Need-same-length
 same-length c = search needs
 
--- src/table.rt:19:1
 returns : tie.Need-returns
 returns c = cc (((c .before .before .before .before .before .before .before .save) .ensures), ((c .before .before .before .before .save2) .ensures), ((c .before .save3) .ensures))
 

@@ -5,19 +5,15 @@ use Rattle.tables.proofs.table.unreached.Reads as reads
 use Rattle.tables.proofs.table.unreached.Lts as lts
 use Rattle.layers.proofs.layer.blank.Reads as blank-reads
 
--- src/table.rt:57:17
 blank-requires : tie.Need-blank-requires
 blank-requires c κs = search needs
 
--- src/table.rt:58:20
 blank-requires-2 : tie.Need-blank-requires-2
 blank-requires-2 c κs = search needs
 
--- src/table.rt:59:19
 blank-requires-3 : tie.Need-blank-requires-3
 blank-requires-3 c κs = search needs
 
--- src/table.rt:53:1
 returns : tie.Need-returns
 returns c = cc (((c .before .before .blank) .ensures), ((c .before .blank2) .ensures), ((c .blank3) .ensures))
 

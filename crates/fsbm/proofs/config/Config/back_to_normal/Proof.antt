@@ -11,38 +11,30 @@ use Rattle.fsbm.proofs.config.Config.back_to_normal.Lts as lts
 use Rattle.fsbm.proofs.config.Config.stay.Reads as stay-reads
 use Rattle.fsbm.proofs.machine.is_matching.Reads as is-matching-reads
 
--- src/config.rt:289:13
 stay-requires : tie.Need-stay-requires
 stay-requires c κs = search needs
 
--- src/config.rt:289:13
 returns : tie.Need-returns
 unfolding changes
 returns c = goes-not _ (c .stay .ensures) (stop _ (ne-eqb _ _ (c .before .if1 .taken)))
 
--- src/config.rt:291:13
 is-matching-requires : tie.Need-is-matching-requires
 is-matching-requires c κs = search needs
 
--- src/config.rt:292:13
 stay-requires-2 : tie.Need-stay-requires-2
 stay-requires-2 c κs = search needs
 
--- src/config.rt:292:13
 returns-2 : tie.Need-returns-2
 unfolding changes
 returns-2 c = goes-not _ (c .stay2 .ensures) (pass (eq-eqb _ _ (c .before .before .before .if1 .left)) (stop _ (sym (c .before .before .is-matching .ensures) ∙ not-true _ (c .before .if2 .taken))))
 
--- src/config.rt:295:13
 stay-requires-3 : tie.Need-stay-requires-3
 stay-requires-3 c κs = search needs
 
--- src/config.rt:295:13
 returns-3 : tie.Need-returns-3
 unfolding changes
 returns-3 c = goes-not _ (c .stay3 .ensures) (pass (eq-eqb _ _ (c .before .before .before .before .before .if1 .left)) (pass (sym (c .before .before .before .before .is-matching .ensures) ∙ not-false _ (c .before .before .before .if2 .left)) (sym (ne-eqb _ _ (c .before .if3 .taken)))))
 
--- src/config.rt:285:5
 returns-4 : tie.Need-returns-4
 unfolding changes
 returns-4 c = goes-yes _ _ (pass (eq-eqb _ _ (c .before .before .before .before .if1 .left)) (pass (sym (c .before .before .before .is-matching .ensures) ∙ not-false _ (c .before .before .if2 .left)) (sym (eq-eqb _ _ (c .if3 .left)))))

@@ -11,29 +11,23 @@ use Rattle.fsbm.proofs.config.Config.begin_emptying.Lts as lts
 use Rattle.fsbm.proofs.config.Config.stay.Reads as stay-reads
 use Rattle.fsbm.proofs.machine.is_matching.Reads as is-matching-reads
 
--- src/config.rt:268:13
 stay-requires : tie.Need-stay-requires
 stay-requires c κs = search needs
 
--- src/config.rt:268:13
 returns : tie.Need-returns
 unfolding changes
 returns c = goes-not _ (c .stay .ensures) (stop _ (ne-eqb _ _ (c .before .if1 .taken)))
 
--- src/config.rt:270:13
 is-matching-requires : tie.Need-is-matching-requires
 is-matching-requires c κs = search needs
 
--- src/config.rt:271:13
 stay-requires-2 : tie.Need-stay-requires-2
 stay-requires-2 c κs = search needs
 
--- src/config.rt:271:13
 returns-2 : tie.Need-returns-2
 unfolding changes
 returns-2 c = goes-not _ (c .stay2 .ensures) (pass (eq-eqb _ _ (c .before .before .before .if1 .left)) (sym (sym (c .before .before .is-matching .ensures) ∙ not-true _ (c .before .if2 .taken))))
 
--- src/config.rt:264:5
 returns-3 : tie.Need-returns-3
 unfolding changes
 returns-3 c = goes-yes _ _ (pass (eq-eqb _ _ (c .before .before .if1 .left)) (sym (sym (c .before .is-matching .ensures) ∙ not-false _ (c .if2 .left))))

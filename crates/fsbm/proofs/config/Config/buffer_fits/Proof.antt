@@ -8,27 +8,21 @@ use Rattle.fsbm.proofs.config.Config.buffer_fits.Tie as tie
 use Rattle.fsbm.proofs.config.Config.buffer_fits.Reads as reads
 use Rattle.fsbm.proofs.config.Config.buffer_fits.Lts as lts
 
--- src/config.rt:103:29
 enum-told : tie.Need-enum-told
 enum-told c = search needs
 
--- src/config.rt:104:32
 enum-told-2 : tie.Need-enum-told-2
 enum-told-2 c = search needs
 
--- src/config.rt:105:31
 enum-told-3 : tie.Need-enum-told-3
 enum-told-3 c = search needs
 
--- src/config.rt:98:5
 returns : tie.Need-returns
 returns c = ap (λ (z : Mode). bufferFits (c .before .before .before .args .self) z) (sym (c .before .enum-told .given .1))
 
--- src/config.rt:98:5
 returns-2 : tie.Need-returns-2
 returns-2 c = ap (λ (z : Mode). bufferFits (c .before .before .before .args .self) z) (sym (c .before .enum-told2 .given .1))
 
--- src/config.rt:98:5
 returns-3 : tie.Need-returns-3
 returns-3 c = search needs
 

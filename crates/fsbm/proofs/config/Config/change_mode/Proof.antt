@@ -10,39 +10,30 @@ use Rattle.fsbm.proofs.config.Config.back_to_normal.Reads as back-to-no
 use Rattle.fsbm.proofs.config.Config.begin_buffering.Reads as begin-buffering-reads
 use Rattle.fsbm.proofs.config.Config.begin_emptying.Reads as begin-emptying-reads
 
--- src/config.rt:234:29
 enum-told : tie.Need-enum-told
 enum-told c = search needs
 
--- src/config.rt:234:29
 begin-buffering-requires : tie.Need-begin-buffering-requires
 begin-buffering-requires c κs = search needs
 
--- src/config.rt:235:32
 enum-told-2 : tie.Need-enum-told-2
 enum-told-2 c = search needs
 
--- src/config.rt:235:32
 begin-emptying-requires : tie.Need-begin-emptying-requires
 begin-emptying-requires c κs = search needs
 
--- src/config.rt:236:31
 enum-told-3 : tie.Need-enum-told-3
 enum-told-3 c = search needs
 
--- src/config.rt:236:31
 back-to-normal-requires : tie.Need-back-to-normal-requires
 back-to-normal-requires c κs = search needs
 
--- src/config.rt:229:5
 returns : tie.Need-returns
 returns c = (c .begin-buffering .ensures) ∙ ap (λ (z : Mode). changes ((c .before .before .before .args .marks) .now) (c .before .before .before .args .self) (c .before .before .before .args .entry) z) (sym (c .before .enum-told .given .1))
 
--- src/config.rt:229:5
 returns-2 : tie.Need-returns-2
 returns-2 c = (c .begin-emptying .ensures) ∙ ap (λ (z : Mode). changes ((c .before .before .before .args .marks) .now) (c .before .before .before .args .self) (c .before .before .before .args .entry) z) (sym (c .before .enum-told2 .given .1))
 
--- src/config.rt:229:5
 returns-3 : tie.Need-returns-3
 returns-3 c = (c .back-to-normal .ensures) ∙ ap (λ (z : Mode). changes ((c .before .before .before .args .marks) .now) (c .before .before .before .args .self) (c .before .before .before .args .entry) z) (sym (c .before .enum-told3 .given .1))
 

@@ -11,11 +11,9 @@ use Rattle.fsbm.proofs.config.Config.is_accepting.Reads as reads
 use Rattle.fsbm.proofs.config.Config.is_accepting.Lts as lts
 use Rattle.fsbm.proofs.machine.is_final.Reads as is-final-reads
 
--- src/config.rt:82:13
 is-final-requires : tie.Need-is-final-requires
 is-final-requires c κs = search needs
 
--- src/config.rt:83:13
 returns : tie.Need-returns
 unfolding accepts
 returns c = stop _ (sym (c .before .is-final .ensures) ∙ not-true _ (c .if1 .taken))
@@ -23,30 +21,24 @@ returns c = stop _ (sym (c .before .is-final .ensures) ∙ not-true _ (c .if1 .t
 enum-told : tie.Need-enum-told
 enum-told c = search needs
 
--- src/config.rt:88:32
 enum-told-2 : tie.Need-enum-told-2
 enum-told-2 c = search needs
 
--- src/config.rt:88:32
 returns-2 : tie.Need-returns-2
 unfolding accepts
 returns-2 c = pass (sym (c .before .before .before .is-final .ensures) ∙ not-false _ (c .before .before .if1 .left)) (stop _ (ap isNormal (c .enum-told2 .given .1)))
 
--- src/config.rt:89:31
 enum-told-3 : tie.Need-enum-told-3
 enum-told-3 c = search needs
 
--- src/config.rt:89:31
 returns-3 : tie.Need-returns-3
 unfolding accepts
 returns-3 c = pass (sym (c .before .before .before .is-final .ensures) ∙ not-false _ (c .before .before .if1 .left)) (stop _ (ap isNormal (c .enum-told3 .given .1)))
 
--- src/config.rt:92:13
 returns-4 : tie.Need-returns-4
 unfolding accepts
 returns-4 c = pass (sym (c .before .before .before .before .before .is-final .ensures) ∙ not-false _ (c .before .before .before .before .if1 .left)) (pass (ap isNormal (c .before .before .enum-told .given .1)) (stop _ (ne-eqb _ _ (c .if2 .taken))))
 
--- src/config.rt:79:5
 returns-5 : tie.Need-returns-5
 unfolding accepts
 returns-5 c = pass (sym (c .before .before .before .before .before .before .is-final .ensures) ∙ not-false _ (c .before .before .before .before .before .if1 .left)) (pass (ap isNormal (c .before .before .before .enum-told .given .1)) (pass (eq-eqb _ _ (c .before .if2 .left)) refl))

@@ -8,31 +8,25 @@ use Rattle.fsbm.proofs.config.Config.is_well_placed.Reads as reads
 use Rattle.fsbm.proofs.config.Config.is_well_placed.Lts as lts
 use Rattle.fsbm.proofs.config.Config.buffer_fits.Reads as buffer-fits-reads
 
--- src/config.rt:114:13
 returns : tie.Need-returns
 unfolding wellPlaced
 returns c = stop _ (lt-leb _ _ (c .if1 .taken))
 
--- src/config.rt:117:13
 returns-2 : tie.Need-returns-2
 unfolding wellPlaced
 returns-2 c = pass (le-leb _ _ (c .before .before .if1 .left)) (stop _ (le-ltb _ _ (c .if2 .taken)))
 
--- src/config.rt:120:13
 returns-3 : tie.Need-returns-3
 unfolding wellPlaced
 returns-3 c = pass (le-leb _ _ (c .before .before .before .before .if1 .left)) (pass (lt-ltb _ _ (c .before .before .if2 .left)) (stop _ (lt-leb _ _ (c .if3 .taken))))
 
--- src/config.rt:123:13
 returns-4 : tie.Need-returns-4
 unfolding wellPlaced
 returns-4 c = pass (le-leb _ _ (c .before .before .before .before .before .before .if1 .left)) (pass (lt-ltb _ _ (c .before .before .before .before .if2 .left)) (pass (le-leb _ _ (c .before .before .if3 .left)) (stop _ (lt-leb _ _ (c .if4 .taken)))))
 
--- src/config.rt:125:9
 buffer-fits-requires : tie.Need-buffer-fits-requires
 buffer-fits-requires c κs = search needs
 
--- src/config.rt:110:5
 returns-5 : tie.Need-returns-5
 unfolding wellPlaced
 returns-5 c = pass (le-leb _ _ (c .before .before .before .before .before .before .before .if1 .left)) (pass (lt-ltb _ _ (c .before .before .before .before .before .if2 .left)) (pass (le-leb _ _ (c .before .before .before .if3 .left)) (pass (le-leb _ _ (c .before .if4 .left)) (c .buffer-fits .ensures))))

@@ -12,38 +12,30 @@ use Rattle.fsbm.proofs.config.Config.reads_stored.Reads as reads-stored
 use Rattle.fsbm.proofs.config.passes.Reads as passes-reads
 use Rattle.fsbm.proofs.config.reads_letter.Reads as reads-letter-reads
 
--- src/config.rt:180:12
 cast-if1 : tie.Need-cast-if1
 cast-if1 c = search needs
 
--- src/config.rt:181:13
 returns : tie.Need-returns
 unfolding mayTake
 returns c = stop _ (ne-eqb _ _ (c .if1 .taken))
 
--- src/config.rt:184:13
 passes-requires : tie.Need-passes-requires
 passes-requires c κs = search needs
 
--- src/config.rt:185:13
 returns-2 : tie.Need-returns-2
 unfolding mayTake
 returns-2 c = pass (eq-eqb _ _ (c .before .before .if1 .left)) (stop _ (sym (c .before .passes .ensures) ∙ not-true _ (c .if2 .taken)))
 
--- src/config.rt:187:13
 reads-letter-requires : tie.Need-reads-letter-requires
 reads-letter-requires c κs = search needs
 
--- src/config.rt:188:13
 returns-3 : tie.Need-returns-3
 unfolding mayTake
 returns-3 c = pass (eq-eqb _ _ (c .before .before .before .before .if1 .left)) (pass (sym (c .before .before .before .passes .ensures) ∙ not-false _ (c .before .before .if2 .left)) (stop _ (sym (c .before .reads-letter .ensures) ∙ not-true _ (c .if3 .taken))))
 
--- src/config.rt:190:9
 reads-stored-requires : tie.Need-reads-stored-requires
 reads-stored-requires c κs = search needs
 
--- src/config.rt:177:5
 returns-4 : tie.Need-returns-4
 unfolding mayTake
 returns-4 c = pass (eq-eqb _ _ (c .before .before .before .before .before .if1 .left)) (pass (sym (c .before .before .before .before .passes .ensures) ∙ not-false _ (c .before .before .before .if2 .left)) (pass (sym (c .before .before .reads-letter .ensures) ∙ not-false _ (c .before .if3 .left)) (c .reads-stored .ensures)))

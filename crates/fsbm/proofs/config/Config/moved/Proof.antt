@@ -15,47 +15,36 @@ use Rattle.fsbm.proofs.config.Config.may_take.Reads as may-take-reads
 use Rattle.fsbm.proofs.config.Config.stay.Reads as stay-reads
 use Rattle.fsbm.proofs.machine.transition_at.Reads as transition-at-reads
 
--- src/config.rt:318:13
 is-well-placed-requires : tie.Need-is-well-placed-requires
 is-well-placed-requires c κs = search needs
 
--- src/config.rt:319:13
 stay-requires : tie.Need-stay-requires
 stay-requires c κs = search needs
 
--- src/config.rt:319:13
 returns : tie.Need-returns
 returns c = λ m es et em. (c .stay .ensures) ∙ move-unplaced m (c .before .before .before .before .before .args .states) (c .before .before .before .before .before .args .transitions) ((c .before .before .before .before .before .args .marks) .now) es et em ((c .before .before .before .before .before .args .list) .now) ((c .before .before .before .before .before .args .word) .now) (c .before .before .before .before .before .args .self) (c .before .before .before .before .before .args .entry) (sym (c .before .before .is-well-placed .ensures) ∙ not-true _ (c .before .if1 .taken))
 
--- src/config.rt:323:13
 change-mode-requires : tie.Need-change-mode-requires
 change-mode-requires c κs = search needs
 
--- src/config.rt:323:13
 returns-2 : tie.Need-returns-2
 returns-2 c = λ m es et em. (c .change-mode .ensures) ∙ move-change m (c .before .before .before .before .before .before .args .states) (c .before .before .before .before .before .before .args .transitions) ((c .before .before .before .before .before .before .args .marks) .now) es et em ((c .before .before .before .before .before .before .args .list) .now) ((c .before .before .before .before .before .before .args .word) .now) (c .before .before .before .before .before .before .args .self) (c .before .before .before .before .before .before .args .entry) (sym (c .before .before .before .is-well-placed .ensures) ∙ not-false _ (c .before .before .if1 .left)) (c .before .if2 .taken)
 
--- src/config.rt:325:13
 transition-at-requires : tie.Need-transition-at-requires
 transition-at-requires c κs = search needs
 
--- src/config.rt:326:13
 may-take-requires : tie.Need-may-take-requires
 may-take-requires c κs = search needs
 
--- src/config.rt:327:13
 stay-requires-2 : tie.Need-stay-requires-2
 stay-requires-2 c κs = search needs
 
--- src/config.rt:327:13
 returns-3 : tie.Need-returns-3
 returns-3 c = λ m es et em. (c .stay2 .ensures) ∙ move-not-taken m (c .before .before .before .before .before .before .before .before .before .args .states) (c .before .before .before .before .before .before .before .before .before .args .transitions) ((c .before .before .before .before .before .before .before .before .before .args .marks) .now) es et em ((c .before .before .before .before .before .before .before .before .before .args .list) .now) ((c .before .before .before .before .before .before .before .before .before .args .word) .now) (c .before .before .before .before .before .before .before .before .before .args .self) (c .before .before .before .before .before .before .before .before .before .args .entry) (sym (c .before .before .before .before .before .before .is-well-placed .ensures) ∙ not-false _ (c .before .before .before .before .before .if1 .left)) (c .before .before .before .before .if2 .left) (c .before .before .before .transition-at .result) (c .before .before .before .transition-at .ensures) (sym (c .before .before .may-take .ensures) ∙ not-true _ (c .before .if3 .taken))
 
--- src/config.rt:331:21
 after-requires : tie.Need-after-requires
 after-requires c κs = let p = ranges (c .before .before .before .before .before .before .before .before .args .states) ((c .before .before .before .before .before .before .before .before .args .word) .now) (c .before .before .before .before .before .before .before .before .args .self) (sym (c .before .before .before .before .before .is-well-placed .ensures) ∙ not-false _ (c .before .before .before .before .if1 .left)) in (omega (arith, p .0, (c .before .before .before .before .before .before .before .before .good)), p .1, p .2)
 
--- src/config.rt:306:5
 returns-4 : tie.Need-returns-4
 returns-4 c = λ m es et em. move-taken m (c .before .before .before .before .before .before .before .before .before .args .states) (c .before .before .before .before .before .before .before .before .before .args .transitions) ((c .before .before .before .before .before .before .before .before .before .args .marks) .now) es et em ((c .before .before .before .before .before .before .before .before .before .args .list) .now) ((c .before .before .before .before .before .before .before .before .before .args .word) .now) (c .before .before .before .before .before .before .before .before .before .args .self) (c .before .before .before .before .before .before .before .before .before .args .entry) (sym (c .before .before .before .before .before .before .is-well-placed .ensures) ∙ not-false _ (c .before .before .before .before .before .if1 .left)) (c .before .before .before .before .if2 .left) (c .before .before .before .transition-at .result) (c .before .before .before .transition-at .ensures) (sym (c .before .before .may-take .ensures) ∙ not-false _ (c .before .if3 .left)) (c .after .result) (c .after .ensures)
 

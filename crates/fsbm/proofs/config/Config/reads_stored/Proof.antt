@@ -9,33 +9,26 @@ use Rattle.fsbm.proofs.config.Config.reads_stored.Reads as reads
 use Rattle.fsbm.proofs.config.Config.reads_stored.Lts as lts
 use Rattle.fsbm.proofs.config.reads_letter.Reads as reads-letter-reads
 
--- src/config.rt:170:29
 enum-told : tie.Need-enum-told
 enum-told c = search needs
 
--- src/config.rt:171:32
 enum-told-2 : tie.Need-enum-told-2
 enum-told-2 c = search needs
 
--- src/config.rt:172:31
 enum-told-3 : tie.Need-enum-told-3
 enum-told-3 c = search needs
 
--- src/config.rt:172:31
 reads-letter-requires : tie.Need-reads-letter-requires
 reads-letter-requires c κs = search needs
 
--- src/config.rt:165:5
 returns : tie.Need-returns
 unfolding readsStored
 returns c = ap (λ (z : Mode). readsStored ((c .before .before .before .args .word) .now) (c .before .before .before .args .self) (c .before .before .before .args .t) z) (sym (c .enum-told .given .1))
 
--- src/config.rt:165:5
 returns-2 : tie.Need-returns-2
 unfolding readsStored
 returns-2 c = ap (λ (z : Mode). readsStored ((c .before .before .before .args .word) .now) (c .before .before .before .args .self) (c .before .before .before .args .t) z) (sym (c .enum-told2 .given .1))
 
--- src/config.rt:165:5
 returns-3 : tie.Need-returns-3
 unfolding readsStored
 returns-3 c = (c .reads-letter .ensures) ∙ ap (λ (z : Mode). readsStored ((c .before .before .before .before .args .word) .now) (c .before .before .before .before .args .self) (c .before .before .before .before .args .t) z) (sym (c .before .enum-told3 .given .1))

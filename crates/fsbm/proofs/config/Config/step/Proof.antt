@@ -9,23 +9,18 @@ use Rattle.fsbm.proofs.config.Config.step.Lts as lts
 use Rattle.fsbm.proofs.answer.table_and_word.Reads as table-and-word-reads
 use Rattle.fsbm.proofs.config.Config.moved.Reads as moved-reads
 
--- src/config.rt:342:13
 table-and-word-requires : tie.Need-table-and-word-requires
 table-and-word-requires c κs = search needs
 
--- src/config.rt:344:13
 returns : tie.Need-returns
 returns c = step-says _ _ _ _ _ _ (step-refused (c .before .before .before .before .args .t2) ((c .before .before .before .before .args .list) .now) ((c .before .before .before .before .args .word) .now) (c .before .table-and-word .result) (c .before .table-and-word .ensures) (c .before .before .before .before .args .self) (c .before .before .before .before .args .entry) (c .if1 .taken))
 
--- src/config.rt:346:13
 moved-requires : tie.Need-moved-requires
 moved-requires c κs = search needs
 
--- src/config.rt:349:13
 returns-2 : tie.Need-returns-2
 returns-2 c = step-says _ _ _ _ _ _ (first _ (c .before .if2 .taken) refl ∙ step-moved (c .before .before .before .before .before .before .before .before .before .args .t2) ((c .before .before .before .before .before .before .before .before .before .args .list) .now) ((c .before .before .before .before .before .before .before .before .before .args .word) .now) (c .before .before .before .before .before .before .table-and-word .result) (c .before .before .before .before .before .before .table-and-word .ensures) (c .before .before .before .before .before .before .before .before .before .args .self) (c .before .before .before .before .before .before .before .before .before .args .entry) (c .before .before .before .before .before .if1 .left) (c .before .before .moved .result) ((c .before .before .moved .ensures) (c .before .before .before .before .before .before .before .before .before .args .t2) refl refl refl))
 
--- src/config.rt:339:5
 returns-3 : tie.Need-returns-3
 returns-3 c = step-says _ _ _ _ _ _ (second _ (c .if2 .left) refl ∙ step-moved (c .before .before .before .before .before .before .before .before .args .t2) ((c .before .before .before .before .before .before .before .before .args .list) .now) ((c .before .before .before .before .before .before .before .before .args .word) .now) (c .before .before .before .before .before .table-and-word .result) (c .before .before .before .before .before .table-and-word .ensures) (c .before .before .before .before .before .before .before .before .args .self) (c .before .before .before .before .before .before .before .before .args .entry) (c .before .before .before .before .if1 .left) (c .before .moved .result) ((c .before .moved .ensures) (c .before .before .before .before .before .before .before .before .args .t2) refl refl refl))
 
