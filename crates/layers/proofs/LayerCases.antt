@@ -16,24 +16,24 @@ use mathlib.Core.Bool.{Bool, true, false, cond, false≢true}
 use mathlib.Core.List.{List, [], _∷_, _++_}
 use native.Mathlib.Omega.{arith}
 use native.Mathlib.Decide.{ℕ-discrete, decLt}
-use lib.ListN.{length, set, replicate, length-set}
+use lib.ListN.{set, replicate, length-set}
 use lib.Count.{trailingZeros}
 use lib.Seq.{getD-set-same, getD-set-other}
 use Rattle.graphs.specs.Search.Laws.{not-both, true-or-false}
 use Rattle.graphs.specs.Paths.{here}
 use Rattle.stateset.specs.Set.{width, In, SetIs}
 use Rattle.stateset.specs.Set.Laws.{empty-in, lowest-in}
-use Rattle.fsbm.specs.Machine.{transitionAt, final, buffering, matching}
+use Rattle.fsbm.specs.Machine.{transitionAt, final, buffering}
 use Rattle.fsbm.specs.Published.{config, begin-buffering, begin-emptying, back-to-normal}
 use Rattle.fsbm.specs.declared.machine.Machine.{Machine}
 use Rattle.fsbm.specs.declared.config.Mode.{Mode}
 use Rattle.fsbm.specs.declared.config.Mode.the-variants.{Normal, Buffering, Emptying}
-use Rattle.fsbm.specs.Rules.{Rules, rules, buffering-below, matching-below}
+use Rattle.fsbm.specs.Rules.{Rules, rules, matching-below}
 use Rattle.layers.specs.Costs.{none, Near, Go, at, Leads, RowReal, RowBest, Bounded, Marked}
 use Rattle.layers.specs.Costs.Laws.{normal-yields, buffer-yields, empty-yields}
-use Rattle.layers.specs.Rows.{Given, weight, Lowering, Through, Reads, Beside, Within, Closed}
+use Rattle.layers.specs.Rows.{Given, weight, Lowering, Reads, Beside, Within, Closed}
 use Rattle.layers.specs.Rows.Laws.{through-bounded, through-real, reads-through, reads-same, beside-marked, beside-real, emptying-from}
-use Rattle.layers.specs.Layers.{headOf, tailOf, blankRow, NoneBelow, Seeded, FirstRow, EmptyingLayer, BufferingLayer, Begins, Sets, Storing, PlaceReal, PlaceBest, Settled, LowerPlace, Round, ClosedPlace, PlaceLayer}
+use Rattle.layers.specs.Layers.{headOf, tailOf, blankRow, Seeded, FirstRow, EmptyingLayer, BufferingLayer, Begins, Sets, Storing, PlaceReal, PlaceBest, Settled, LowerPlace, Round, ClosedPlace, PlaceLayer}
 use Rattle.layers.specs.Layers.Laws.{emptying-best, buffering-best, place-best, blank-at, blank-size, blank-none, blank-real, blank-bounded}
 
 pub blank-is : replicate 64 none ≡ blankRow

@@ -10,27 +10,25 @@
 -- blank-said                     == the return of is_blank
 -- lesser-is, lesser-not          == the returns of lesser
 -- lower-not, lower-is            == the returns of lower
-use Prim.Native.Nat.{ℕ, suc, _+_, _*_, _^_, _≤_, _<_}
+use Prim.Native.Nat.{ℕ, suc, _+_, _^_, _≤_, _<_}
 use mathlib.Core.Path.{_≡_, refl, sym, ap, _∙_, subst}
 use mathlib.Core.Logic.{_⊎_, inl, inr, _↔_}
-use mathlib.Core.Bool.{Bool, true, false, not, cond}
+use mathlib.Core.Bool.{Bool, true, false, cond}
 use mathlib.Core.List.{List}
 use native.Mathlib.Omega.{arith}
 use native.Mathlib.Decide.{ℕ-discrete, decLt}
 use native.Mathlib.Numerals.{add-one}
-use lib.ListN.{length, getD, set}
+use lib.ListN.{getD, set}
 use lib.Dec.{ltb, eqb}
 use borrow.Author.Tests.{le-ltb, lt-ltb, ltb-true, eqb-true}
 use Rattle.graphs.specs.Search.Laws.{not-both, true-or-false}
 use Rattle.stateset.specs.Set.{width, In, has, SetIs}
-use Rattle.stateset.specs.Set.Laws.{has-in, in?, in-lt, empty-in, lowest-in}
+use Rattle.stateset.specs.Set.Laws.{has-in, empty-in, lowest-in}
 use Rattle.fsbm.specs.declared.config.Mode.{Mode}
 use Rattle.fsbm.specs.declared.config.Mode.the-variants.{Normal, Buffering, Emptying}
 use Rattle.fsbm.specs.declared.machine.Machine.{Machine}
-use Rattle.fsbm.specs.Rules.{rules}
-use Rattle.images.specs.Graph.{setOf}
+use Rattle.images.specs.Graph.{setOf, Members, May}
 use Rattle.targets.specs.Prepared.{Row}
-use Rattle.images.specs.Graph.{Members, May}
 use Rattle.layers.specs.declared.row.Sum.{Sum}
 use Rattle.layers.specs.Costs.{none, at}
 use Rattle.layers.specs.Rows.Laws.{visit-lowers, target-below}

@@ -13,10 +13,10 @@
 -- Leads m list t x k         == transition k reads x, and the marks let it be taken in mode t
 -- Bounded m list S t x row next == no such transition from a state of which S holds into the row `next` would lower a number of the row
 -- Marked S row next          == nor would a change of mode at such a state
-use Prim.Native.Nat.{ℕ, zero, suc, _≤_, _<_}
+use Prim.Native.Nat.{ℕ, suc, _≤_, _<_}
 use mathlib.Core.Path.{_≡_}
-use mathlib.Core.Bool.{Bool, true, false}
-use mathlib.Core.List.{List, [], _∷_}
+use mathlib.Core.Bool.{true}
+use mathlib.Core.List.{List, []}
 use lib.ListN.{length, getD}
 use Rattle.stateset.specs.Set.{In}
 use Rattle.graphs.specs.Paths.{Path}
@@ -24,7 +24,7 @@ use Rattle.fsbm.specs.Machine.{transitionAt}
 use Rattle.fsbm.specs.Published.{fsbmOf, Configuration, config, Yields}
 use Rattle.fsbm.specs.declared.machine.Machine.{Machine}
 use Rattle.fsbm.specs.declared.config.Mode.{Mode}
-use Rattle.fsbm.specs.declared.config.Mode.the-variants.{Normal, Buffering, Emptying}
+use Rattle.fsbm.specs.declared.config.Mode.the-variants.{Normal}
 use Rattle.language.specs.NoWord.{passable}
 pub mod Laws
 

@@ -14,18 +14,17 @@
 -- Settled m list near starts h n b e == no move within a place that reads nothing would lower a number of its three rows
 -- ClosedPlace .. n b e n′ b′ e′ == the three rows, lowered until they are Settled
 -- PlaceLayer           == the three rows of a place, from those of the layers after it
-use Prim.Native.Nat.{ℕ, zero, suc, _+_, _≤_, _<_}
+use Prim.Native.Nat.{ℕ, _+_, _≤_, _<_}
 use mathlib.Core.Path.{_≡_}
 use mathlib.Core.Logic.{_↔_}
 use mathlib.Core.Bool.{Bool, true, false, cond}
 use mathlib.Core.List.{List, [], _∷_, _++_}
 use lib.ListN.{length, replicate}
 use Rattle.stateset.specs.Set.{In}
-use Rattle.fsbm.specs.Machine.{transitionAt, final, buffering, matching}
+use Rattle.fsbm.specs.Machine.{final, buffering, matching}
 use Rattle.fsbm.specs.declared.machine.Machine.{Machine}
-use Rattle.fsbm.specs.declared.config.Mode.{Mode}
 use Rattle.fsbm.specs.declared.config.Mode.the-variants.{Normal, Buffering, Emptying}
-use Rattle.layers.specs.Costs.{none, at, Near, RowReal, RowBest, Leads, Bounded, Marked}
+use Rattle.layers.specs.Costs.{none, at, Near, RowReal, RowBest, Bounded, Marked}
 use Rattle.layers.specs.Rows.{weight}
 pub mod Laws
 

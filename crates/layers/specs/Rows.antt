@@ -19,7 +19,7 @@
 -- LeastOf row t r            == r is the least number of the states of t in the row
 -- Closed m list S t row row′ == row′ is row, lowered along transitions that read nothing, from states of which S holds, until none of them
 --                               would lower it further
-use Prim.Native.Nat.{ℕ, zero, suc, _+_, _≤_, _<_}
+use Prim.Native.Nat.{ℕ, suc, _+_, _≤_, _<_}
 use mathlib.Core.Path.{_≡_}
 use mathlib.Core.Logic.{_⊎_, _↔_}
 use mathlib.Core.Bool.{Bool, true, false, cond}
@@ -31,7 +31,7 @@ use Rattle.fsbm.specs.Machine.{wellFormed, transitionAt, buffering, matching}
 use Rattle.fsbm.specs.Published.{Listed}
 use Rattle.fsbm.specs.declared.machine.Machine.{Machine}
 use Rattle.fsbm.specs.declared.config.Mode.{Mode}
-use Rattle.fsbm.specs.declared.config.Mode.the-variants.{Normal, Buffering, Emptying}
+use Rattle.fsbm.specs.declared.config.Mode.the-variants.{Normal}
 use Rattle.targets.specs.Prepared.{Row}
 use Rattle.images.specs.Graph.{May}
 use Rattle.layers.specs.declared.row.Sum.{Sum}

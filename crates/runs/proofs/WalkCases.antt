@@ -5,17 +5,15 @@
 -- entry-found, entry-change        == the returns of entry
 -- refresh-kept .. refresh-normal   == the returns of refresh
 -- known                            == what the tables are filled from
--- start-begin, start-skip, start-first, start-less, start-more == the loop of start
-use Prim.Native.Nat.{ℕ, zero, suc, _+_, _-_, _*_, _/_, _%_, _≤_, _<_}
+-- start-begin, start-skip, start-takes, start-keeps, start-end == the loop of start
+use Prim.Native.Nat.{ℕ, _+_, _-_, _/_, _%_, _≤_, _<_}
 use mathlib.Core.Path.{_≡_, refl, sym, ap, _∙_, subst}
-use mathlib.Core.Logic.{_⊎_, inl, inr}
 use mathlib.Core.Bool.{Bool, true, false, false≢true}
-use mathlib.Core.List.{List, [], _∷_}
+use mathlib.Core.List.{List}
 use native.Mathlib.Omega.{arith}
 use native.Mathlib.Decide.{ℕ-discrete, decLt}
 use native.Mathlib.Numerals.{add-one}
 use lib.ListN.{length, getD}
-use lib.Seq.{slice}
 use lib.Dec.{eqb}
 use borrow.Author.Tests.{eqb-true, eqb-false, eq-eqb}
 use Rattle.graphs.specs.Search.Laws.{not-both}
@@ -26,8 +24,6 @@ use Rattle.fsbm.specs.declared.machine.Machine.{Machine}
 use Rattle.fsbm.specs.declared.machine.Transition.{Transition}
 use Rattle.fsbm.specs.declared.config.Config.{Config}
 use Rattle.fsbm.specs.declared.config.Move.{Move}
-use Rattle.fsbm.specs.declared.config.Mode.{Mode}
-use Rattle.fsbm.specs.declared.config.Mode.the-variants.{Normal, Buffering, Emptying}
 use Rattle.fsbm.specs.Rules.{Rules, rules, placed, buffering-below, matching-below}
 use Rattle.fsbm.specs.Moves.Laws.{move-placed}
 use Rattle.language.specs.Agreement.{published}
@@ -36,8 +32,8 @@ use Rattle.adjacency.specs.Index.{Index}
 use Rattle.targets.specs.Prepared.{Prepared}
 use Rattle.images.specs.Graph.{KindsOf}
 use Rattle.images.specs.declared.Kinds.{Kinds}
-use Rattle.tables.specs.Tables.{nearOf, Known, rowAt, PlaceRows, EmptyRow, BufferRow, EmptyingRows, BufferingRows, Sized}
-use Rattle.runs.specs.Walk.{endOf, Second, Ready, changeEntry, Tried, Scanned, Entered, Fresh, Refreshed, Started}
+use Rattle.tables.specs.Tables.{nearOf, Known, EmptyingRows, BufferingRows}
+use Rattle.runs.specs.Walk.{endOf, Ready, changeEntry, Tried, Scanned, Entered, Fresh, Refreshed, Started}
 use Rattle.runs.specs.Walk.Laws.{move-from, ready-step, go-kept, change-must, Walking, walk-fresh}
 
 pub best-at : {m : Machine} {list : List ℕ} {N : ℕ → ℕ} {C : Configuration} (d e : ℕ) → e ≡ d → Best m list N C d → Best m list N C e

@@ -15,7 +15,7 @@
 use Prim.Native.Nat.{ℕ, _+_, _-_, _≤_, _<_}
 use mathlib.Core.Path.{_≡_}
 use mathlib.Core.Bool.{Bool, true, false}
-use mathlib.Core.List.{List, [], _∷_, _++_}
+use mathlib.Core.List.{List, _++_}
 use lib.ListN.{length, take, drop}
 use lib.Seq.{slice}
 use Rattle.fsbm.specs.Machine.{initial}
@@ -25,7 +25,7 @@ use Rattle.fsbm.specs.declared.config.Config.{Config}
 use Rattle.fsbm.specs.declared.config.Mode.{Mode}
 use Rattle.fsbm.specs.declared.config.Mode.the-variants.{Normal, Buffering, Emptying}
 use Rattle.language.specs.Agreement.{published}
-use Rattle.layers.specs.Costs.{none, at, Best}
+use Rattle.layers.specs.Costs.{at, Best}
 use Rattle.layers.specs.Layers.{Begins}
 use Rattle.tables.specs.Tables.{nearOf, rowAt, PlaceRows, EmptyRow, BufferRow, Sized}
 pub mod Laws

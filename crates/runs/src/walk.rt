@@ -535,7 +535,7 @@ fn write_sized(
 // targets is the table of target sets prepared for the word, kinds the states by their marks, reached the states that runs reach.
 // Time: for each position that runs reach its states, and for each stretch that stands twice in a row from where a copy may begin to
 // where one may end, the states; for each state its targets, where none of them has the least number of all. Memory: by the sizes of
-// its tables 340 KB of stack for a word of more than 63 letters, 84 KB for one of more than 15, else 21 KB.
+// its tables 328 KB of stack for a word of more than 63 letters, 82 KB for one of more than 15, else 21 KB.
 pub fn write_run(
     m: Machine,
     list: &[u16],

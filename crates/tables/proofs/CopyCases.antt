@@ -10,24 +10,24 @@
 -- storing-start, storing-next, storing-skip, storing-end == the loop of storing_row
 -- starting-none, starting-some == the returns of starting_row
 -- buffer-rows-start, buffer-rows-next, buffer-rows-end == the loop of buffering_rows
-use Prim.Native.Nat.{ℕ, zero, suc, _+_, _-_, _*_, _/_, _≤_, _<_}
+use Prim.Native.Nat.{ℕ, zero, suc, _+_, _-_, _/_, _≤_, _<_}
 use mathlib.Core.Path.{_≡_, refl, sym, ap, _∙_, subst}
-use mathlib.Core.Logic.{_⊎_, inl, inr}
-use mathlib.Core.Bool.{Bool, true, false, false≢true}
-use mathlib.Core.List.{List, [], _∷_}
+use mathlib.Core.Logic.{inl, inr}
+use mathlib.Core.Bool.{true, false, false≢true}
+use mathlib.Core.List.{List, []}
 use native.Mathlib.Omega.{arith}
-use native.Mathlib.Decide.{ℕ-discrete, decLt}
+use native.Mathlib.Decide.{ℕ-discrete}
 use lib.ListN.{length, getD, set, drop, length-set}
 use lib.Seq.{slice, getD-set-same, getD-set-other}
 use Rattle.fsbm.specs.declared.machine.Machine.{Machine}
-use Rattle.fsbm.specs.declared.config.Mode.the-variants.{Normal, Buffering, Emptying}
+use Rattle.fsbm.specs.declared.config.Mode.the-variants.{Emptying}
 use Rattle.fsbm.specs.Rules.{Rules}
 use Rattle.layers.specs.Costs.{RowBest}
 use Rattle.layers.specs.Layers.Laws.{blank-buffering}
 use Rattle.layers.specs.Layers.{blankRow, EmptyingLayer, BufferingLayer}
 use Rattle.tables.specs.declared.copy.Layer.{Layer}
 use Rattle.tables.specs.declared.copy.Tail.{Tail}
-use Rattle.tables.specs.Halves.{Halves, Matched, SharedFrom}
+use Rattle.tables.specs.Halves.{Halves, SharedFrom}
 use Rattle.tables.specs.Halves.Laws.{shared-halves, shared-unequal}
 use Rattle.tables.specs.Tables.{nearOf, rowAt, EmptyRow, BufferRow, EmptyingRows, BufferingRows, Told, EmptyLayer, BufferLayer, ChangeLayer, BlankFrom, Wound, EndRow, Ends, Idle, Skipped, EndedRow, ChangedRow, StoredRow, StoringRow, StartingRow}
 use Rattle.tables.specs.Tables.Laws.{empty-next, blank-on, emptied-row, unmatched-row, buffer-past, buffer-next}

@@ -7,28 +7,27 @@
 use Prim.Native.Nat.{ℕ, zero, suc, _+_, _-_, _*_, _≤_, _<_}
 use mathlib.Core.Path.{_≡_, refl, sym, ap, _∙_, subst}
 use mathlib.Core.Logic.{_⊎_, inl, inr}
-use mathlib.Core.Bool.{Bool, true, false, false≢true}
-use mathlib.Core.List.{List, [], _∷_}
+use mathlib.Core.Bool.{true, false, false≢true}
+use mathlib.Core.List.{List, []}
 use native.Mathlib.Omega.{arith}
 use native.Mathlib.Decide.{ℕ-discrete, decLt}
-use lib.ListN.{length, getD, set, drop, length-set, replicate, length-replicate, getD-replicate, List·getD-eq-default}
+use lib.ListN.{length, getD, set, drop, length-set, replicate, getD-replicate, List·getD-eq-default}
 use lib.Bits.{bitAnd}
 use lib.Seq.{slice, getD-set-same, getD-set-other}
 use Rattle.graphs.specs.Search.Laws.{true-or-false}
 use Rattle.stateset.specs.Set.{In, below, SetIs}
 use Rattle.stateset.specs.Set.Laws.{empty-in}
 use Rattle.fsbm.specs.declared.machine.Machine.{Machine}
-use Rattle.fsbm.specs.declared.config.Mode.the-variants.{Normal, Buffering, Emptying}
+use Rattle.fsbm.specs.declared.config.Mode.the-variants.{Normal, Emptying}
 use Rattle.fsbm.specs.Rules.{Rules, rules}
 use Rattle.layers.specs.Costs.{RowBest}
 use Rattle.layers.specs.Rows.{Given}
-use Rattle.layers.specs.Layers.{blankRow, NoneBelow, Begins, PlaceLayer, PlaceBest}
-use Rattle.tables.specs.declared.copy.Layer.{Layer}
+use Rattle.layers.specs.Layers.{blankRow, NoneBelow, Begins, PlaceBest}
 use Rattle.layers.specs.declared.layer.Place.{Place}
 use Rattle.layers.specs.Layers.Laws.{blank-none, blank-place, none-best}
 use Rattle.tables.specs.Halves.{SharedFrom}
-use Rattle.tables.specs.Tables.{nearOf, rowAt, PlaceRows, EmptyRow, BufferRow, BufferLayer, EndRow, Ends, StoringRow, putPlace, Placed, Sizes, Filling, Filled}
-use Rattle.tables.specs.Tables.Laws.{empty-start, blank-on, nears, place-before, place-end}
+use Rattle.tables.specs.Tables.{nearOf, rowAt, PlaceRows, EmptyRow, EndRow, Ends, putPlace, Placed, Filling, Filled}
+use Rattle.tables.specs.Tables.Laws.{empty-start, blank-on, nears, place-before}
 use Rattle.tables.proofs.CopyCases.{row-same, row-other}
 
 module _ (t : List (List ℕ)) (p : ℕ) (place : Place) (l : p * 3 + 3 ≤ length t) where

@@ -3,14 +3,14 @@
 -- halves-differ, halves-more, halves-end == the loop of halves_match
 -- counted-start, counted-next, counted-end == the loop of count_shared
 use Prim.Native.Nat.{ℕ, _+_, _-_, _≤_, _<_}
-use mathlib.Core.Path.{_≡_, refl, sym, ap, _∙_}
-use mathlib.Core.Bool.{Bool, true, false, false≢true}
+use mathlib.Core.Path.{_≡_, sym, ap, _∙_}
+use mathlib.Core.Bool.{true, false, false≢true}
 use mathlib.Core.List.{List}
 use native.Mathlib.Omega.{arith}
 use native.Mathlib.Decide.{ℕ-discrete, decLt}
 use lib.ListN.{length, getD, set, length-set}
 use lib.Seq.{getD-set-same, getD-set-other}
-use Rattle.tables.specs.Halves.{Halves, Matched, Shared, SharedFrom}
+use Rattle.tables.specs.Halves.{Matched, Shared, SharedFrom}
 use Rattle.tables.specs.Halves.Laws.{shared-past}
 
 module _ (w : List ℕ) (i d k : ℕ) where

@@ -28,18 +28,18 @@
 use Prim.Native.Nat.{ℕ, _+_, _-_, _*_, _/_, _≤_, _<_}
 use mathlib.Core.Path.{_≡_}
 use mathlib.Core.Logic.{_⊎_}
-use mathlib.Core.Bool.{Bool, true, false}
-use mathlib.Core.List.{List, [], _∷_}
+use mathlib.Core.Bool.{true, false}
+use mathlib.Core.List.{List, []}
 use lib.ListN.{length, getD, drop, set}
 use lib.Seq.{slice}
 use lib.Bits.{bitAnd}
 use Rattle.stateset.specs.Set.{below}
 use Rattle.targets.specs.Prepared.{Row}
 use Rattle.fsbm.specs.declared.machine.Machine.{Machine}
-use Rattle.fsbm.specs.declared.config.Mode.the-variants.{Normal, Buffering, Emptying}
+use Rattle.fsbm.specs.declared.config.Mode.the-variants.{Buffering, Emptying}
 use Rattle.layers.specs.Costs.{RowBest}
 use Rattle.layers.specs.Rows.{Given}
-use Rattle.layers.specs.Layers.{blankRow, Begins, BufferingLayer, PlaceBest}
+use Rattle.layers.specs.Layers.{blankRow, BufferingLayer, PlaceBest}
 use Rattle.tables.specs.declared.copy.Layer.{Layer}
 use Rattle.layers.specs.declared.layer.Place.{Place}
 use Rattle.tables.specs.Halves.{Halves, SharedFrom}

@@ -11,9 +11,9 @@
 --                       a stored one is no longer than the input
 -- best-none          == where there is no way, none is Best
 use Prim.Native.Nat.{ℕ, zero, suc, _+_, _≤_, _<_}
-use mathlib.Core.Path.{_≡_, refl, sym, ap, _∙_, subst, subst₂}
+use mathlib.Core.Path.{_≡_, refl, sym, ap, subst}
 use mathlib.Core.Logic.{_⊎_, inl, inr}
-use mathlib.Core.Bool.{Bool, true, false, not, _&&_}
+use mathlib.Core.Bool.{Bool, true, not}
 use mathlib.Core.List.{List, [], _∷_, _++_, append-nil}
 use native.Mathlib.Omega.{arith}
 use lib.ListN.{length, length-append}
@@ -25,7 +25,6 @@ use Rattle.fsbm.specs.declared.machine.Machine.{Machine}
 use Rattle.fsbm.specs.declared.config.Mode.{Mode}
 use Rattle.fsbm.specs.declared.config.Mode.the-variants.{Normal, Buffering, Emptying}
 use Rattle.graphs.specs.Bools.{not-says, says-not, not-and-says, says-not-and}
-use Rattle.language.specs.NoWord.{passable}
 use Rattle.layers.specs.Costs.{none, Near, Step, Go, Best, Leads}
 
 unfoldable pub Fits : List ℕ → List ℕ → Mode → Type 0

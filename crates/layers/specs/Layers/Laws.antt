@@ -22,8 +22,8 @@ use Rattle.fsbm.specs.Published.{fsbmOf, Configuration, config}
 use Rattle.fsbm.specs.declared.machine.Machine.{Machine}
 use Rattle.fsbm.specs.declared.config.Mode.{Mode}
 use Rattle.fsbm.specs.declared.config.Mode.the-variants.{Normal, Buffering, Emptying}
-use Rattle.fsbm.specs.Rules.{Rules, buffering-below, matching-below}
-use Rattle.layers.specs.Costs.{none, Near, Go, Best, at, RowReal, RowBest, Leads, Bounded, Marked}
+use Rattle.fsbm.specs.Rules.{Rules, matching-below}
+use Rattle.layers.specs.Costs.{none, Near, Go, at, RowReal, RowBest, Leads, Bounded, Marked}
 use Rattle.layers.specs.Costs.Laws.{Cases, silent, normal-letter, buffer-letter, empty-letter, to-buffering, to-emptying, to-normal, layer-least}
 use Rattle.layers.specs.Layers.{headOf, tailOf, blankRow, NoneBelow, EmptyingLayer, BufferingLayer, Begins, Sets, Settled, PlaceReal, PlaceBest, PlaceLayer}
 

@@ -22,7 +22,7 @@ use lib.Seq.{getD-set-same, getD-set-other}
 use borrow.Author.Tests.{ltb-true, ltb-false}
 use Rattle.stateset.specs.Set.{width, In}
 use Rattle.stateset.specs.Set.Laws.{empty-in}
-use Rattle.fsbm.specs.Machine.{transitionAt, buffering, matching}
+use Rattle.fsbm.specs.Machine.{transitionAt, matching}
 use Rattle.fsbm.specs.Published.{Listed, fsbmOf, Configuration, config, Yields}
 use Rattle.fsbm.specs.declared.machine.Machine.{Machine}
 use Rattle.fsbm.specs.Rules.{rules}
@@ -33,7 +33,7 @@ use Rattle.targets.specs.Prepared.{Row}
 use Rattle.images.specs.Graph.{May}
 use Rattle.layers.specs.Costs.{none, Near, Go, at, Leads, Bounded, Marked, RowReal}
 use Rattle.layers.specs.Costs.Laws.{silent-yields, go-step, normal-leads, buffer-leads, empty-leads, normal-apart, buffer-apart, empty-apart, the-listed}
-use Rattle.layers.specs.Rows.{Given, weight, lowered, Lowered, Lowering, Through, Beside, Only, Within, Swept, Reads, Cut, LeastOf, Closed}
+use Rattle.layers.specs.Rows.{Given, weight, lowered, Lowered, Lowering, Through, Beside, Only, Within, Swept, Reads, Closed}
 
 weight-set : (row : List ℕ) (a v : ℕ) → a < length row → weight (set row a v) + at row a ≡ weight row + v
 unfolding weight

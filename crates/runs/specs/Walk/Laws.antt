@@ -8,10 +8,10 @@
 -- go-second                    == a way to acceptance from emptying mode: the buffer stands at the front of the input
 -- go-kept, run-kept            == what has a way of moves, or is reached by a run, is kept
 -- accepts-go, go-accepts, entries-go == runs and ways
-use Prim.Native.Nat.{ℕ, zero, suc, _+_, _-_, _*_, _≤_, _<_}
+use Prim.Native.Nat.{ℕ, suc, _+_, _-_, _*_, _≤_, _<_}
 use mathlib.Core.Path.{_≡_, refl, sym, ap, _∙_, subst}
 use mathlib.Core.Logic.{_⊎_, inl, inr}
-use mathlib.Core.Bool.{Bool, true, false, cond, not, _&&_, false≢true}
+use mathlib.Core.Bool.{Bool, true, false, cond, _&&_, false≢true}
 use mathlib.Core.List.{List, [], _∷_, _++_, append-nil, append-assoc}
 use native.Mathlib.Omega.{arith}
 use native.Mathlib.Decide.{decLt}
@@ -20,11 +20,10 @@ use native.Mathlib.Nat.{mul-le-mul-left}
 use lib.ListN.{length, getD, set, take, drop, length-set, length-drop, length-append, take-append-drop}
 use lib.Seq.{slice, slice-cons, slice-empty, length-slice, ext-getD, drop-length, drop-set-lt, drop-drop, take-suc-set}
 use lib.Dec.{ltb, eqb}
-use borrow.Author.Tests.{ltb-true, ltb-false, eqb-true, eqb-false, eq-eqb, lt-ltb}
-use lib.Bits.{bitAnd}
-use Rattle.stateset.specs.Set.{width, In, below}
+use borrow.Author.Tests.{ltb-true, ltb-false, eqb-true, eq-eqb, lt-ltb}
+use Rattle.stateset.specs.Set.{width, below}
 use Rattle.stateset.specs.Set.Laws.{in-and, below-is}
-use Rattle.graphs.specs.Search.Laws.{and-true, and-both-true, true-or-false, not-both}
+use Rattle.graphs.specs.Search.Laws.{and-true, and-both-true, true-or-false}
 use Rattle.graphs.specs.Paths.{Path, here, step}
 use Rattle.fsbm.specs.Machine.{wellFormed, transitionAt, buffering, matching, bothMatching, final, initial}
 use Rattle.fsbm.specs.Moves.{wellPlaced, bufferFits, readsLetter, advanced, goes, takes, changes, move, isNormal, accepts, acceptingFrom, accepting, startAt, beginBuffering, beginEmptying, backToNormal}
@@ -44,14 +43,14 @@ use Rattle.language.specs.Strings.{slice-none}
 use Rattle.fsbm.specs.Entries.{entryOf}
 use Rattle.language.specs.Agreement.{published, move-yields, yields-move}
 use Rattle.language.specs.NoWord.{nextMode}
-use Rattle.layers.specs.Costs.{none, at, Near, Step, Go, Best, RowBest}
+use Rattle.layers.specs.Costs.{none, at, Near, Step, Go, Best}
 use Rattle.layers.specs.Costs.Laws.{Fits, go-fit, go-step}
-use Rattle.layers.specs.Layers.{blankRow, Begins, PlaceBest}
+use Rattle.layers.specs.Layers.{blankRow, Begins}
 use Rattle.layers.specs.Layers.Laws.{blank-at}
-use Rattle.tables.specs.Tables.{nearOf, Known, rowAt, PlaceRows, EmptyRow, BufferRow, Sized}
+use Rattle.tables.specs.Tables.{nearOf, rowAt, PlaceRows, EmptyRow, BufferRow, Sized}
 use Rattle.tables.specs.Tables.Laws.{slice-at, front-letters, buffer-past}
 use Rattle.decide.specs.Covers.{Covers}
-use Rattle.runs.specs.Walk.{endOf, Second, Ready, changeEntry, Scanned, Entered, Fresh, Refreshed, Started, Written}
+use Rattle.runs.specs.Walk.{endOf, Second, Ready, changeEntry, Entered, Fresh, Refreshed, Started, Written}
 
 -- Where the cost is read from
 

@@ -2,7 +2,7 @@
 --
 -- empty-start, empty-next    == the rows of a second half, from its end back
 -- blank-on                   == a blank row of a second half stays blank
--- halves-slices, slices-halves == equal halves as strings
+-- halves-slices              == equal halves as strings
 -- emptied-row, unmatched-row == the row after the change of mode, where the halves match and where they do not
 -- buffer-past                == the row of a buffer that is longer than what is left of the word
 -- buffer-next                == the rows of a first half, from its end back
@@ -11,21 +11,21 @@
 use Prim.Native.Nat.{ℕ, zero, suc, _+_, _-_, _*_, _≤_, _<_}
 use mathlib.Core.Path.{_≡_, refl, sym, ap, _∙_, subst}
 use mathlib.Core.Logic.{_↔_}
-use mathlib.Core.Bool.{Bool, true, false}
+use mathlib.Core.Bool.{Bool, true}
 use mathlib.Core.List.{List, [], _∷_, _++_}
 use native.Mathlib.Omega.{arith}
 use native.Mathlib.Numerals.{add-one}
 use native.Mathlib.Decide.{ℕ-discrete}
 use lib.ListN.{length, getD, take, drop, length-drop, List·getD-append}
-use lib.Seq.{slice, slice-cons, slice-empty, length-slice, drop-cons, take-suc, getD-drop, getD-take, ext-getD, take-length, drop-length, drop-append-le, length-take-le}
+use lib.Seq.{slice, slice-cons, slice-empty, length-slice, drop-cons, take-suc, getD-drop, getD-take, ext-getD, drop-length, drop-append-le, length-take-le}
 use lib.Bits.{bitAnd}
 use Rattle.stateset.specs.Set.{In, below}
-use Rattle.fsbm.specs.Published.{Configuration, config}
+use Rattle.fsbm.specs.Published.{config}
 use Rattle.fsbm.specs.declared.machine.Machine.{Machine}
 use Rattle.fsbm.specs.declared.config.Mode.{Mode}
 use Rattle.fsbm.specs.declared.config.Mode.the-variants.{Normal, Buffering, Emptying}
 use Rattle.fsbm.specs.Rules.{Rules}
-use Rattle.layers.specs.Costs.{none, Near, at, Go, Best, RowBest}
+use Rattle.layers.specs.Costs.{Near, at, Go, RowBest}
 use Rattle.layers.specs.Costs.Laws.{Fits, go-fit, best-none}
 use Rattle.layers.specs.Layers.{headOf, tailOf, blankRow, EmptyingLayer, BufferingLayer, Begins, PlaceLayer, PlaceBest}
 use Rattle.layers.specs.Layers.Laws.{blank-at, blank-emptying}
