@@ -3,14 +3,18 @@ ghost use Prim.Native.Nat.{ℕ, _+_, _*_, _≤_, _<_};
 ghost use mathlib.Core.Path.{_≡_};
 ghost use mathlib.Core.Bool.{true, false};
 ghost use lib.ListN.{length, getD};
-ghost use Rattle.fsbm.specs.Accepted.{runBound};
+ghost use Rattle.fsbm.specs.Accepted.{accepted, runBound};
 ghost use Rattle.fsbm.specs.Answers.{tableAndWord};
-ghost use Rattle.images.specs.Graph.{setOf};
+ghost use Rattle.images.specs.Graph.{setOf, KindsOf};
+ghost use Rattle.targets.specs.Prepared.{Prepared};
+ghost use Rattle.decide.specs.Covers.{Covers};
 ghost use Rattle.recognize.specs.Recognition.{longestRecognized, Recognition};
 use decide::places;
+use decide::places::Reached;
 use fsbm::answer;
 use fsbm::answer::Refusal;
 use fsbm::machine::Machine;
+use images::Kinds;
 use runs::walk;
 
 // The answer of recognize: turned down, no, or yes with the number of entries of the run.
@@ -20,7 +24,18 @@ pub enum Recognized {
     Yes(usize),
 }
 
-// The answer to input that is not refused, with a table of zeros lent that is prepared for the word.
+// The states that runs reach, and whether the word is accepted, with a table of zeros lent that is prepared for the word.
+fn reach(m: Machine, list: &[u16], targets: &mut [u64], kinds: Kinds, word: &[u8]) -> Reached
+    requires { ⌜ (tableAndWord longestRecognized m (now list) (now word) ≡ 0) × (setOf (m .states) (m .letters) (m .states) ≤ length (now targets))
+        × ((i : ℕ) → getD (now targets) i 0 ≡ 0) × KindsOf (m .marks) (m .states) kinds ⌝ }
+    ensures { λ r. ⌜ (r .accepted ≡ accepted m (now (list .entry)) (now (word .entry))) × Covers m (now (list .entry)) (now (word .entry)) (r .sets)
+        × Prepared m (now (list .entry)) (now (word .entry)) (now (targets .exit)) ⌝ }
+{
+    targets::prepare_for(m, list, word, targets);
+    places::decide(m, list, &*targets, kinds, word)
+}
+
+// The answer to input that is not refused, with a table of zeros lent.
 fn answer_with(
     m: Machine,
     list: &[u16],
@@ -33,9 +48,8 @@ fn answer_with(
         × (setOf (m .states) (m .letters) (m .states) ≤ length (now targets)) × ((i : ℕ) → getD (now targets) i 0 ≡ 0) ⌝ }
     ensures { λ r. ⌜ Recognition m (now (list .entry)) (now (word .entry)) (now (run .entry)) (now (run .exit)) r ⌝ }
 {
-    targets::prepare_for(m, list, word, targets);
     let kinds = images::kinds_of(&m.marks, m.states);
-    let reached = places::decide(m, list, &*targets, kinds, word);
+    let reached = reach(m, list, targets, kinds, word);
     if !reached.accepted {
         return Recognized::No;
     }
@@ -43,14 +57,22 @@ fn answer_with(
     Recognized::Yes(entries)
 }
 
-// The answer on a machine whose table has at most 160 sets, at most 2,048, and any number: a small table is cleared sooner.
+// The answer on a machine whose table has at most 160 sets, at most 2,048, and any number: a small table is cleared sooner. The first
+// does what answer_with does, and so the run writer is called from two places: the compiler then leaves it, with the large tables of
+// long words, in a function of its own, and a word that is not accepted does not pay for their frame.
 fn answer_small(m: Machine, list: &[u16], word: &[u8], needed: usize, run: &mut [u16]) -> Recognized
     requires { ⌜ (tableAndWord longestRecognized m (now list) (now word) ≡ 0) × (needed ≡ runBound m (length (now word))) × (needed ≤ length (now run))
         × (setOf (m .states) (m .letters) (m .states) ≤ 160) ⌝ }
     ensures { λ r. ⌜ Recognition m (now (list .entry)) (now (word .entry)) (now (run .entry)) (now (run .exit)) r ⌝ }
 {
     let mut targets: [u64; 160] = [0; 160];
-    answer_with(m, list, &mut targets, word, needed, run)
+    let kinds = images::kinds_of(&m.marks, m.states);
+    let reached = reach(m, list, &mut targets, kinds, word);
+    if !reached.accepted {
+        return Recognized::No;
+    }
+    let entries = walk::write_run(m, list, &targets, kinds, word, reached, run);
+    Recognized::Yes(entries)
 }
 
 fn answer_medium(
