@@ -483,30 +483,7 @@ fn write_short(
     )
 }
 
-// write_run for a word of more than 15 letters, in tables that are no larger than the word needs.
-fn write_longer(
-    m: Machine,
-    list: &[u16],
-    targets: &[u64],
-    g: u64,
-    h: u64,
-    sets: &[u64; 256],
-    word: &[u8],
-    run: &mut [u16],
-) -> usize
-    requires { ⌜ (wellFormed m (now list) ≡ true) × (length (now word) ≤ 255) × (accepted m (now list) (now word) ≡ true) × (runBound m (length (now word)) ≤ length (now run)) × Known m (now list) (now targets) g h (now word)
-        × Covers m (now list) (now word) (now sets) ⌝ }
-    ensures { λ r. ⌜ Written m (now (list .entry)) (now (word .entry)) r (now (run .entry)) (now (run .exit)) ⌝ }
-{
-    if word.len() < 64 {
-        return write_medium(m, list, targets, g, h, sets, word, run);
-    }
-    write_long(m, list, targets, g, h, sets, word, run)
-}
-
-// write_run in tables that are no larger than the word needs. The call for longer words stands in two places, so that the compiler
-// leaves it in a function of its own: a function touches each page of its frame before it begins, and a short word would pay for the
-// tables of a long one.
+// write_run with the sets that are given lent, in tables that are no larger than the word needs.
 fn write_sized(
     m: Machine,
     list: &[u16],
@@ -525,9 +502,9 @@ fn write_sized(
         return write_short(m, list, targets, g, h, sets, word, run);
     }
     if word.len() < 64 {
-        return write_longer(m, list, targets, g, h, sets, word, run);
+        return write_medium(m, list, targets, g, h, sets, word, run);
     }
-    write_longer(m, list, targets, g, h, sets, word, run)
+    write_long(m, list, targets, g, h, sets, word, run)
 }
 
 // Writes an accepting run of a word that the machine accepts to the front of the slice, and hands back the number of its entries.

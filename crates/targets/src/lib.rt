@@ -17,10 +17,8 @@ ghost use Rattle.images.specs.Graph.{setOf};
 ghost use Rattle.targets.specs.Prepared.{Prepared, Lettered, Whole, Wanted, Inside, Filled, Made, Sources};
 use fsbm::machine::Machine;
 
-// How many sets the table of the largest machine has: the first one, and 64 for each of 250 letters and letter 0.
-pub const MAX_SETS: usize = 16065;
-
-// How many sets the table of a machine has.
+// How many sets the table of a machine has: the first one, and one for each state and letter, letter 0 among them. That of the largest
+// machine has 16,065.
 pub fn sets_of(m: Machine) -> usize
     requires { ⌜ (m .states ≤ 64) × (m .letters ≤ 250) ⌝ }
     ensures { λ r. ⌜ r ≡ setOf (m .states) (m .letters) (m .states) ⌝ }
