@@ -71,8 +71,8 @@ fn answer_small(m: Machine, list: &[u16], word: &[u8], needed: usize, run: &mut 
     if !reached.accepted {
         return Recognized::No;
     }
-    let entries = walk::write_run(m, list, &targets, kinds, word, reached, run);
-    Recognized::Yes(entries)
+    let count = walk::write_run(m, list, &targets, kinds, word, reached, run);
+    Recognized::Yes(count)
 }
 
 fn answer_medium(
