@@ -244,10 +244,9 @@ typedef struct {
  * Refuses, in this order: 16, 9 over 255 letters, 8, 17 if run has fewer than 3 x states x (word_len + 1) elements,
  * whatever the answer would be.
  *
- * Time: one pass over the machine and the word, then sets of states: at most word_len^2 / 2 of them for the answer, and
- * for a run a search along them. Memory, on the stack and no heap: 45 KB for a word of at most 15 different letters,
- * 65 KB of at most 31, 210 KB for others, and 110 KB more for a run of more than 16 entries for each letter; where no
- * search finds a run, which no word is known to come to, 165 KB more.
+ * Time: one pass over the machine and the word, then sets of states, at most word_len^2 / 2 of them for the answer; for a
+ * run rows of fewest entries, at most word_len^2 / 2 of them too. Memory, on the stack and no heap: 464 KB if the word is
+ * accepted, else 135 KB.
  */
 zagvirk_recognized zagvirk_recognize(zagvirk_machine machine, const uint16_t *list, size_t list_len,
                                      const uint8_t *word, size_t word_len, uint16_t *run, size_t run_len);
