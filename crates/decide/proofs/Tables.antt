@@ -24,19 +24,21 @@ use Rattle.fsbm.specs.declared.config.Mode.{Mode}
 use Rattle.fsbm.specs.Rules.{Rules, rules, marked}
 use Rattle.targets.specs.Prepared.{Row, Prepared}
 use Rattle.decide.specs.Reach.{Rooms}
-use Rattle.images.specs.Graph.{Members, graph, May, Edge, Good}
+use Rattle.images.specs.Graph.{Members, graph, May, Edge, Good, KindsOf}
+use Rattle.images.specs.declared.Kinds.{Kinds}
 
 -- x is letter 0 or a letter of w
 abbrev pub Read : List ℕ → ℕ → Type 0
 Read w x = (x ≡ 0) ⊎ ((i : ℕ) × (i < length w) × (getD w i 0 ≡ x) × (0 < x))
 
 module _ {m : Machine} {list w targets : List ℕ} (t : Prepared m list w targets) where
-  pub good-table : wellFormed m list ≡ true → Good targets (m .states)
-  good-table good =
+  pub good-table : wellFormed m list ≡ true → (k : Kinds) → KindsOf (m .marks) (m .states) k → Good targets (m .states) (k .buffering) (k .matching)
+  good-table good k kinds =
       record {
         few = rules m list good .states-fit;
         row = t .epsilon .room;
         epsilons = λ p q lt h. t .sources p q (t .epsilon .listed p q lt .0 h);
+        closed = t .closed k kinds;
       }
 
   pub rooms : Rooms targets (m .states) w

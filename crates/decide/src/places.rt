@@ -44,7 +44,7 @@ fn copies_from(
     starts: u64,
     last: usize,
 )
-    requires { ⌜ Good (now targets) states × Rooms (now targets) states (now word) × (i ≤ length (now word)) × (length (now word) ≤ 255) × Ends (now word) (now ends) (λ d. i + d) × Fitting 256 (now sets) × LastSquare (now word) i last ⌝ }
+    requires { ⌜ Good (now targets) states g h × Rooms (now targets) states (now word) × (i ≤ length (now word)) × (length (now word) ≤ 255) × Ends (now word) (now ends) (λ d. i + d) × Fitting 256 (now sets) × LastSquare (now word) i last ⌝ }
     ensures { λ r. ⌜ Ends (now (word .entry)) (now (ends .exit)) (λ d. i + d) × Fitting 256 (now (sets .exit))
         × Copied (graph (now (targets .entry)) states g h) (now (word .entry)) i starts (now (sets .entry)) (now (sets .exit)) ⌝ }
 {
@@ -82,7 +82,7 @@ fn pass_place(
     sets: &mut [u64; 256],
     i: usize,
 )
-    requires { ⌜ Good (now targets) states × Rooms (now targets) states (now word) × (i ≤ length (now word)) × (length (now word) ≤ 255) × Ends (now word) (now ends) (λ d. i + d) × Fitting 256 (now sets) ⌝ }
+    requires { ⌜ Good (now targets) states g h × Rooms (now targets) states (now word) × (i ≤ length (now word)) × (length (now word) ≤ 255) × Ends (now word) (now ends) (λ d. i + d) × Fitting 256 (now sets) ⌝ }
     ensures { λ r. ⌜ Ends (now (word .entry)) (now (ends .exit)) (λ d. i + d) × Fitting 256 (now (sets .exit))
         × Passed (graph (now (targets .entry)) states g h) (now (word .entry)) (now (sets .entry)) (now (sets .exit)) i ⌝ }
 {
@@ -123,7 +123,7 @@ fn start_at(initial: u64) -> Reached
 
 // Completes the sets of all places of a word, from those at its start.
 fn reach_all(targets: &[u64], states: usize, g: u64, h: u64, word: &[u8], sets: &mut [u64; 256])
-    requires { ⌜ Good (now targets) states × Rooms (now targets) states (now word) × (length (now word) ≤ 255) × Fitting 256 (now sets) ⌝ }
+    requires { ⌜ Good (now targets) states g h × Rooms (now targets) states (now word) × (length (now word) ≤ 255) × Fitting 256 (now sets) ⌝ }
     ensures { λ r. ⌜ ((q : ℕ) → Stage (graph (now (targets .entry)) states g h) (now (word .entry)) q (now (sets .entry)) 0
         → Stage (graph (now (targets .entry)) states g h) (now (word .entry)) q (now (sets .exit)) (length (now (word .entry)) + 1)) ⌝ }
 {

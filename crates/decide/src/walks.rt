@@ -19,7 +19,7 @@ fn walk_on(
     j: usize,
     s: u64,
 ) -> u64
-    requires { ⌜ Good (now targets) states × Rooms (now targets) states (now word) × (k ≤ j) × (j ≤ length (now word)) ⌝ }
+    requires { ⌜ Good (now targets) states g h × Rooms (now targets) states (now word) × (k ≤ j) × (j ≤ length (now word)) ⌝ }
     ensures { λ r. ⌜ ((i set : ℕ) → i ≤ k → Members s (From set (λ p q. Walk (graph (now (targets .entry)) states g h) (now (word .entry)) mode i p k q))
         → Members r (From set (λ p q. Walk (graph (now (targets .entry)) states g h) (now (word .entry)) mode i p j q))) ⌝ }
 {
@@ -56,7 +56,7 @@ pub fn tail_to(
     ready: u64,
     tail: Tail,
 ) -> Tail
-    requires { ⌜ Good (now targets) states × Rooms (now targets) states (now word) × Tailed (graph (now targets) states g h) (now word) i tail × (tail .place ≤ j) × (j ≤ length (now word)) ⌝ }
+    requires { ⌜ Good (now targets) states g h × Rooms (now targets) states (now word) × Tailed (graph (now targets) states g h) (now word) i tail × (tail .place ≤ j) × (j ≤ length (now word)) ⌝ }
     ensures { λ r. ⌜ Tailed (graph (now (targets .entry)) states g h) (now (word .entry)) i r × (r .ready ≡ ready) × (r .place ≡ j) ⌝ }
 {
     if tail.ready == ready {

@@ -4,6 +4,7 @@
 -- members-as              == Members of an equivalent property
 -- members-none            == the number 0 has no members
 -- some-member             == any other number has one
+-- none-other              == a set without another is empty: its members are members of the other
 -- single-is               == the set of one state
 -- row-cases               == what holds of a list whose element at one place is new
 -- normal-moves, buffering-moves, emptying-moves == what step_normal, step_buffering, step_emptying put together
@@ -46,6 +47,14 @@ none-in e q h = empty-in q (subst (λ (n : ℕ). In n q) e h)
 
 pub some-member : (x : ℕ) → x < 2 ^ width → (x ≡ 0 → ⊥) → (q : ℕ) × In x q
 some-member x fits n = (trailingZeros width x, lowest-in width x (omega arith) fits)
+
+-- where nothing of a set is left without another, the other has all its members
+pub none-other : (a b d : ℕ) → Members d (λ q. In a q × (In b q → ⊥)) → d ≡ 0 → (q : ℕ) → In a q → In b q
+none-other a b d diff e q h = at (in? b q)
+  where
+    at : Dec (In b q) → In b q
+    at (yes y) = y
+    at (no n) = absurd (none-in e q (diff .members q .1 (h, n)))
 
 pub has-not : (x q : ℕ) → has x q ≡ false → In x q → ⊥
 has-not x q f h = not-both (has-in x q .1 h) f
@@ -153,7 +162,7 @@ module _ (targets : List ℕ) (row states g h set : ℕ) where
       (λ q z. let t = z .2 in (bs .members q .1 (z .0, matchings .members (z .0) .1 (z .1, t .1 .0), t .0), t .1 .1))
 
 -- they are the edges, where row is that of the letter x
-pub edges-taken : (targets : List ℕ) (states g h : ℕ) (T : Mode) (x row set r : ℕ) → row ≡ 1 + x * states
+pub edges-taken : (targets : List ℕ) (states g h : ℕ) (T : Mode) (x row set r : ℕ) → row ≡ 2 + states + x * states
     → Members r (From set (RowEdge targets row states g h T)) → Members r (From set (Edge (graph targets states g h) T x))
 edges-taken targets states g h T x row set r e s =
     members-as s

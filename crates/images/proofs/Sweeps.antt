@@ -3,7 +3,8 @@
 -- Swept     == the invariant of a loop that takes a set's members one by one and unites their images
 -- part-image, no-image == the image of a set is that of its members from which steps can begin; there is none where it has none
 -- Closing   == the invariant of a closure that looks only at the members that came last
--- Placing   == the invariant of a closure under two relations in turns
+-- Placing   == the invariant of a closure under two relations in turns, that looks for the second only at the members that came last
+-- rows-united == the sets that a row has for the members of a set, united
 -- ..-start, ..-turn, ..-less, ..-end == each begins, one turn, its measure, its end
 use Prim.Native.Nat.{ℕ, _-_, _^_, _≤_, _<_}
 use mathlib.Core.Path.{_≡_, refl, sym, ap, _∙_, subst}
@@ -146,59 +147,97 @@ module _ (R : ℕ → ℕ → Type 0) (set : ℕ) where
   pub closing-stuck : (all new : ℕ) → Closing R set all new → Members 0 (From new R) → Members all (From set (Star R))
   closing-stuck all new c image = closing-end all new 0 0 c image (members-none (λ q z. none-in refl q (z .0))) refl
 
-pub record Placing (R : ℕ → ℕ → Type 0) (set all : ℕ) : Type 0 where
+pub record Placing (A B : ℕ → ℕ → Type 0) (set all new : ℕ) : Type 0 where
   pub fits : all < 2 ^ width
+  pub part : (q : ℕ) → In new q → In all q
   pub holds : (q : ℕ) → In set q → In all q
-  pub sound : (q : ℕ) → In all q → From set (Star R) q
+  pub sound : (q : ℕ) → In all q → From set (Star (λ p q. A p q ⊎ B p q)) q
+  pub first : (p q : ℕ) → In all p → A p q → In all q
+  pub second : (p q : ℕ) → In all p → (In new p → ⊥) → B p q → In all q
 
 module _ (A B : ℕ → ℕ → Type 0) (set : ℕ) where
-  pub placing-start : set < 2 ^ width → Placing (λ p q. A p q ⊎ B p q) set set
-  placing-start fits = record { fits = fits; holds = λ q h. h; sound = λ q h. (q, h, here) }
-
   lifted : {p q : ℕ} → Star A p q → Star (λ p q. A p q ⊎ B p q) p q
   lifted here = here
   lifted (more s e) = more (lifted s) (inl e)
 
-  module _ (all near c u : ℕ) (s : Placing (λ p q. A p q ⊎ B p q) set all) (close : Members near (From all (Star A))) (by : Members c (From near B)) (union : Members u (λ q. In near q ⊎ In c q)) where
-    near-sound : (q : ℕ) → In near q → From set (Star (λ p q. A p q ⊎ B p q)) q
-    near-sound q h =
-        let z = close .members q .0 h in
-        let y = s .sound (z .0) (z .1) in
-        (y .0, y .1, star-join (y .2) (lifted (z .2)))
+  pub placing-start : (all : ℕ) → Members all (From set (Star A)) → Placing A B set all all
+  placing-start all close =
+      record {
+        fits = close .fits;
+        part = λ q h. h;
+        holds = λ q h. close .members q .1 (q, h, here);
+        sound = λ q h. let z = close .members q .0 h in (z .0, z .1, lifted (z .2));
+        first = λ p q h a. let z = close .members p .0 h in close .members q .1 (z .0, z .1, more (z .2) a);
+        second = λ p q h n. absurd (n h);
+      }
 
-    keeps : (q : ℕ) → In all q → In near q
-    keeps q h = close .members q .1 (q, h, here)
-
-    pub placing-turn : Placing (λ p q. A p q ⊎ B p q) set u
-    placing-turn = record { fits = union .fits; holds = λ q h. union .members q .1 (inl (keeps q (s .holds q h))); sound = λ q h. sound q (union .members q .0 h) }
+  module _ (all new c f : ℕ) (s : Placing A B set all new) (by : Members c (From new B)) (diff : Members f (λ q. In c q × (In all q → ⊥))) where
+    -- a step by B from the set crosses into the set or to what is fresh
+    crosses : (p q : ℕ) → In all p → B p q → In all q ⊎ In f q
+    crosses p q h b = at (in? new p) (in? all q)
       where
-        sound : (q : ℕ) → In near q ⊎ In c q → From set (Star (λ p q. A p q ⊎ B p q)) q
-        sound q (inl h) = near-sound q h
-        sound q (inr h) =
-            let z = by .members q .0 h in
-            let y = near-sound (z .0) (z .1) in
-            (y .0, y .1, more (y .2) (inr (z .2)))
+        at : Dec (In new p) → Dec (In all q) → In all q ⊎ In f q
+        at n (yes y) = inl y
+        at (no n) (no o) = inl (s .second p q h n b)
+        at (yes n) (no o) = inr (diff .members q .1 (by .members q .1 (p, n, b), o))
 
-    -- the sizes say whether anything came new
-    pub same-size : (n k : ℕ) → Size u n → Size near k → n ≡ k → u ≡ near
-    same-size n k su sn e = sym (ones-same near u (λ q h. union .members q .1 (inl h)) (sym (sn .value) ∙ (sym e ∙ su .value)))
-
-    pub other-size : (n k : ℕ) → Size u n → Size near k → (n ≡ k → ⊥) → u ≡ near → ⊥
-    other-size n k su sn d e = d (su .value ∙ (ap ones e ∙ sym (sn .value)))
-
-    pub placing-less : {P : ℕ → Type 0} → SetIs u (bitOr near c) P → (u ≡ near → ⊥) → width - ones u < width - ones all
-    placing-less value n =
-        let less = union-grows near c u (union .fits) (value .value) n in
-        let mono = ones-mono all near keeps in
-        omega arith
-
-    pub placing-end : u ≡ near → Members near (From set (Star (λ p q. A p q ⊎ B p q)))
-    placing-end e = record { fits = close .fits; members = λ q. (near-sound q, λ z. reach (keeps (z .0) (s .holds (z .0) (z .1))) (z .2)) }
+    pub placing-end : f ≡ 0 → Members all (From set (Star (λ p q. A p q ⊎ B p q)))
+    placing-end e = record { fits = s .fits; members = λ q. (s .sound q, λ z. reach (s .holds (z .0) (z .1)) (z .2)) }
       where
-        turn : (p q : ℕ) → In near p → A p q ⊎ B p q → In near q
-        turn p q h (inl a) = let z = close .members p .0 h in close .members q .1 (z .0, z .1, more (z .2) a)
-        turn p q h (inr b) = subst (λ (n : ℕ). In n q) e (union .members q .1 (inr (by .members q .1 (p, h, b))))
+        into : (q : ℕ) → In all q ⊎ In f q → In all q
+        into q (inl h) = h
+        into q (inr h) = absurd (none-in e q h)
 
-        reach : {p q : ℕ} → In near p → Star (λ p q. A p q ⊎ B p q) p q → In near q
+        turn : (p q : ℕ) → In all p → A p q ⊎ B p q → In all q
+        turn p q h (inl a) = s .first p q h a
+        turn p q h (inr b) = into q (crosses p q h b)
+
+        reach : {p q : ℕ} → In all p → Star (λ p q. A p q ⊎ B p q) p q → In all q
         reach h here = h
         reach h (more {q = q} {r = r} t y) = turn q r (reach h t) y
+
+    module _ (near u : ℕ) (close : Members near (From f (Star A))) (union : Members u (λ q. In all q ⊎ In near q)) where
+      pub placing-turn : Placing A B set u near
+      placing-turn =
+          record {
+            fits = union .fits;
+            part = λ q h. union .members q .1 (inr h);
+            holds = λ q h. union .members q .1 (inl (s .holds q h));
+            sound = λ q h. sound q (union .members q .0 h);
+            first = λ p q h a. union .members q .1 (first p q (union .members p .0 h) a);
+            second = λ p q h n b. union .members q .1 (second p q (union .members p .0 h) n b);
+          }
+        where
+          sound : (q : ℕ) → In all q ⊎ In near q → From set (Star (λ p q. A p q ⊎ B p q)) q
+          sound q (inl h) = s .sound q h
+          sound q (inr h) =
+              let z = close .members q .0 h in
+              let y = by .members (z .0) .0 (diff .members (z .0) .0 (z .1) .0) in
+              let x = s .sound (y .0) (s .part (y .0) (y .1)) in
+              (x .0, x .1, star-join (more (x .2) (inr (y .2))) (lifted (z .2)))
+
+          first : (p q : ℕ) → In all p ⊎ In near p → A p q → In all q ⊎ In near q
+          first p q (inl h) a = inl (s .first p q h a)
+          first p q (inr h) a = let z = close .members p .0 h in inr (close .members q .1 (z .0, z .1, more (z .2) a))
+
+          reached : (q : ℕ) → In all q ⊎ In f q → In all q ⊎ In near q
+          reached q (inl h) = inl h
+          reached q (inr h) = inr (close .members q .1 (q, h, here))
+
+          second : (p q : ℕ) → In all p ⊎ In near p → (In near p → ⊥) → B p q → In all q ⊎ In near q
+          second p q (inl h) n b = reached q (crosses p q h b)
+          second p q (inr h) n b = absurd (n h)
+
+      pub placing-less : {P : ℕ → Type 0} → SetIs u (bitOr all near) P → (f ≡ 0 → ⊥) → width - ones u < width - ones all
+      placing-less value some =
+          union-grows all near u (union .fits) (value .value)
+          (λ (e : u ≡ all).
+          let m = some-member f (diff .fits) some in
+          diff .members (m .0) .0 (m .1) .1 (subst (λ (n : ℕ). In n (m .0)) e (union .members (m .0) .1 (inr (close .members (m .0) .1 (m .0, m .1, here))))))
+
+-- the sets that a row has for the members of a set, united
+pub rows-united : (R : ℕ → ℕ → Type 0) (S : ℕ → ℕ) (states set r : ℕ) → ((p : ℕ) → In set p → (p < states) × Members (S p) (R p)) → Members r (From set (λ p q. (p < states) × In (S p) q)) → Members r (From set R)
+rows-united R S states set r each s =
+    members-as s
+    (λ q z. (z .0, z .1, each (z .0) (z .1) .1 .members q .0 (z .2 .1)))
+    (λ q z. let e = each (z .0) (z .1) in (z .0, z .1, (e .0, e .1 .members q .1 (z .2))))

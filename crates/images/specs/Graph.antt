@@ -4,8 +4,9 @@
 -- Fitting n sets         == a list of n sets of states
 -- From set R q           == q is R-related to some member of the set
 -- Star R p q             == q is reached from p by any number of R-steps
--- setOf states x p       == where the set of the letter x and the state p stands in a table of where transitions lead: behind its first set the rows of
---                           the letters in order, letter 0 first, with one set for each state
+-- closureOf p            == where a table of where transitions lead has the closure of the state p: behind its first two sets, in the order of the states
+-- setOf states x p       == where it has the set of the letter x and the state p: behind the closures the rows of the letters in order, letter 0 first,
+--                           with one set for each state
 -- Graph                  == such a table, the number of states, the set of buffering states, the set of matching states
 -- May g h T p q          == mode T may take a transition from p to q (document 01, "How a run moves")
 -- RowEdge targets row states g h T p q == the row of the table that begins there has q for the state p, and mode T may take a transition from p to q
@@ -15,7 +16,9 @@
 -- EmptyCopy G p q        == from p in normal mode to q in normal mode by a copy of nothing, in epsilon moves
 -- Turn G p q             == an epsilon move in normal mode, or an empty copy
 -- Room targets states x  == the table has room for the row of the letter x
--- Good targets states    == the table has room for the row of letter 0, and each state with an epsilon transition is in the table's first set
+-- Closed targets states g h p == the table has the closure of the state p: what p reaches at a place by epsilon moves and empty copies
+-- Good targets states g h == the table has room for the row of letter 0, each state with an epsilon transition is in the table's first set, and the
+--                           closure of each state of its second set is there
 -- Kind marks states b set == the set of the states below a number whose mark has the bit of value b
 -- KindsOf marks states k == the four sets of states by their marks
 use Prim.Native.Nat.{ℕ, _+_, _-_, _*_, _/_, _%_, _^_, _≤_, _<_}
@@ -45,8 +48,11 @@ pub data Star (R : ℕ → ℕ → Type 0) : ℕ → ℕ → Type 0 where
   here : {p : ℕ} → Star R p p
   more : {p q r : ℕ} → Star R p q → R q r → Star R p r
 
+abbrev pub closureOf : ℕ → ℕ
+closureOf p = 2 + p
+
 abbrev pub setOf : ℕ → ℕ → ℕ → ℕ
-setOf states x p = 1 + x * states + p
+setOf states x p = 2 + states + x * states + p
 
 pub record Graph : Type 0 where
   pub targets : List ℕ
@@ -94,10 +100,15 @@ Turn G p q = Edge G Normal 0 p q ⊎ EmptyCopy G p q
 abbrev pub Room : List ℕ → ℕ → ℕ → Type 0
 Room targets states x = setOf states x states ≤ length targets
 
-pub record Good (targets : List ℕ) (states : ℕ) : Type 0 where
+pub record Closed (targets : List ℕ) (states g h p : ℕ) : Type 0 where
+  pub state : p < states
+  pub closure : Members (getD targets (closureOf p) 0) (Star (Turn (graph targets states g h)) p)
+
+pub record Good (targets : List ℕ) (states g h : ℕ) : Type 0 where
   pub few : states ≤ width
   pub row : Room targets states 0
   pub epsilons : (p q : ℕ) → p < states → In (getD targets (setOf states 0 p) 0) q → In (getD targets 0 0) p
+  pub closed : (p : ℕ) → In (getD targets 1 0) p → Closed targets states g h p
 
 abbrev pub Kind : List ℕ → ℕ → ℕ → ℕ → Type 0
 Kind marks states b set = Members set (λ q. (q < states) × (markOf marks q / b % 2 ≡ 1))

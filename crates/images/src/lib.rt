@@ -1,6 +1,7 @@
 // Images and closures of sets of states under the transitions that a mode may take. The table targets says where the transitions of
-// each letter lead from each state: its first set has the states with epsilon transitions, behind it stand the rows of the letters in
-// order, letter 0, epsilon, first, with one set for each state. g is the set of buffering states, h the set of matching states.
+// each letter lead from each state. Its first set has the states with epsilon transitions, its second the states whose closures it has;
+// behind them stand the row of closures and the rows of the letters in order, letter 0, epsilon, first, each with one set for each
+// state. g is the set of buffering states, h the set of matching states.
 ghost use Prim.Native.Nat.{ℕ, _+_, _-_, _*_, _/_, _%_, _^_, _≤_, _<_};
 ghost use mathlib.Core.Path.{_≡_};
 ghost use mathlib.Core.Bool.{true};
@@ -76,9 +77,9 @@ pub fn wide(x: u8) -> usize
 // Where the row of the letter x begins in the table.
 fn row_of(states: usize, x: u8) -> usize
     requires { ⌜ states ≤ width ⌝ }
-    ensures { λ r. ⌜ r ≡ 1 + x * states ⌝ }
+    ensures { λ r. ⌜ r ≡ 2 + states + x * states ⌝ }
 {
-    1 + wide(x) * states
+    2 + states + wide(x) * states
 }
 
 // The union of what a row of the table has for the states of a set.
@@ -130,7 +131,7 @@ fn step_emptying(targets: &[u64], row: usize, states: usize, g: u64, h: u64, set
 
 // The image of a set under the moves that read x in a mode. Time: the members of the set, each once.
 pub fn step_set(targets: &[u64], states: usize, g: u64, h: u64, mode: Mode, set: u64, x: u8) -> u64
-    requires { ⌜ Good (now targets) states × Room (now targets) states x ⌝ }
+    requires { ⌜ Good (now targets) states g h × Room (now targets) states x ⌝ }
     ensures { λ r. ⌜ Members r (From set (Edge (graph (now (targets .entry)) states g h) mode x)) ⌝ }
 {
     let row = row_of(states, x);
@@ -149,9 +150,17 @@ fn epsilons(targets: &[u64]) -> u64
     targets[0]
 }
 
+// The states whose closures the table has.
+fn closed(targets: &[u64]) -> u64
+    requires { ⌜ 1 < length (now targets) ⌝ }
+    ensures { λ r. ⌜ r ≡ getD (now (targets .entry)) 1 0 ⌝ }
+{
+    targets[1]
+}
+
 // The states that a set reaches by epsilon moves in a mode. Only states that have epsilon transitions are looked up.
 pub fn close_set(targets: &[u64], states: usize, g: u64, h: u64, mode: Mode, set: u64) -> u64
-    requires { ⌜ Good (now targets) states ⌝ }
+    requires { ⌜ Good (now targets) states g h ⌝ }
     ensures { λ r. ⌜ Members r (From set (Free (graph (now (targets .entry)) states g h) mode)) ⌝ }
 {
     let may = epsilons(targets);
@@ -172,7 +181,7 @@ pub fn close_set(targets: &[u64], states: usize, g: u64, h: u64, mode: Mode, set
 
 // The image of a set under the moves that read the letter x of a word in a mode; no move reads letter 0.
 pub fn read_set(targets: &[u64], states: usize, g: u64, h: u64, mode: Mode, set: u64, x: u8) -> u64
-    requires { ⌜ Good (now targets) states × Room (now targets) states x ⌝ }
+    requires { ⌜ Good (now targets) states g h × Room (now targets) states x ⌝ }
     ensures { λ r. ⌜ Members r (λ q. (0 < x) × From set (Edge (graph (now (targets .entry)) states g h) mode x) q) ⌝ }
 {
     if x == 0 {
@@ -183,7 +192,7 @@ pub fn read_set(targets: &[u64], states: usize, g: u64, h: u64, mode: Mode, set:
 
 // The states that a set reaches by a move that reads the letter x of a word and epsilon moves after it.
 pub fn advance(targets: &[u64], states: usize, g: u64, h: u64, mode: Mode, set: u64, x: u8) -> u64
-    requires { ⌜ Good (now targets) states × Room (now targets) states x ⌝ }
+    requires { ⌜ Good (now targets) states g h × Room (now targets) states x ⌝ }
     ensures { λ r. ⌜ Members r (From set (Advance (graph (now (targets .entry)) states g h) mode x)) ⌝ }
 {
     let read = read_set(targets, states, g, h, mode, set, x);
@@ -195,7 +204,7 @@ pub fn advance(targets: &[u64], states: usize, g: u64, h: u64, mode: Mode, set: 
 
 // The states that a set reaches by one copy of nothing.
 fn empty_copies(targets: &[u64], states: usize, g: u64, h: u64, set: u64) -> u64
-    requires { ⌜ Good (now targets) states ⌝ }
+    requires { ⌜ Good (now targets) states g h ⌝ }
     ensures { λ r. ⌜ Members r (From set (EmptyCopy (graph (now (targets .entry)) states g h))) ⌝ }
 {
     let begun = stateset::intersection(set, g);
@@ -213,22 +222,37 @@ fn empty_copies(targets: &[u64], states: usize, g: u64, h: u64, set: u64) -> u64
     )
 }
 
-// The states that a set reaches at one place in normal mode: by epsilon moves and copies of nothing, as often as wanted. No set
-// shrinks, so the end is reached when the size stays.
+// The states that a set reaches at one place in normal mode, found in turns: copies of nothing from the states that came last, and then
+// epsilon moves from those that are new.
+fn close_in_turns(targets: &[u64], states: usize, g: u64, h: u64, set: u64) -> u64
+    requires { ⌜ Good (now targets) states g h ⌝ }
+    ensures { λ r. ⌜ Members r (From set (Star (Turn (graph (now (targets .entry)) states g h)))) ⌝ }
+{
+    let mut all = close_set(targets, states, g, h, Mode::Normal, set);
+    let mut new = all;
+    loop {
+        let copied = empty_copies(targets, states, g, h, new);
+        let fresh = stateset::difference(copied, all);
+        if fresh == 0 {
+            return all;
+        }
+        new = close_set(targets, states, g, h, Mode::Normal, fresh);
+        all = stateset::union(all, new);
+    }
+}
+
+// The states that a set reaches at one place in normal mode: by epsilon moves and copies of nothing, as often as wanted.
+// Time: the members of the set, each once, where the table has the closures of all of them; else some turns of epsilon moves and copies.
 pub fn close_place(targets: &[u64], states: usize, g: u64, h: u64, set: u64) -> u64
-    requires { ⌜ Good (now targets) states ⌝ }
+    requires { ⌜ Good (now targets) states g h ⌝ }
     ensures { λ r. ⌜ Members r (From set (Star (Turn (graph (now (targets .entry)) states g h)))) ⌝ }
 {
     if set == 0 {
         return 0;
     }
-    let mut all = set;
-    loop {
-        let near = close_set(targets, states, g, h, Mode::Normal, all);
-        let copied = stateset::union(near, empty_copies(targets, states, g, h, near));
-        if stateset::size(copied) == stateset::size(near) {
-            return near;
-        }
-        all = copied;
+    let other = stateset::difference(set, closed(targets));
+    if other == 0 {
+        return row_union(targets, 2, states, set);
     }
+    close_in_turns(targets, states, g, h, set)
 }

@@ -186,7 +186,7 @@ fn visit(
     requires { ⌜ Given m (now list) (now targets) g h × Row m (now list) (now targets) x × (a < m .states) × Glance (now next) (m .states) s ⌝ }
     ensures { λ r. ⌜ Lowering (Only (Through m (now (list .entry)) mode x (now (next .entry))) a) (now (row .entry)) (now (row .exit)) r ⌝ }
 {
-    let set = targets[1 + x as usize * m.states + a];
+    let set = targets[2 + m.states + x as usize * m.states + a];
     let live = stateset::intersection(set, s.live);
     if live == 0 {
         return lower(row, a, NONE);

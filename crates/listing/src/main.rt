@@ -184,10 +184,10 @@ fn transition_buffer() -> [u16; 12000]
 }
 
 // Room for the sets of the largest prepared table.
-fn target_buffer() -> [u64; 16065]
-    ensures { λ r. ⌜ (16065 ≡ length r) × ((i : ℕ) → getD r i 0 ≡ 0) ⌝ }
+fn target_buffer() -> [u64; 16130]
+    ensures { λ r. ⌜ (16130 ≡ length r) × ((i : ℕ) → getD r i 0 ≡ 0) ⌝ }
 {
-    [0; 16065]
+    [0; 16130]
 }
 
 // Prepares the table once, and lists the words of standard input over it.
@@ -197,8 +197,8 @@ fn list_prepared(sheet: &[u8], m: Machine, list: &[u16], out: &mut [u8])
     requires { ⌜ 65536 ≤ length (now out) ⌝ }
 {
     let mut targets = target_buffer();
-    targets::prepare(m, list, &mut targets);
     let kinds = images::kinds_of(&m.marks, m.states);
+    targets::prepare(m, list, kinds, &mut targets);
     list_words(sheet, m, list, &targets, kinds, out);
 }
 

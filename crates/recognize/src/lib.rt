@@ -92,10 +92,10 @@ fn answer_medium(
 
 fn answer_large(m: Machine, list: &[u16], word: &[u8], needed: usize, run: &mut [u16]) -> Recognized
     requires { ⌜ (tableAndWord longestRecognized m (now list) (now word) ≡ 0) × (needed ≡ runBound m (length (now word))) × (needed ≤ length (now run))
-        × (setOf (m .states) (m .letters) (m .states) ≤ 16065) ⌝ }
+        × (setOf (m .states) (m .letters) (m .states) ≤ 16130) ⌝ }
     ensures { λ r. ⌜ Recognition m (now (list .entry)) (now (word .entry)) (now (run .entry)) (now (run .exit)) r ⌝ }
 {
-    let mut targets: [u64; 16065] = [0; 16065];
+    let mut targets: [u64; 16130] = [0; 16130];
     answer_with(m, list, &mut targets, word, needed, run)
 }
 

@@ -1,9 +1,10 @@
 // A prepared table of where transitions lead: for each letter and each state a set of states. A set is then looked up, where the list
-// of transitions would have to be searched. Its first set has the states with epsilon transitions; behind it stand the rows of the
-// letters in order, letter 0 first, one set for each state of the machine.
+// of transitions would have to be searched. Its first set has the states with epsilon transitions, its second the states whose closures
+// it has; behind them stand the row of closures and the rows of the letters in order, letter 0 first, each with one set for each state
+// of the machine.
 //
-// prepare      the table of a machine, for all its letters
-// prepare_for  the same with the rows of letter 0 and of a word's letters alone
+// prepare      the table of a machine, for many words: the rows of all letters, and the closures of all states
+// prepare_for  the same with the rows of letter 0 and of a word's letters alone, and no closures
 //
 // The functions ask what a public call above them has tested: they are seams between crates.
 ghost use Prim.Native.Nat.{ℕ, _+_, _≤_, _<_};
@@ -13,17 +14,18 @@ ghost use mathlib.Core.Bool.{true};
 ghost use lib.ListN.{length, getD};
 ghost use Rattle.fsbm.specs.Machine.{wellFormed};
 ghost use Rattle.stateset.specs.Set.{width, In};
-ghost use Rattle.images.specs.Graph.{setOf};
-ghost use Rattle.targets.specs.Prepared.{Prepared, Lettered, Whole, Wanted, Inside, Filled, Made, Sources};
+ghost use Rattle.images.specs.Graph.{setOf, Good, KindsOf};
+ghost use Rattle.targets.specs.Prepared.{Prepared, Lettered, Whole, Wanted, Inside, Filled, Made, Sources, Closing, WithClosures};
 use fsbm::machine::Machine;
+use images::Kinds;
 
-// How many sets the table of a machine has: the first one, and one for each state and letter, letter 0 among them. That of the largest
-// machine has 16,065.
+// How many sets the table of a machine has: the first two, a closure for each state, and one for each state and letter, letter 0 among
+// them. That of the largest machine has 16,130.
 pub fn sets_of(m: Machine) -> usize
     requires { ⌜ (m .states ≤ 64) × (m .letters ≤ 250) ⌝ }
     ensures { λ r. ⌜ r ≡ setOf (m .states) (m .letters) (m .states) ⌝ }
 {
-    1 + m.letters * m.states + m.states
+    2 + m.states + m.letters * m.states + m.states
 }
 
 // The letters of a word, marked by 1.
@@ -64,7 +66,7 @@ fn put(m: Machine, list: &[u16], wanted: &[u8; 256], targets: &mut [u64], k: usi
     if !is_wanted(wanted, x) {
         return;
     }
-    let at = 1 + x * m.states + p;
+    let at = 2 + m.states + x * m.states + p;
     targets[at] = stateset::add(targets[at], q);
 }
 
@@ -92,13 +94,13 @@ fn add_source(set: u64, p: usize, own: u64) -> u64
 
 // The states below a number whose set in the row of letter 0 is not empty.
 fn sources(targets: &[u64], states: usize) -> u64
-    requires { ⌜ (states ≤ width) × (1 + states ≤ length (now targets)) ⌝ }
-    ensures { λ r. ⌜ Sources (now (targets .entry)) states r ⌝ }
+    requires { ⌜ (states ≤ width) × (2 + states + states ≤ length (now targets)) ⌝ }
+    ensures { λ r. ⌜ Sources (now (targets .entry)) states states r ⌝ }
 {
     let mut set = stateset::empty();
     let mut p: usize = 0;
     while p < states {
-        set = add_source(set, p, targets[1 + p]);
+        set = add_source(set, p, targets[2 + states + p]);
         p += 1;
     }
     set
@@ -114,14 +116,39 @@ fn fill(m: Machine, list: &[u16], wanted: &[u8; 256], targets: &mut [u64])
     targets[0] = set;
 }
 
+// Puts the closure of each state into a table that has none.
+fn put_closures(states: usize, g: u64, h: u64, targets: &mut [u64])
+    requires { ⌜ Good (now targets) states g h × (getD (now targets) 1 0 ≡ 0) ⌝ }
+    ensures { λ r. ⌜ Closing states g h (now (targets .entry)) (now (targets .exit)) states ⌝ }
+{
+    let mut p: usize = 0;
+    while p < states {
+        let alone = stateset::single(p);
+        let own = images::close_place(&*targets, states, g, h, alone);
+        targets[2 + p] = own;
+        p += 1;
+    }
+}
+
+// The same, and as the table's second set the states.
+fn close_states(states: usize, g: u64, h: u64, targets: &mut [u64])
+    requires { ⌜ Good (now targets) states g h × (getD (now targets) 1 0 ≡ 0) ⌝ }
+    ensures { λ r. ⌜ WithClosures states g h (now (targets .entry)) (now (targets .exit)) ⌝ }
+{
+    put_closures(states, g, h, targets);
+    targets[1] = stateset::full(states);
+}
+
 // Prepares a table of zeros for every word of the machine's letters.
-// Time: the transitions and the states, each once. Memory: none but the table and 256 bytes.
-pub fn prepare(m: Machine, list: &[u16], targets: &mut [u64])
-    requires { ⌜ (wellFormed m (now list) ≡ true) × (setOf (m .states) (m .letters) (m .states) ≤ length (now targets)) × ((i : ℕ) → getD (now targets) i 0 ≡ 0) ⌝ }
-    ensures { λ r. ⌜ Whole m (now (list .entry)) (now (targets .exit)) ⌝ }
+// Time: the transitions and the states, each once, and the closure of each state. Memory: none but the table and 256 bytes.
+pub fn prepare(m: Machine, list: &[u16], kinds: Kinds, targets: &mut [u64])
+    requires { ⌜ (wellFormed m (now list) ≡ true) × (setOf (m .states) (m .letters) (m .states) ≤ length (now targets)) × ((i : ℕ) → getD (now targets) i 0 ≡ 0)
+        × KindsOf (m .marks) (m .states) kinds ⌝ }
+    ensures { λ r. ⌜ Whole m (now (list .entry)) (now (targets .exit)) × ((p : ℕ) → p < m .states → In (getD (now (targets .exit)) 1 0) p) ⌝ }
 {
     let all: [u8; 256] = [1; 256];
     fill(m, list, &all, targets);
+    close_states(m.states, kinds.buffering, kinds.matching, targets);
 }
 
 // Prepares a table of zeros for one word: a transition whose letter does not stand in the word is passed over.

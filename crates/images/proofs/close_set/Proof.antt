@@ -11,7 +11,7 @@ use Rattle.images.proofs.close_set.Statement.{statement}
 use Rattle.images.proofs.close_set.Tie as tie
 
 abbrev Inv-loop : tie.InvT-loop
-Inv-loop targets states g h mode set may all₀ new₀ all new = Good targets states × ((p q : ℕ) → Edge (graph targets states g h) mode 0 p q → In may p) × Closing (Edge (graph targets states g h) mode 0) set all new
+Inv-loop targets states g h mode set may all₀ new₀ all new = Good targets states g h × ((p q : ℕ) → Edge (graph targets states g h) mode 0 p q → In may p) × Closing (Edge (graph targets states g h) mode 0) set all new
 
 abbrev μ-loop : tie.MeasureT-loop
 μ-loop targets states g h mode set may all₀ new₀ all new = width - ones all

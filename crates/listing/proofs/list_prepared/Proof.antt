@@ -14,20 +14,20 @@ use Rattle.targets.proofs.prepare.Reads as prepare-reads
 target-buffer-requires : tie.Need-target-buffer-requires
 target-buffer-requires c κs = search needs
 
+kinds-of-requires : tie.Need-kinds-of-requires
+kinds-of-requires c κs = rules ((c .before .before .before .before .before .before) .args .t2) (((c .before .before .before .before .before .before) .args .list) .now) (((c .before .before .before .before .before .before) .pre) .0) .states-fit
+
 slice-aggregate-prepare : tie.Need-slice-aggregate-prepare
 slice-aggregate-prepare c = search needs
 
 prepare-requires : tie.Need-prepare-requires
-prepare-requires c κs = (((c .before .before .before .before .before) .pre) .0, omega (arith, ((c .before) .target-buffer .ensures) .0, rules ((c .before .before .before .before .before) .args .t2) (((c .before .before .before .before .before) .args .list) .now) (((c .before .before .before .before .before) .pre) .0) .states-fit, product-small ((c .before .before .before .before .before) .args .t2 .states) ((c .before .before .before .before .before) .args .t2 .letters) (rules ((c .before .before .before .before .before) .args .t2) (((c .before .before .before .before .before) .args .list) .now) (((c .before .before .before .before .before) .pre) .0) .states-fit) (rules ((c .before .before .before .before .before) .args .t2) (((c .before .before .before .before .before) .args .list) .now) (((c .before .before .before .before .before) .pre) .0) .letters-fit)), ((c .before) .target-buffer .ensures) .1)
-
-kinds-of-requires : tie.Need-kinds-of-requires
-kinds-of-requires c κs = rules ((c .before .before .before .before .before .before .before .before .before) .args .t2) (((c .before .before .before .before .before .before .before .before .before) .args .list) .now) (((c .before .before .before .before .before .before .before .before .before) .pre) .0) .states-fit
+prepare-requires c κs = (((c .before .before .before .before .before .before .before .before) .pre) .0, omega (arith, ((c .before .before .before .before) .target-buffer .ensures) .0, rules ((c .before .before .before .before .before .before .before .before) .args .t2) (((c .before .before .before .before .before .before .before .before) .args .list) .now) (((c .before .before .before .before .before .before .before .before) .pre) .0) .states-fit, product-small ((c .before .before .before .before .before .before .before .before) .args .t2 .states) ((c .before .before .before .before .before .before .before .before) .args .t2 .letters) (rules ((c .before .before .before .before .before .before .before .before) .args .t2) (((c .before .before .before .before .before .before .before .before) .args .list) .now) (((c .before .before .before .before .before .before .before .before) .pre) .0) .states-fit) (rules ((c .before .before .before .before .before .before .before .before) .args .t2) (((c .before .before .before .before .before .before .before .before) .args .list) .now) (((c .before .before .before .before .before .before .before .before) .pre) .0) .letters-fit)), ((c .before .before .before .before) .target-buffer .ensures) .1, ((c .before) .kinds-of .ensures))
 
 slice-aggregate-list-words : tie.Need-slice-aggregate-list-words
 slice-aggregate-list-words c = search needs
 
 list-words-requires : tie.Need-list-words-requires
-list-words-requires c κs = (record { good = ((c .before .before .before .before .before .before .before .before .before .before .before .before) .pre) .0; prepared = (c .before .before .before .before .before .before) .prepare .ensures; sets = (c .before .before) .kinds-of .ensures }, ((c .before .before .before .before .before .before .before .before .before .before .before .before) .pre) .1)
+list-words-requires c κs = search needs
 
 same-length : tie.Need-same-length
 same-length c = search needs
@@ -40,9 +40,9 @@ list-prepared-spec =
     tie.close
     (tie.spec
     target-buffer-requires
+    kinds-of-requires
     slice-aggregate-prepare
     prepare-requires
-    kinds-of-requires
     slice-aggregate-list-words
     list-words-requires
     same-length

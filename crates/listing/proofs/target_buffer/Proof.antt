@@ -8,7 +8,7 @@ use Rattle.listing.proofs.target_buffer.Reads as reads
 use Rattle.listing.proofs.target_buffer.Lts as lts
 
 returns : tie.Need-returns
-returns c = (sym (length-replicate {A = ℕ} 16065 0), zeros-at 16065)
+returns c = (sym (length-replicate {A = ℕ} 16130 0), zeros-at 16130)
 
 pub target-buffer-spec : {M : Type 1} → statement M
 target-buffer-spec = tie.close (tie.spec returns)

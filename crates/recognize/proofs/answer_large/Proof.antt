@@ -11,7 +11,7 @@ slice-aggregate-answer-with : tie.Need-slice-aggregate-answer-with
 slice-aggregate-answer-with c = search needs
 
 answer-with-requires : tie.Need-answer-with-requires
-answer-with-requires c κs = (((c .before .before .before .before .before) .pre) .0, ((c .before .before .before .before .before) .pre) .1, ((c .before .before .before .before .before) .pre) .2, ((c .before .before .before .before .before) .pre) .3, zeros-at 16065)
+answer-with-requires c κs = (((c .before .before .before .before .before) .pre) .0, ((c .before .before .before .before .before) .pre) .1, ((c .before .before .before .before .before) .pre) .2, ((c .before .before .before .before .before) .pre) .3, zeros-at 16130)
 
 same-length : tie.Need-same-length
 same-length c = search needs

@@ -59,35 +59,38 @@ is-wanted-requires c κs = search needs
 returns : tie.Need-returns
 returns c = put-none ((c .before .before .before .before .before .before .before) .args .m) _ _ _ _ (((c .before .before .before .before .before .before .before) .pre) .0) (((c .before .before .before .before .before .before .before) .pre) .1) _ ((c .before) .is-wanted .ensures) (not-true _ ((c) .if1 .taken))
 
-mul-at : tie.Need-mul-at
-mul-at c = omega (arith, ((c .before .before .before .before .before .before .before .before) .pre) .0 .letter, ((c .before .before .before .before .before .before .before .before) .pre) .0 .letters, product-small ((c .before .before .before .before .before .before .before .before) .args .m .states) (transitionAt (((c .before .before .before .before .before .before .before .before) .args .list) .now) ((c .before .before .before .before .before .before .before .before) .args .k) .letter) (((c .before .before .before .before .before .before .before .before) .pre) .0 .few) (omega (arith, ((c .before .before .before .before .before .before .before .before) .pre) .0 .letter, ((c .before .before .before .before .before .before .before .before) .pre) .0 .letters)))
-
 add-at : tie.Need-add-at
-add-at c = omega (arith, ((c .before .before .before .before .before .before .before .before) .pre) .0 .letter, ((c .before .before .before .before .before .before .before .before) .pre) .0 .letters, product-small ((c .before .before .before .before .before .before .before .before) .args .m .states) (transitionAt (((c .before .before .before .before .before .before .before .before) .args .list) .now) ((c .before .before .before .before .before .before .before .before) .args .k) .letter) (((c .before .before .before .before .before .before .before .before) .pre) .0 .few) (omega (arith, ((c .before .before .before .before .before .before .before .before) .pre) .0 .letter, ((c .before .before .before .before .before .before .before .before) .pre) .0 .letters)))
+add-at c = search needs
+
+mul-at : tie.Need-mul-at
+mul-at c = (omega (arith, ((c .before .before .before .before .before .before .before .before .before) .pre) .0 .few, ((c .before .before .before .before .before .before .before .before .before) .pre) .0 .from, product-small ((c .before .before .before .before .before .before .before .before .before) .args .m .states) (transitionAt (((c .before .before .before .before .before .before .before .before .before) .args .list) .now) ((c .before .before .before .before .before .before .before .before .before) .args .k) .letter) (((c .before .before .before .before .before .before .before .before .before) .pre) .0 .few) (omega (arith, ((c .before .before .before .before .before .before .before .before .before) .pre) .0 .letter, ((c .before .before .before .before .before .before .before .before .before) .pre) .0 .letters))))
 
 add-at-2 : tie.Need-add-at-2
-add-at-2 c = omega (arith, ((c .before .before .before .before .before .before .before .before) .pre) .0 .few, ((c .before .before .before .before .before .before .before .before) .pre) .0 .from, ((c .before .before .before .before .before .before .before .before) .pre) .0 .letter, ((c .before .before .before .before .before .before .before .before) .pre) .0 .letters, product-small ((c .before .before .before .before .before .before .before .before) .args .m .states) (transitionAt (((c .before .before .before .before .before .before .before .before) .args .list) .now) ((c .before .before .before .before .before .before .before .before) .args .k) .letter) (((c .before .before .before .before .before .before .before .before) .pre) .0 .few) (omega (arith, ((c .before .before .before .before .before .before .before .before) .pre) .0 .letter, ((c .before .before .before .before .before .before .before .before) .pre) .0 .letters)))
+add-at-2 c = (omega (arith, ((c .before .before .before .before .before .before .before .before .before) .pre) .0 .few, ((c .before .before .before .before .before .before .before .before .before) .pre) .0 .from, product-small ((c .before .before .before .before .before .before .before .before .before) .args .m .states) (transitionAt (((c .before .before .before .before .before .before .before .before .before) .args .list) .now) ((c .before .before .before .before .before .before .before .before .before) .args .k) .letter) (((c .before .before .before .before .before .before .before .before .before) .pre) .0 .few) (omega (arith, ((c .before .before .before .before .before .before .before .before .before) .pre) .0 .letter, ((c .before .before .before .before .before .before .before .before .before) .pre) .0 .letters))))
+
+add-at-3 : tie.Need-add-at-3
+add-at-3 c = (omega (arith, ((c .before .before .before .before .before .before .before .before .before) .pre) .0 .few, ((c .before .before .before .before .before .before .before .before .before) .pre) .0 .from, product-small ((c .before .before .before .before .before .before .before .before .before) .args .m .states) (transitionAt (((c .before .before .before .before .before .before .before .before .before) .args .list) .now) ((c .before .before .before .before .before .before .before .before .before) .args .k) .letter) (((c .before .before .before .before .before .before .before .before .before) .pre) .0 .few) (omega (arith, ((c .before .before .before .before .before .before .before .before .before) .pre) .0 .letter, ((c .before .before .before .before .before .before .before .before .before) .pre) .0 .letters))))
 
 mul-add : tie.Need-mul-add
-mul-add c = omega (arith, ((c .before .before .before .before .before .before .before .before) .pre) .0 .few, ((c .before .before .before .before .before .before .before .before) .pre) .0 .from, ((c .before .before .before .before .before .before .before .before) .pre) .0 .letter, ((c .before .before .before .before .before .before .before .before) .pre) .0 .letters, product-small ((c .before .before .before .before .before .before .before .before) .args .m .states) (transitionAt (((c .before .before .before .before .before .before .before .before) .args .list) .now) ((c .before .before .before .before .before .before .before .before) .args .k) .letter) (((c .before .before .before .before .before .before .before .before) .pre) .0 .few) (omega (arith, ((c .before .before .before .before .before .before .before .before) .pre) .0 .letter, ((c .before .before .before .before .before .before .before .before) .pre) .0 .letters)))
+mul-add c = (omega (arith, ((c .before .before .before .before .before .before .before .before .before) .pre) .0 .few, ((c .before .before .before .before .before .before .before .before .before) .pre) .0 .from, product-small ((c .before .before .before .before .before .before .before .before .before) .args .m .states) (transitionAt (((c .before .before .before .before .before .before .before .before .before) .args .list) .now) ((c .before .before .before .before .before .before .before .before .before) .args .k) .letter) (((c .before .before .before .before .before .before .before .before .before) .pre) .0 .few) (omega (arith, ((c .before .before .before .before .before .before .before .before .before) .pre) .0 .letter, ((c .before .before .before .before .before .before .before .before .before) .pre) .0 .letters))))
 
 slice-read-add : tie.Need-slice-read-add
-slice-read-add c = put-room ((c .before .before .before .before .before .before .before .before .before) .args .m) _ _ _ _ (((c .before .before .before .before .before .before .before .before .before) .pre) .0) (((c .before .before .before .before .before .before .before .before .before) .pre) .1)
+slice-read-add c = put-room ((c .before .before .before .before .before .before .before .before .before .before) .args .m) _ _ _ _ (((c .before .before .before .before .before .before .before .before .before .before) .pre) .0) (((c .before .before .before .before .before .before .before .before .before .before) .pre) .1)
 
 add-requires : tie.Need-add-requires
 add-requires c κs = search needs
 
 mul-targets : tie.Need-mul-targets
-mul-targets c = omega (arith, ((c .before .before .before .before .before .before .before .before .before .before) .pre) .0 .few, ((c .before .before .before .before .before .before .before .before .before .before) .pre) .0 .from, ((c .before .before .before .before .before .before .before .before .before .before) .pre) .0 .letter, ((c .before .before .before .before .before .before .before .before .before .before) .pre) .0 .letters, product-small ((c .before .before .before .before .before .before .before .before .before .before) .args .m .states) (transitionAt (((c .before .before .before .before .before .before .before .before .before .before) .args .list) .now) ((c .before .before .before .before .before .before .before .before .before .before) .args .k) .letter) (((c .before .before .before .before .before .before .before .before .before .before) .pre) .0 .few) (omega (arith, ((c .before .before .before .before .before .before .before .before .before .before) .pre) .0 .letter, ((c .before .before .before .before .before .before .before .before .before .before) .pre) .0 .letters)))
+mul-targets c = (omega (arith, ((c .before .before .before .before .before .before .before .before .before .before .before) .pre) .0 .few, ((c .before .before .before .before .before .before .before .before .before .before .before) .pre) .0 .from, product-small ((c .before .before .before .before .before .before .before .before .before .before .before) .args .m .states) (transitionAt (((c .before .before .before .before .before .before .before .before .before .before .before) .args .list) .now) ((c .before .before .before .before .before .before .before .before .before .before .before) .args .k) .letter) (((c .before .before .before .before .before .before .before .before .before .before .before) .pre) .0 .few) (omega (arith, ((c .before .before .before .before .before .before .before .before .before .before .before) .pre) .0 .letter, ((c .before .before .before .before .before .before .before .before .before .before .before) .pre) .0 .letters))))
 
 slice-write-targets : tie.Need-slice-write-targets
-slice-write-targets c = put-room ((c .before .before .before .before .before .before .before .before .before .before) .args .m) _ _ _ _ (((c .before .before .before .before .before .before .before .before .before .before) .pre) .0) (((c .before .before .before .before .before .before .before .before .before .before) .pre) .1)
+slice-write-targets c = put-room ((c .before .before .before .before .before .before .before .before .before .before .before) .args .m) _ _ _ _ (((c .before .before .before .before .before .before .before .before .before .before .before) .pre) .0) (((c .before .before .before .before .before .before .before .before .before .before .before) .pre) .1)
 
 same-length : tie.Need-same-length
 same-length c = search needs
 
 returns-2 : tie.Need-returns-2
-returns-2 c = put-some ((c .before .before .before .before .before .before .before .before .before .before) .args .m) _ _ _ _ (((c .before .before .before .before .before .before .before .before .before .before) .pre) .0) (((c .before .before .before .before .before .before .before .before .before .before) .pre) .1) _ _ _ _ ((c .before .before .before .before) .is-wanted .ensures) (not-false _ ((c .before .before .before) .if1 .left)) refl ((c) .add .ensures)
+returns-2 c = put-some ((c .before .before .before .before .before .before .before .before .before .before .before) .args .m) _ _ _ _ (((c .before .before .before .before .before .before .before .before .before .before .before) .pre) .0) (((c .before .before .before .before .before .before .before .before .before .before .before) .pre) .1) _ _ _ _ ((c .before .before .before .before .before) .is-wanted .ensures) (not-false _ ((c .before .before .before .before) .if1 .left)) refl ((c) .add .ensures)
 
 pub put-spec : {M : Type 1} → statement M
 put-spec =
@@ -109,9 +112,10 @@ put-spec =
     cast-q
     is-wanted-requires
     returns
-    mul-at
     add-at
+    mul-at
     add-at-2
+    add-at-3
     mul-add
     slice-read-add
     add-requires

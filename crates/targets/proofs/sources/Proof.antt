@@ -13,7 +13,7 @@ use Rattle.stateset.proofs.empty.Reads as empty-reads
 use Rattle.targets.proofs.add_source.Reads as add-source-reads
 
 abbrev Inv-loop : tie.InvT-loop
-Inv-loop targets states set₀ p₀ set p = (states ≤ width) × (1 + states ≤ length targets) × Sources targets p set
+Inv-loop targets states set₀ p₀ set p = (states ≤ width) × (2 + states + states ≤ length targets) × Sources targets states p set
 
 abbrev μ-loop : tie.MeasureT-loop
 μ-loop targets states set₀ p₀ set p = states - p
@@ -22,10 +22,13 @@ empty-requires : tie.Need-empty-requires Inv-loop μ-loop
 empty-requires c κs = search needs
 
 loop-holds : tie.Need-loop-holds Inv-loop μ-loop
-loop-holds c = (((c .before .before) .pre) .0, ((c .before .before) .pre) .1, sources-start (((c .before .before) .args .targets) .now) (c .empty .result))
+loop-holds c = (((c .before .before) .pre) .0, ((c .before .before) .pre) .1, sources-start (((c .before .before) .args .targets) .now) ((c .before .before) .args .states) (c .empty .result))
 
 add-add-source : tie.Need-add-add-source Inv-loop μ-loop
 add-add-source c = search needs
+
+add-add-source-2 : tie.Need-add-add-source-2 Inv-loop μ-loop
+add-add-source-2 c = search needs
 
 mul-add-source : tie.Need-mul-add-source Inv-loop μ-loop
 mul-add-source c = search needs
@@ -43,7 +46,7 @@ loop-less : tie.Need-loop-less Inv-loop μ-loop
 loop-less c = search needs
 
 loop-again : tie.Need-loop-again Inv-loop μ-loop
-loop-again c = (((c .before .before .before) .loop .inv) .0, ((c .before .before .before) .loop .inv) .1, sources-turn (((c .before .before .before .before .before .before) .args .targets) .now) ((c .before .before .before) .loop .p) ((c .before .before .before) .loop .set) (c .add-source .result) (omega (arith, (c .before .before) .loop-test .taken, ((c .before .before .before) .loop .inv) .0)) (((c .before .before .before) .loop .inv) .2) (c .add-source .ensures))
+loop-again c = (((c .before .before .before) .loop .inv) .0, ((c .before .before .before) .loop .inv) .1, sources-turn (((c .before .before .before .before .before .before) .args .targets) .now) ((c .before .before .before .before .before .before) .args .states) ((c .before .before .before) .loop .p) ((c .before .before .before) .loop .set) (c .add-source .result) (omega (arith, (c .before .before) .loop-test .taken, ((c .before .before .before) .loop .inv) .0)) (((c .before .before .before) .loop .inv) .2) (c .add-source .ensures))
 
 returns : tie.Need-returns Inv-loop μ-loop
 returns c = λ p q lt h. ((c .before) .loop .inv) .2 p q (omega (arith, (c) .loop-test .left)) h
@@ -57,6 +60,7 @@ sources-spec =
     empty-requires
     loop-holds
     add-add-source
+    add-add-source-2
     mul-add-source
     shared-slice-read-add-source
     add-source-requires

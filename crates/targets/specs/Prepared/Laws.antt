@@ -9,7 +9,10 @@
 -- filled-start                == an empty table
 -- sources-start, sources-turn == none of the states, and one more
 -- made                        == a table with all transitions and its first set
--- made-whole, made-for        == so it is prepared for every word, and for a word whose letters are wanted
+-- made-for                    == so it is prepared for a word whose letters are wanted
+-- turns-carried, turns-same   == what a state reaches at a place rests on the edges of letter 0 and the sets alone
+-- closing-start, closing-good, closing-turn, closing-end == the closures of the states, one by one
+-- made-good, made-whole       == a table without closures, and one with them: prepared for every word
 use Prim.Native.Nat.{ℕ, suc, _+_, _*_, _≤_, _<_}
 use mathlib.Core.Path.{_≡_, refl, sym, ap, _∙_, subst}
 use mathlib.Core.Logic.{_↔_, _⊎_, inl, inr}
@@ -21,14 +24,17 @@ use native.Mathlib.Nat.{mul-le-mul, mul-le-mul-right, suc-mul}
 use lib.ListN.{length, getD, set, length-set}
 use lib.Seq.{getD-set-same, getD-set-other}
 use Rattle.stateset.specs.Set.{width, In, SetIs}
-use Rattle.stateset.specs.Set.Laws.{empty-in}
+use Rattle.stateset.specs.Set.Laws.{empty-in, same-members}
 use Rattle.fsbm.specs.Machine.{transitionAt, wellFormed}
 use Rattle.fsbm.specs.Published.{Listed}
 use Rattle.fsbm.specs.declared.machine.Machine.{Machine}
 use Rattle.fsbm.specs.Rules.{rules}
-use Rattle.images.specs.Graph.{setOf}
-use Rattle.images.proofs.SetCases.{row-cases}
-use Rattle.targets.specs.Prepared.{Row, Prepared, Lettered, Whole, Wanted, Inside, Filled, Made, Sources}
+use Rattle.fsbm.specs.declared.config.Mode.{Mode}
+use Rattle.fsbm.specs.declared.config.Mode.the-variants.{Normal, Buffering, Emptying}
+use Rattle.images.specs.declared.Kinds.{Kinds}
+use Rattle.images.specs.Graph.{Members, From, Star, here, more, closureOf, setOf, Graph, graph, Edge, Free, Turn, Closed, Good, Kind, KindsOf}
+use Rattle.images.proofs.SetCases.{members-as, row-cases}
+use Rattle.targets.specs.Prepared.{Row, Prepared, Lettered, Whole, Wanted, Inside, Filled, Made, Sources, Closing, WithClosures}
 
 -- the sets of a letter stand before those of a later one
 before : (s x y p q : ℕ) → p < s → x < y → x * s + p < y * s + q
@@ -105,8 +111,8 @@ module _ (m : Machine) (list wanted targets : List ℕ) (k : ℕ) (inside : Insi
       let a = inside .from in
       omega arith
 
-  more : {p x q : ℕ} → Listed list k p x q → Listed list (k + 1) p x q
-  more z = record { number = z .number; listed = omega (arith, z .listed); from = z .from; letter = z .letter; to = z .to }
+  listed-more : {p x q : ℕ} → Listed list k p x q → Listed list (k + 1) p x q
+  listed-more z = record { number = z .number; listed = omega (arith, z .listed); from = z .from; letter = z .letter; to = z .to }
 
   -- the last of k + 1 transitions, or one before it
   last : (x p q : ℕ) → Listed list (k + 1) p x q → Listed list k p x q ⊎ ((p ≡ transitionAt list k .from) × (x ≡ transitionAt list k .letter) × (q ≡ transitionAt list k .to))
@@ -125,7 +131,8 @@ module _ (m : Machine) (list wanted targets : List ℕ) (k : ℕ) (inside : Insi
   put-none b says no′ =
       record {
         room = f .room;
-        members = λ x p q le lt. (λ h. let z = f .members x p q le lt .0 h in (z .0, more (z .1)), λ z. f .members x p q le lt .1 (z .0, at x p q (z .0) (last x p q (z .1))));
+        none-closed = f .none-closed;
+        members = λ x p q le lt. (λ h. let z = f .members x p q le lt .0 h in (z .0, listed-more (z .1)), λ z. f .members x p q le lt .1 (z .0, at x p q (z .0) (last x p q (z .1))));
       }
     where
       at : (x p q : ℕ) → Wanted wanted x → Listed list k p x q ⊎ ((p ≡ transitionAt list k .from) × (x ≡ transitionAt list k .letter) × (q ≡ transitionAt list k .to)) → Listed list k p x q
@@ -137,6 +144,7 @@ module _ (m : Machine) (list wanted targets : List ℕ) (k : ℕ) (inside : Insi
   put-some b i v r says yes′ place s =
       record {
         room = subst (λ (n : ℕ). setOf (m .states) (m .letters) (m .states) ≤ n) (sym (length-set targets i r)) (f .room);
+        none-closed = getD-set-other targets i 1 r 0 (λ (e : 1 ≡ i). omega arith) ∙ f .none-closed;
         members = λ x p q le lt.
             row-cases targets i r room (λ j t. j ≡ setOf (m .states) x p → In t q ↔ (Wanted wanted x × Listed list (k + 1) p x q))
             (λ e. here x p q le lt (e)) (λ j n e. others x p q le lt j n e) (setOf (m .states) x p) refl;
@@ -152,7 +160,7 @@ module _ (m : Machine) (list wanted targets : List ℕ) (k : ℕ) (inside : Insi
           same = apart (m .states) (transitionAt list k .letter) x (transitionAt list k .from) p (inside .from) lt (sym place ∙ e)
 
           to : In (getD targets i 0) q ⊎ ((q ≡ transitionAt list k .to) × (q < width)) → Wanted wanted x × Listed list (k + 1) p x q
-          to (inl h) = let z = f .members x p q le lt .0 (subst (λ (j : ℕ). In (getD targets j 0) q) e h) in (z .0, more (z .1))
+          to (inl h) = let z = f .members x p q le lt .0 (subst (λ (j : ℕ). In (getD targets j 0) q) e h) in (z .0, listed-more (z .1))
           to (inr h) = (subst (Wanted wanted) (same .0) (says .0 yes′), record { number = k; listed = omega arith; from = same .1; letter = same .0; to = sym (h .0) })
 
           back : Wanted wanted x → Listed list k p x q ⊎ ((p ≡ transitionAt list k .from) × (x ≡ transitionAt list k .letter) × (q ≡ transitionAt list k .to)) → In (getD targets i 0) q ⊎ ((q ≡ transitionAt list k .to) × (q < width))
@@ -161,7 +169,7 @@ module _ (m : Machine) (list wanted targets : List ℕ) (k : ℕ) (inside : Insi
 
       others : (x p q : ℕ) → x ≤ m .letters → p < m .states → (j : ℕ) → (j ≡ i → ⊥) → j ≡ setOf (m .states) x p → In (getD targets j 0) q ↔ (Wanted wanted x × Listed list (k + 1) p x q)
       others x p q le lt j n e = (
-        λ h. let z = f .members x p q le lt .0 (subst (λ (t : ℕ). In (getD targets t 0) q) e h) in (z .0, more (z .1)),
+        λ h. let z = f .members x p q le lt .0 (subst (λ (t : ℕ). In (getD targets t 0) q) e h) in (z .0, listed-more (z .1)),
         λ z. subst (λ (t : ℕ). In (getD targets t 0) q) (sym e) (f .members x p q le lt .1 (z .0, back (last x p q (z .1)))),
       )
         where
@@ -175,6 +183,7 @@ pub filled-start : (m : Machine) (list wanted targets : List ℕ) → setOf (m .
 filled-start m list wanted targets room zeros =
     record {
       room = room;
+      none-closed = zeros 1;
       members = λ x p q le lt. (
         λ h. absurd (empty-in q (subst (λ (t : ℕ). In t q) (zeros (setOf (m .states) x p)) h)),
         λ (z : Wanted wanted x × Listed list 0 p x q). absurd (omega (arith, z .1 .listed)),
@@ -183,22 +192,23 @@ filled-start m list wanted targets room zeros =
 
 -- The states with epsilon transitions
 
-pub sources-start : (targets : List ℕ) (v : ℕ) → Sources targets 0 v
-sources-start targets v p q lt h = absurd (omega arith)
+pub sources-start : (targets : List ℕ) (states v : ℕ) → Sources targets states 0 v
+sources-start targets states v p q lt h = absurd (omega arith)
 
-pub sources-turn : (targets : List ℕ) (k a b : ℕ) → k < width → Sources targets k a → ((q : ℕ) → In a q → In b q) × ((getD targets (1 + k) 0 ≡ 0 → ⊥) → k < width → In b k) → Sources targets (k + 1) b
-sources-turn targets k a b lt s adds p q less h = at (ℕ-discrete p k)
+pub sources-turn : (targets : List ℕ) (states k a b : ℕ) → k < width → Sources targets states k a → ((q : ℕ) → In a q → In b q) × ((getD targets (2 + states + k) 0 ≡ 0 → ⊥) → k < width → In b k)
+    → Sources targets states (k + 1) b
+sources-turn targets states k a b lt s adds p q less h = at (ℕ-discrete p k)
   where
     at : Dec (p ≡ k) → In b p
     at (yes e) =
-        subst (λ (n : ℕ). In b n) (sym e) (adds .1 (λ z. empty-in q (subst (λ (y : ℕ). In y q) (ap (λ (n : ℕ). getD targets (1 + n) 0) e ∙ z) h)) lt)
+        subst (λ (n : ℕ). In b n) (sym e) (adds .1 (λ z. empty-in q (subst (λ (y : ℕ). In y q) (ap (λ (n : ℕ). getD targets (2 + states + n) 0) e ∙ z) h)) lt)
     at (no n) = adds .0 p (s p q (omega arith) h)
 
 -- The whole table
 
-pub made : (m : Machine) (list wanted targets : List ℕ) (v : ℕ) → wellFormed m list ≡ true → Filled m list wanted targets (m .transitions) → Sources targets (m .states) v
+pub made : (m : Machine) (list wanted targets : List ℕ) (v : ℕ) → wellFormed m list ≡ true → Filled m list wanted targets (m .transitions) → Sources targets (m .states) (m .states) v
     → Made m list wanted (set targets 0 v)
-made m list wanted targets v good f from = record { rows = row; sources = λ p q d. subst (λ (y : ℕ). In y p) (sym (getD-set-same targets 0 v 0 some)) (source p q d) }
+made m list wanted targets v good f from = record { rows = row; none-closed = getD-set-other targets 0 1 v 0 (λ (e : 1 ≡ 0). omega arith) ∙ f .none-closed; sources = λ p q d. subst (λ (y : ℕ). In y p) (sym (getD-set-same targets 0 v 0 some)) (source p q d) }
   where
     some : 0 < length targets
     some = let z = f .room in omega arith
@@ -220,17 +230,157 @@ made m list wanted targets v good f from = record { rows = row; sources = λ p q
     source p q d =
         let lt : p < m .states = subst (λ (n : ℕ). n < m .states) (d .from) (rules m list good .from-below (d .number) (d .listed)) in
         let h = f .members 0 p q (omega arith) lt .1 (inl refl, d) in
-        let z : setOf (m .states) 0 p ≡ 1 + p = omega arith in
+        let z : setOf (m .states) 0 p ≡ 2 + m .states + p = omega arith in
         from p q lt (subst (λ (n : ℕ). In (getD targets n 0) q) z h)
 
-module _ (m : Machine) (list wanted targets : List ℕ) (t : Made m list wanted targets) where
-  pub made-for : (w : List ℕ) → Lettered (m .letters) w → ((i : ℕ) → i < length w → 0 < getD wanted (getD w i 0) 0) → Prepared m list w targets
-  made-for w letters marked =
+-- no set: no closures
+pub none-in-zero : (targets : List ℕ) → getD targets 1 0 ≡ 0 → (p : ℕ) → In (getD targets 1 0) p → ⊥
+none-in-zero targets e p h = empty-in p (subst (λ (y : ℕ). In y p) e h)
+
+pub made-for : (m : Machine) (list wanted targets : List ℕ) → Made m list wanted targets → (w : List ℕ) → Lettered (m .letters) w
+    → ((i : ℕ) → i < length w → 0 < getD wanted (getD w i 0) 0) → Prepared m list w targets
+made-for m list wanted targets t w letters marked =
+    record {
+      epsilon = t .rows 0 (omega arith) (inl refl);
+      letters = λ i lt. t .rows (getD w i 0) (letters i lt) (inr (marked i lt));
+      sources = t .sources;
+      closed = λ k kinds p h. absurd (none-in-zero targets (t .none-closed) p h);
+    }
+
+-- The closures
+
+-- what a state reaches at a place, in a graph that has the edges and the sets of another
+module _ (G H : Graph) (edges : (T : Mode) (p q : ℕ) → Edge G T 0 p q → Edge H T 0 p q) (begins : (q : ℕ) → In (G .buffering) q → In (H .buffering) q) (turns : (q : ℕ) → In (G .matching) q → In (H .matching) q) where
+  free-carried : (T : Mode) {p q : ℕ} → Free G T p q → Free H T p q
+  free-carried T here = here
+  free-carried T (more s e) = more (free-carried T s) (edges T _ _ e)
+
+  turn-carried : (p q : ℕ) → Turn G p q → Turn H p q
+  turn-carried p q (inl e) = inl (edges Normal p q e)
+  turn-carried p q (inr c) =
+      inr (record {
+        begins = begins p (c .begins);
+        middle = c .middle;
+        storing = free-carried Buffering (c .storing);
+        turns = turns (c .middle) (c .turns);
+        emptying = free-carried Emptying (c .emptying);
+      })
+
+  pub turns-carried : {p q : ℕ} → Star (Turn G) p q → Star (Turn H) p q
+  turns-carried here = here
+  turns-carried (more s e) = more (turns-carried s) (turn-carried _ _ e)
+
+-- and where two tables have the same row of letter 0
+module _ (states g h : ℕ) (a b : List ℕ) (same : (i : ℕ) → 2 + states ≤ i → getD b i 0 ≡ getD a i 0) where
+  pub turns-same : (p q : ℕ) → Star (Turn (graph a states g h)) p q ↔ Star (Turn (graph b states g h)) p q
+  turns-same p q = (
+    turns-carried (graph a states g h) (graph b states g h) (λ T p q e. record { state = e .state; target = subst (λ (y : ℕ). In y q) (sym (row p)) (e .target); may = e .may }) (λ q z. z) (λ q z. z),
+    turns-carried (graph b states g h) (graph a states g h) (λ T p q e. record { state = e .state; target = subst (λ (y : ℕ). In y q) (row p) (e .target); may = e .may }) (λ q z. z) (λ q z. z),
+  )
+    where
+      row : (p : ℕ) → getD b (setOf states 0 p) 0 ≡ getD a (setOf states 0 p) 0
+      row p = same (setOf states 0 p) (omega arith)
+
+module _ (states g h : ℕ) (before : List ℕ) (good : Good before states g h) where
+  pub closing-start : Closing states g h before before 0
+  closing-start = record { size = refl; others = λ i z. refl; done = λ q lt. absurd (omega arith) }
+
+  module _ (now : List ℕ) (p : ℕ) (c : Closing states g h before now p) where
+    pub closing-good : getD before 1 0 ≡ 0 → Good now states g h
+    closing-good none =
+        record {
+          few = good .few;
+          row = let a = good .row in let e = c .size in omega arith;
+          epsilons = λ p q lt z. subst (λ (y : ℕ). In y p) (sym (c .others 0 (inl (omega arith))))
+              (good .epsilons p q lt (subst (λ (y : ℕ). In y q) (c .others (setOf states 0 p) (inr (omega arith))) z));
+          closed = λ p z. absurd (none-in-zero now (c .others 1 (inl (omega arith)) ∙ none) p z);
+        }
+
+    pub closing-turn : (alone own : ℕ) → p < states → Members alone (λ q. (q ≡ p) × (q < width)) → Members own (From alone (Star (Turn (graph now states g h))))
+        → Closing states g h before (set now (2 + p) own) (p + 1)
+    closing-turn alone own lt only closure =
+        record {
+          size = length-set now (2 + p) own ∙ c .size;
+          others = λ i z. getD-set-other now (2 + p) i own 0 (λ (e : i ≡ 2 + p). other i e z) ∙ c .others i z;
+          done = λ q less. row-cases now (2 + p) own room (λ j t. j ≡ closureOf q → Members t (Star (Turn (graph before states g h)) q)) (λ e. here′ q (omega arith))
+              (λ j n e. subst (λ (y : ℕ). Members (getD now y 0) (Star (Turn (graph before states g h)) q)) (sym e) (c .done q (omega arith))) (closureOf q) refl;
+        }
+      where
+        room : 2 + p < length now
+        room = let a = good .row in let e = c .size in omega arith
+
+        other : (i : ℕ) → i ≡ 2 + p → (i < 2) ⊎ (2 + states ≤ i) → ⊥
+        other i e (inl z) = omega arith
+        other i e (inr z) = omega arith
+
+        small : p < width
+        small = let a = good .few in omega arith
+
+        -- the closure of p, from the table as it was
+        here′ : (q : ℕ) → q ≡ p → Members own (Star (Turn (graph before states g h)) q)
+        here′ q e = subst (λ (n : ℕ). Members own (Star (Turn (graph before states g h)) n)) (sym e)
+            (members-as closure
+            (λ r z. turns-same states g h before now (λ i le. c .others i (inr le)) p r .1 (subst (λ (n : ℕ). Star (Turn (graph now states g h)) n r) (only .members (z .0) .0 (z .1) .0) (z .2)))
+            (λ r z. (p, only .members p .1 (refl, small), turns-same states g h before now (λ i le. c .others i (inr le)) p r .0 z)))
+
+  pub closing-end : (now : List ℕ) (all : ℕ) → Closing states g h before now states → Members all (λ p. (p < states) × (p < width)) → WithClosures states g h before (set now 1 all)
+  closing-end now all c full =
       record {
-        epsilon = t .rows 0 (omega arith) (inl refl);
-        letters = λ i lt. t .rows (getD w i 0) (letters i lt) (inr (marked i lt));
-        sources = t .sources;
+        size = length-set now 1 all ∙ c .size;
+        epsilons = getD-set-other now 1 0 all 0 (λ (e : 0 ≡ 1). omega arith) ∙ c .others 0 (inl (omega arith));
+        rows = λ i le. getD-set-other now 1 i all 0 (λ (e : i ≡ 1). omega arith) ∙ c .others i (inr le);
+        all = λ p lt. subst (λ (y : ℕ). In y p) (sym second) (full .members p .1 (lt, let a = good .few in omega arith));
+        closed = λ p z. closed p (full .members p .0 (subst (λ (y : ℕ). In y p) second z) .0);
+      }
+    where
+      second : getD (set now 1 all) 1 0 ≡ all
+      second = getD-set-same now 1 all 0 (let a = good .row in let e = c .size in omega arith)
+
+      closed : (p : ℕ) → p < states → Closed (set now 1 all) states g h p
+      closed p lt =
+          record {
+            state = lt;
+            closure = subst (λ (y : ℕ). Members y (Star (Turn (graph (set now 1 all) states g h)) p)) (sym (getD-set-other now 1 (closureOf p) all 0 (λ (e : closureOf p ≡ 1). omega arith)))
+                (members-as (c .done p lt) (λ q z. same p q .0 z) (λ q z. same p q .1 z));
+          }
+        where
+          same : (p q : ℕ) → Star (Turn (graph before states g h)) p q ↔ Star (Turn (graph (set now 1 all) states g h)) p q
+          same = turns-same states g h before (set now 1 all) (λ i le. getD-set-other now 1 i all 0 (λ (e : i ≡ 1). omega arith) ∙ c .others i (inr le))
+
+-- The whole table
+
+pub made-good : (m : Machine) (list wanted targets : List ℕ) (g h : ℕ) → wellFormed m list ≡ true → Made m list wanted targets → Good targets (m .states) g h
+made-good m list wanted targets g h good t =
+    record {
+      few = rules m list good .states-fit;
+      row = t .rows 0 (omega arith) (inl refl) .room;
+      epsilons = λ p q lt z. t .sources p q (t .rows 0 (omega arith) (inl refl) .listed p q lt .0 z);
+      closed = λ p z. absurd (none-in-zero targets (t .none-closed) p z);
+    }
+
+-- two sets of the states of one kind are the same number
+one-set : (marks : List ℕ) (states b r s : ℕ) → Kind marks states b r → Kind marks states b s → r ≡ s
+one-set marks states b r s x y = same-members r s (λ q. (λ z. y .members q .1 (x .members q .0 z), λ z. x .members q .1 (y .members q .0 z)))
+
+module _ (m : Machine) (list wanted before after : List ℕ) (k : Kinds) (kinds : KindsOf (m .marks) (m .states) k) (t : Made m list wanted before) (c : WithClosures (m .states) (k .buffering) (k .matching) before after) where
+  -- a row is as it was
+  row-kept : (x : ℕ) → Row m list before x → Row m list after x
+  row-kept x r =
+      record {
+        room = let a = r .room in let e = c .size in omega arith;
+        listed = λ p q lt. (
+          λ z. r .listed p q lt .0 (subst (λ (y : ℕ). In y q) (c .rows (setOf (m .states) x p) (omega arith)) z),
+          λ z. subst (λ (y : ℕ). In y q) (sym (c .rows (setOf (m .states) x p) (omega arith))) (r .listed p q lt .1 z),
+        );
       }
 
-  pub made-whole : ((x : ℕ) → x ≤ m .letters → 0 < getD wanted x 0) → Whole m list targets
-  made-whole all w letters = made-for w letters (λ i lt. all (getD w i 0) (letters i lt))
+  pub made-whole : ((x : ℕ) → x ≤ m .letters → 0 < getD wanted x 0) → Whole m list after
+  made-whole all w letters =
+      record {
+        epsilon = row-kept 0 (t .rows 0 (omega arith) (inl refl));
+        letters = λ i lt. row-kept (getD w i 0) (t .rows (getD w i 0) (letters i lt) (inr (all (getD w i 0) (letters i lt))));
+        sources = λ p q z. subst (λ (y : ℕ). In y p) (sym (c .epsilons)) (t .sources p q z);
+        closed = λ l others p z.
+            subst (λ (g : ℕ). Closed after (m .states) g (l .matching) p) (one-set (m .marks) (m .states) 4 (k .buffering) (l .buffering) (kinds .buffering) (others .buffering))
+            (subst (λ (h : ℕ). Closed after (m .states) (k .buffering) h p) (one-set (m .marks) (m .states) 8 (k .matching) (l .matching) (kinds .matching) (others .matching)) (c .closed p z));
+      }

@@ -18,7 +18,7 @@ use Rattle.images.proofs.close_set.Reads as close-set-reads
 use Rattle.stateset.proofs.union.Reads as union-reads
 
 abbrev Inv-loop : tie.InvT-loop
-Inv-loop targets states g h word ends₀ sets₀ i starts last s₀ tail₀ j₀ ends sets s tail j = Good targets states × Rooms targets states word × (length word ≤ 255) × Ends word ends (λ d. i + d) × Copying (graph targets states g h) word i starts sets₀ sets j s last × Tailed (graph targets states g h) word i tail × (tail .place ≤ j)
+Inv-loop targets states g h word ends₀ sets₀ i starts last s₀ tail₀ j₀ ends sets s tail j = Good targets states g h × Rooms targets states word × (length word ≤ 255) × Ends word ends (λ d. i + d) × Copying (graph targets states g h) word i starts sets₀ sets j s last × Tailed (graph targets states g h) word i tail × (tail .place ≤ j)
 
 abbrev μ-loop : tie.MeasureT-loop
 μ-loop targets states g h word ends₀ sets₀ i starts last s₀ tail₀ j₀ ends sets s tail j = last - j

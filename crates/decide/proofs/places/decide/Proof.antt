@@ -17,7 +17,7 @@ start-at-requires : tie.Need-start-at-requires
 start-at-requires c κs = search needs
 
 reach-all-requires : tie.Need-reach-all-requires
-reach-all-requires c κs = (good-table (((c .before .before .before .before .before) .pre) .2) (((c .before .before .before .before .before) .pre) .0), rooms (((c .before .before .before .before .before) .pre) .2), ((c .before .before .before .before .before) .pre) .1, ((c .before) .start-at .ensures) (graph (((c .before .before .before .before .before) .args .targets) .now) ((c .before .before .before .before .before) .args .m .states) ((c .before .before .before .before .before) .args .kinds .buffering) ((c .before .before .before .before .before) .args .kinds .matching)) (((c .before .before .before .before .before) .args .word) .now) .fitting)
+reach-all-requires c κs = (good-table (((c .before .before .before .before .before) .pre) .2) (((c .before .before .before .before .before) .pre) .0) ((c .before .before .before .before .before) .args .kinds) (((c .before .before .before .before .before) .pre) .3), rooms (((c .before .before .before .before .before) .pre) .2), ((c .before .before .before .before .before) .pre) .1, ((c .before) .start-at .ensures) (graph (((c .before .before .before .before .before) .args .targets) .now) ((c .before .before .before .before .before) .args .m .states) ((c .before .before .before .before .before) .args .kinds .buffering) ((c .before .before .before .before .before) .args .kinds .matching)) (((c .before .before .before .before .before) .args .word) .now) .fitting)
 
 mul-intersection : tie.Need-mul-intersection
 mul-intersection c = search needs

@@ -13,7 +13,7 @@ use Rattle.decide.proofs.places.reach_all.Lts as lts
 use Rattle.decide.proofs.places.pass_place.Reads as pass-place-reads
 
 abbrev Inv-loop : tie.InvT-loop
-Inv-loop targets states g h word sets₀ ends₀ i₀ sets ends i = Good targets states × Rooms targets states word × (length word ≤ 255) × (i ≤ length word + 1) × Ends word ends (λ d. i + d) × Fitting 256 sets × ((q : ℕ) → Stage (graph targets states g h) word q sets₀ 0 → Stage (graph targets states g h) word q sets i)
+Inv-loop targets states g h word sets₀ ends₀ i₀ sets ends i = Good targets states g h × Rooms targets states word × (length word ≤ 255) × (i ≤ length word + 1) × Ends word ends (λ d. i + d) × Fitting 256 sets × ((q : ℕ) → Stage (graph targets states g h) word q sets₀ 0 → Stage (graph targets states g h) word q sets i)
 
 abbrev μ-loop : tie.MeasureT-loop
 μ-loop targets states g h word sets₀ ends₀ i₀ sets ends i = length word + 1 - i

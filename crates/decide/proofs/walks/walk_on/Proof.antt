@@ -9,7 +9,7 @@ use Rattle.decide.proofs.walks.walk_on.Statement.{statement}
 use Rattle.decide.proofs.walks.walk_on.Tie as tie
 
 abbrev Inv-loop : tie.InvT-loop
-Inv-loop targets states g h mode word k j s near₀ at₀ near at = Good targets states × Rooms targets states word × (k ≤ at) × (at ≤ j) × (j ≤ length word) × ((i set : ℕ) → i ≤ k → Members s (From set (λ p q. Walk (graph targets states g h) word mode i p k q)) → Members near (From set (λ p q. Walk (graph targets states g h) word mode i p at q)))
+Inv-loop targets states g h mode word k j s near₀ at₀ near at = Good targets states g h × Rooms targets states word × (k ≤ at) × (at ≤ j) × (j ≤ length word) × ((i set : ℕ) → i ≤ k → Members s (From set (λ p q. Walk (graph targets states g h) word mode i p k q)) → Members near (From set (λ p q. Walk (graph targets states g h) word mode i p at q)))
 
 abbrev μ-loop : tie.MeasureT-loop
 μ-loop targets states g h mode word k j s near₀ at₀ near at = j - at
