@@ -19,7 +19,7 @@ use lib.ListN.{length, take, drop, getD, length-drop}
 use lib.Seq.{drop-cons, length-take-le}
 use lib.Dec.{leb, eqb}
 use borrow.Author.Tests.{leb-true, eq-eqb, ne-eqb}
-use Rattle.graphs.specs.Search.Laws.{and-true}
+use Rattle.basics.specs.Search.Laws.{and-true}
 use Rattle.columns.specs.Column.{noNumber, isDigit, Pass, blank, nought, digits, broken, next, passFrom, found, columnNumber, digitOr, padded, columnOf}
 use Rattle.columns.specs.Column.Laws.{column-of-number}
 use Rattle.columns.proofs.Passes.{pass-broken, blank-space, blank-nought, blank-rest, blank-first, digits-more}

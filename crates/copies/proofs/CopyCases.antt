@@ -20,8 +20,8 @@ use lib.ListN.{length, getD, take, drop, set, drop-of-length-le, length-drop}
 use lib.Seq.{drop-cons, paste, paste-zero, paste-suc, length-paste, take-all, getD-drop, drop-drop}
 use lib.Dec.{eqb, ltb}
 use borrow.Author.Tests.{eq-eqb, ne-eqb, le-leb, lt-leb}
-use Rattle.graphs.specs.Search.Laws.{and-true}
-use Rattle.graphs.specs.Search.Loops.{first, second}
+use Rattle.basics.specs.Search.Laws.{and-true}
+use Rattle.basics.specs.Search.Loops.{first, second}
 use Rattle.fsbm.specs.Machine.{wellFormed, initial}
 use Rattle.fsbm.specs.Moves.{move, startAt, acceptingFrom, accepting, beginEmptying}
 use Rattle.fsbm.specs.Answers.{tableAndWord, refusal}

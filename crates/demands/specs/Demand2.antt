@@ -25,8 +25,8 @@ use native.Mathlib.Omega.{arith}
 use lib.ListN.{length, take, drop, take-append-drop}
 use lib.Dec.{leb, eqb}
 use borrow.Author.Tests.{le-leb, eq-eqb}
-use Rattle.graphs.specs.Bools.{false-iff}
-use Rattle.graphs.specs.Search.Loops.{first}
+use Rattle.basics.specs.Bools.{false-iff}
+use Rattle.basics.specs.Search.Loops.{first}
 use Rattle.fsbm.specs.Moves.{accepting}
 use Rattle.fsbm.specs.Published.{fsbmOf, InLanguage}
 use Rattle.fsbm.specs.Entries.{WrittenRun}

@@ -24,8 +24,8 @@ use lib.ListN.{length, drop, length-drop}
 use lib.Seq.{slice, slice-empty, drop-length}
 use lib.Dec.{ltb, eqb}
 use borrow.Author.Tests.{ltb-true, eqb-true, eq-eqb, lt-ltb, le-ltb}
-use Rattle.graphs.specs.Search.{AllBelow, none, more}
-use Rattle.graphs.specs.Search.Laws.{and-true, and-both-true}
+use Rattle.basics.specs.Search.{AllBelow, none, more}
+use Rattle.basics.specs.Search.Laws.{and-true, and-both-true}
 use Rattle.graphs.specs.Paths.{Path, here, step}
 use Rattle.fsbm.specs.Machine.{wellFormed, transitionAt, initial, final, buffering, matching, bothMatching}
 use Rattle.fsbm.specs.Moves.{wellPlaced, readsLetter, advanced, goes, takes, changes, move, startAt, isNormal, accepts, acceptingFrom, accepting, beginBuffering, beginEmptying, backToNormal}
@@ -38,7 +38,7 @@ use Rattle.fsbm.specs.declared.config.Config.{Config}
 use Rattle.fsbm.specs.declared.config.Move.{Move}
 use Rattle.fsbm.specs.declared.config.Mode.{Mode}
 use Rattle.fsbm.specs.declared.config.Mode.the-variants.{Normal, Buffering, Emptying}
-use Rattle.graphs.specs.Bools.{cond-elim, not-says, says-not, not-and-says, says-not-and}
+use Rattle.basics.specs.Bools.{cond-elim, not-says, says-not, not-and-says, says-not-and}
 use Rattle.fsbm.specs.Rules.{Rules, rules, Placed, placed, unplaced}
 use Rattle.language.specs.Strings.{reads-slice, slice-reads, reads-drop, drop-reads, slice-grows, slice-none}
 

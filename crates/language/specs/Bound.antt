@@ -15,8 +15,8 @@ use mathlib.Core.List.{List, [], append-nil}
 use native.Mathlib.Omega.{arith}
 use native.Mathlib.Nat.{mul-add-mod-self-right, mul-add-div-right, mod-eq-of-lt, div-eq-of-lt, mul-le-mul-right, mul-right-comm, suc-mul}
 use lib.ListN.{length}
-use Rattle.graphs.specs.Search.{AllBelow}
-use Rattle.graphs.specs.Search.Laws.{true-or-false, not-both}
+use Rattle.basics.specs.Search.{AllBelow}
+use Rattle.basics.specs.Search.Laws.{true-or-false, not-both}
 use Rattle.graphs.specs.Paths.{Path, here, step}
 use Rattle.graphs.specs.Paths.Laws.{closed, short-path}
 use Rattle.fsbm.specs.Machine.{wellFormed}
@@ -27,7 +27,7 @@ use Rattle.fsbm.specs.Published.{FSBM, Listed, fsbmOf, Configuration, config, Y
 use Rattle.fsbm.specs.declared.machine.Machine.{Machine}
 use Rattle.fsbm.specs.declared.config.Mode.{Mode}
 use Rattle.fsbm.specs.declared.config.Mode.the-variants.{Normal, Buffering, Emptying}
-use Rattle.graphs.specs.Bools.{false-iff}
+use Rattle.basics.specs.Bools.{false-iff}
 use Rattle.fsbm.specs.Rules.{Rules, rules, buffering-below, matching-below}
 use Rattle.language.specs.Agreement.{run-path, path-accepting, accepting-published}
 

@@ -21,7 +21,7 @@ use lib.ListN.{length, getD, set, length-set, replicate, length-replicate, getD-
 use lib.Seq.{getD-set-same, getD-set-other, ext-getD}
 use lib.Dec.{leb, ltb, eqb}
 use borrow.Author.Tests.{eq-eqb, ne-eqb, le-leb, lt-leb, lt-ltb, le-ltb}
-use Rattle.graphs.specs.Search.Loops.{first, second, pass, stop}
+use Rattle.basics.specs.Search.Loops.{first, second, pass, stop}
 use Rattle.fsbm.specs.Machine.{initial, final, buffering, matching, transitionAt, wellFormed, maxStates, maxTransitions}
 use Rattle.fsbm.specs.Rules.{Rules}
 use Rattle.fsbm.specs.declared.machine.Machine.{Machine}

@@ -19,9 +19,9 @@ use lib.ListN.{length, getD, drop}
 use lib.Seq.{slice, slice-empty, drop-length}
 use lib.Dec.{ltb, eqb}
 use borrow.Author.Tests.{ltb-true, eqb-true, lt-ltb, le-ltb}
-use Rattle.graphs.specs.Search.{AllBelow}
-use Rattle.graphs.specs.Search.Laws.{and-true, and-both-true, not-both}
-use Rattle.graphs.specs.Search.Loops.{first, second}
+use Rattle.basics.specs.Search.{AllBelow}
+use Rattle.basics.specs.Search.Laws.{and-true, and-both-true, not-both}
+use Rattle.basics.specs.Search.Loops.{first, second}
 use Rattle.graphs.specs.Paths.{Path, here, step}
 use Rattle.fsbm.specs.Accepted.{accepted}
 use Rattle.fsbm.specs.Machine.{maxStates, markOf, initial, final, matching, transitionAt, wellFormed}
@@ -33,7 +33,7 @@ use Rattle.fsbm.specs.declared.config.Config.{Config}
 use Rattle.fsbm.specs.declared.config.Mode.{Mode}
 use Rattle.fsbm.specs.declared.config.Mode.the-variants.{Normal, Buffering, Emptying}
 use Rattle.language.specs.Agreement.{accepting-path, path-accepting}
-use Rattle.graphs.specs.Bools.{same-truth}
+use Rattle.basics.specs.Bools.{same-truth}
 use Rattle.language.specs.Bound.{accepted-iff-run}
 use Rattle.fsbm.specs.Rules.{Rules, rules, buffering-below, matching-below}
 use Rattle.product.specs.Count.{joined-count}

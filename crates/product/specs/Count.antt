@@ -13,8 +13,8 @@ use native.Mathlib.Nat.{zero-add, one-mul, zero-mul, mul-one}
 use lib.ListN.{length}
 use lib.Dec.{eqb}
 use borrow.Author.Tests.{eqb-true, ne-eqb}
-use Rattle.graphs.specs.Search.Laws.{true-or-false}
-use Rattle.graphs.specs.Search.Loops.{first, second}
+use Rattle.basics.specs.Search.Laws.{true-or-false}
+use Rattle.basics.specs.Search.Loops.{first, second}
 use Rattle.fsbm.specs.Machine.{transitionAt}
 use Rattle.fsbm.specs.declared.machine.Machine.{Machine}
 use Rattle.fsbm.specs.declared.machine.Transition.{Transition}

@@ -19,7 +19,7 @@ use Rattle.fsbm.specs.Machine.{transitionAt}
 use Rattle.fsbm.specs.Published.{Listed}
 use Rattle.fsbm.specs.declared.machine.Machine.{Machine}
 use Rattle.fsbm.specs.declared.machine.Transition.{Transition}
-use Rattle.graphs.specs.Bools.{cond-elim}
+use Rattle.basics.specs.Bools.{cond-elim}
 use Rattle.product.specs.Each.{each}
 use Rattle.product.specs.Each.Laws.{each-to}
 use Rattle.product.specs.Product.{pairState, joint, jointMoves, joinedFrom, joined}

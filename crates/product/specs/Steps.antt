@@ -14,12 +14,12 @@ use native.Mathlib.Omega.{arith}
 use lib.ListN.{length, getD}
 use lib.Dec.{eqb}
 use borrow.Author.Tests.{eqb-true, eqb-false, eq-eqb, ne-eqb}
-use Rattle.graphs.specs.Search.Laws.{and-true, and-both-true, true-or-false}
+use Rattle.basics.specs.Search.Laws.{and-true, and-both-true, true-or-false}
 use Rattle.fsbm.specs.Machine.{transitionAt}
 use Rattle.fsbm.specs.Published.{Listed}
 use Rattle.fsbm.specs.declared.machine.Machine.{Machine}
 use Rattle.fsbm.specs.declared.machine.Transition.{Transition}
-use Rattle.graphs.specs.Bools.{cond-elim}
+use Rattle.basics.specs.Bools.{cond-elim}
 use Rattle.product.specs.Each.{each}
 use Rattle.product.specs.Each.Laws.{each-to, each-of}
 use Rattle.product.specs.Product.{pairState, joint, jointMoves, joinedFrom, joined, flat}

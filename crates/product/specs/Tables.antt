@@ -17,13 +17,13 @@ use native.Mathlib.Decide.{ℕ-discrete}
 use native.Mathlib.Nat.{mul-le-mul-right, suc-mul, mul-add-div-right, div-eq-of-lt, mul-add-mod-self-right, mod-eq-of-lt, mod-lt, div-lt-iff-lt-mul}
 use lib.Dec.{leb, ltb, eqb}
 use borrow.Author.Tests.{leb-true, ltb-true, eqb-true, eqb-false, not-true}
-use Rattle.graphs.specs.Search.{allBelow}
-use Rattle.graphs.specs.Search.Laws.{and-true, true-or-false, allBelow-true}
+use Rattle.basics.specs.Search.{allBelow}
+use Rattle.basics.specs.Search.Laws.{and-true, true-or-false, allBelow-true}
 use Rattle.fsbm.specs.Machine.{maxStates, maxTransitions, buffering, matching, transitionAt, precedes, wellFormed}
 use Rattle.fsbm.specs.Rules.{Rules, rules}
 use Rattle.fsbm.specs.declared.machine.Machine.{Machine}
 use Rattle.fsbm.specs.declared.machine.Transition.{Transition}
-use Rattle.graphs.specs.Bools.{cond-elim}
+use Rattle.basics.specs.Bools.{cond-elim}
 use Rattle.product.specs.Product.{plainState, plainTransition, plain, joinedCount, joinFault}
 
 abbrev pub order : Transition → ℕ

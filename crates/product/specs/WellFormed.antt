@@ -15,14 +15,14 @@ use native.Mathlib.Nat.{mul-le-mul, div-add-mod'}
 use lib.ListN.{length, getD, length-append}
 use lib.Dec.{leb, ltb, eqb, eqb·suc-zero}
 use borrow.Author.Tests.{leb-true, ltb-true, ltb-false, lt-ltb, le-ltb, le-leb, eq-eqb, ne-eqb, eqb-true, eqb-false, not-true}
-use Rattle.graphs.specs.Search.{allBelow}
-use Rattle.graphs.specs.Search.Laws.{and-both-true, true-or-false, allBelow-true}
-use Rattle.graphs.specs.Search.Loops.{first, second}
+use Rattle.basics.specs.Search.{allBelow}
+use Rattle.basics.specs.Search.Laws.{and-both-true, true-or-false, allBelow-true}
+use Rattle.basics.specs.Search.Loops.{first, second}
 use Rattle.fsbm.specs.Machine.{maxStates, maxLetters, maxTransitions, markOf, initial, final, buffering, matching, transitionAt, goodMark, named, precedes, goodTransition, wellFormed}
 use Rattle.fsbm.specs.Rules.{one-kind}
 use Rattle.fsbm.specs.declared.machine.Machine.{Machine}
 use Rattle.fsbm.specs.declared.machine.Transition.{Transition}
-use Rattle.graphs.specs.Bools.{cond-elim, says-not-and}
+use Rattle.basics.specs.Bools.{cond-elim, says-not-and}
 use Rattle.product.specs.Count.{joined-count, joined-length}
 use Rattle.product.specs.Each.{each}
 use Rattle.product.specs.Each.Laws.{each-single}

@@ -3,7 +3,7 @@ ghost use Prim.Native.Nat.{ℕ, _*_, _≤_, _<_};
 ghost use mathlib.Core.Path.{_≡_};
 ghost use mathlib.Core.Bool.{true};
 ghost use lib.ListN.{getD};
-ghost use Rattle.graphs.specs.Search.{allBelow};
+ghost use Rattle.basics.specs.Search.{allBelow};
 ghost use Rattle.fsbm.specs.Machine.{transitionAt, wellFormed};
 ghost use Rattle.product.specs.Each.{sumOver, zerosOf};
 ghost use Rattle.product.specs.Product.{plainState, plainTransition, plain, letterCount, joinedCount, joinFault};

@@ -18,7 +18,7 @@ use lib.Dec.{leb, ltb, eqb}
 use borrow.Author.Tests.{leb-true, ltb-true, le-leb, lt-leb, eq-eqb, ne-eqb}
 use Rattle.columns.specs.Column.{put}
 use Rattle.columns.specs.Column.Laws.{put-zero, put-three}
-use Rattle.graphs.specs.Search.Laws.{and-true}
+use Rattle.basics.specs.Search.Laws.{and-true}
 use Rattle.fsbm.specs.Machine.{maxStates, named}
 use Rattle.fsbm.specs.Answers.{refusal, noMachine}
 use Rattle.fsbm.specs.declared.machine.Machine.{Machine}

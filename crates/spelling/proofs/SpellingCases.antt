@@ -14,7 +14,7 @@ use lib.ListN.{length, take, drop, getD, set, length-append, length-map}
 use lib.Seq.{drop-cons, take-suc, take-all, set-at, length-take-le, append-snoc}
 use lib.Dec.{leb, eqb, eqb→eq}
 use borrow.Author.Tests.{le-leb, lt-leb, eq-eqb, ne-eqb}
-use Rattle.graphs.specs.Search.{allIn}
+use Rattle.basics.specs.Search.{allIn}
 use Rattle.fsbm.specs.Answers.{refusal}
 use Rattle.fsbm.specs.declared.answer.Refusal.{Refusal}
 use Rattle.spelling.specs.declared.Translated.{Translated}

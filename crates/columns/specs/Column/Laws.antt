@@ -21,7 +21,7 @@ use lib.ListN.{length, take, drop, set, length-append, length-drop}
 use lib.Seq.{length-take-le, take-at, drop-at, drop-drop, sets-eq}
 use lib.Dec.{leb, eqb}
 use borrow.Author.Tests.{le-leb, lt-leb, eq-eqb, ne-eqb, eqb-true, eqb-false, leb-true, leb-false}
-use Rattle.graphs.specs.Search.Laws.{true-or-false, and-true, and-both-true}
+use Rattle.basics.specs.Search.Laws.{true-or-false, and-true, and-both-true}
 use Rattle.columns.specs.Column.{noNumber, isDigit, Pass, blank, nought, digits, broken, next, passFrom, found, columnNumber, digitOr, padded, columnOf, put}
 
 pub passFrom-append : (p : Pass) (l r : List ℕ) → passFrom p (l ++ r) ≡ passFrom (passFrom p l) r

@@ -14,9 +14,9 @@ use lib.ListN.{length, getD}
 use lib.Seq.{ext-getD}
 use lib.Dec.{ltb, eqb}
 use borrow.Author.Tests.{ltb-true, eqb-true, not-true}
-use Rattle.graphs.specs.Search.{anyBelow, allBelow, AllBelow}
-use Rattle.graphs.specs.Search.Laws.{and-true, and-both-true, or-false, not-both, anyBelow-false, allBelow-true, AllBelow-head, AllBelow-tail}
-use Rattle.graphs.specs.Search.Loops.{first, second}
+use Rattle.basics.specs.Search.{anyBelow, allBelow, AllBelow}
+use Rattle.basics.specs.Search.Laws.{and-true, and-both-true, or-false, not-both, anyBelow-false, allBelow-true, AllBelow-head, AllBelow-tail}
+use Rattle.basics.specs.Search.Loops.{first, second}
 use Rattle.fsbm.specs.Moves.{accepting}
 use Rattle.fsbm.specs.Accepted.{runBound}
 use Rattle.fsbm.specs.declared.machine.Machine.{Machine}

@@ -17,7 +17,7 @@ use native.Mathlib.Numerals.{add-one}
 use lib.ListN.{length}
 use lib.Dec.{ltb, eqb, eqb·suc-zero}
 use borrow.Author.Tests.{ltb-true, ltb-false, eqb-true, ne-eqb, eq-eqb}
-use Rattle.graphs.specs.Search.Laws.{and-true, true-or-false, not-both}
+use Rattle.basics.specs.Search.Laws.{and-true, true-or-false, not-both}
 use Rattle.fsbm.specs.Machine.{wellFormed, transitionAt, initial, buffering, matching, bothMatching, final}
 use Rattle.fsbm.specs.Moves.{wellPlaced, bufferFits, readsLetter, advanced, goes, takes, changes, move, startAt, isNormal, accepts, acceptingFrom, accepting, beginBuffering, beginEmptying, backToNormal}
 use Rattle.fsbm.specs.declared.machine.Machine.{Machine}
@@ -26,7 +26,7 @@ use Rattle.fsbm.specs.declared.config.Config.{Config}
 use Rattle.fsbm.specs.declared.config.Move.{Move}
 use Rattle.fsbm.specs.declared.config.Mode.{Mode}
 use Rattle.fsbm.specs.declared.config.Mode.the-variants.{Normal, Buffering, Emptying}
-use Rattle.graphs.specs.Bools.{cond-elim}
+use Rattle.basics.specs.Bools.{cond-elim}
 use Rattle.fsbm.specs.Rules.{Rules, rules, Placed, placed}
 use Rattle.fsbm.specs.Moves.Laws.{advanced-fits}
 use Rattle.copies.specs.Copies.{copyAt, copiesFrom, copiesOf, totalStored, plainAt, plainFrom, plainLetters}

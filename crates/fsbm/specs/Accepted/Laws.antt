@@ -8,8 +8,8 @@ use mathlib.Core.Logic.{_↔_}
 use mathlib.Core.Bool.{true, false}
 use mathlib.Core.List.{List}
 use lib.ListN.{length}
-use Rattle.graphs.specs.Search.{AllBelow}
-use Rattle.graphs.specs.Search.Laws.{existsList-true, existsList-false}
+use Rattle.basics.specs.Search.{AllBelow}
+use Rattle.basics.specs.Search.Laws.{existsList-true, existsList-false}
 use Rattle.fsbm.specs.Accepted.{accepted, runBound}
 use Rattle.fsbm.specs.Moves.{accepting}
 use Rattle.fsbm.specs.declared.machine.Machine.{Machine}

@@ -15,8 +15,8 @@ use Prim.Native.Nat.{ℕ, zero, suc, _+_, _<_}
 use native.Mathlib.Omega.{arith}
 use native.Mathlib.Nat.{zero-add, suc-add}
 use lib.ListN.{length}
-use Rattle.graphs.specs.Search.{AllBelow, none, more}
-use Rattle.graphs.specs.Counting.{Distinct, empty, new, Distinct-tail, mem?, counting}
+use Rattle.basics.specs.Search.{AllBelow, none, more}
+use Rattle.basics.specs.Counting.{Distinct, empty, new, Distinct-tail, mem?, counting}
 use Rattle.graphs.specs.Paths.{Path, here, step, keys}
 
 module _ {Node : Type 0} {Edge : Node → Node → Type 0} where

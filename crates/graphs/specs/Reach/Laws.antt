@@ -13,8 +13,8 @@ use mathlib.Core.Bool.{Bool, true, false, cond, _||_, false≢true}
 use mathlib.Core.List.{List, [], _∷_, _++_, List·Memᴰ, List·Memᴰ·head, List·Memᴰ·tail, List·Memᴰ·not-nil, List·Memᴰ·cases-cons, List·Memᴰ·append-cases, Memᴰ·append-left, Memᴰ·append-right, Memᴰ·cast}
 use Prim.Native.Nat.{ℕ, zero, suc, _<_, _≤_}
 use native.Mathlib.Omega.{arith}
-use Rattle.graphs.specs.Search.{anyIn, allIn}
-use Rattle.graphs.specs.Search.Laws.{anyIn-true, allIn-true, or-true, true-or-false, not-both}
+use Rattle.basics.specs.Search.{anyIn, allIn}
+use Rattle.basics.specs.Search.Laws.{anyIn-true, allIn-true, or-true, true-or-false, not-both}
 use Rattle.graphs.specs.Paths.{Path, here, step}
 use Rattle.graphs.specs.Paths.Laws.{closed, short-path}
 use Rattle.graphs.specs.Reach.{Edges, succs, memb, fresh, isEmpty, reachFrom, reach, isClosed}

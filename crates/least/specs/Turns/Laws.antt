@@ -25,7 +25,7 @@ use lib.Count.{ones}
 use borrow.Author.Tests.{eqb-true, eqb-false, eq-eqb}
 use Rattle.graphs.specs.Cost.{Route, Settled}
 use Rattle.graphs.specs.Back.{Back}
-use Rattle.graphs.specs.Search.Laws.{true-or-false}
+use Rattle.basics.specs.Search.Laws.{true-or-false}
 use Rattle.stateset.specs.Set.{width, digit, In, has, added, SetIs}
 use Rattle.stateset.specs.Set.Laws.{in?, has-in, in-lt, empty-in, ones-mono, ones-zero, ones-of-zero}
 use Rattle.fsbm.specs.Machine.{wellFormed, transitionAt, markOf, final, buffering, matching}

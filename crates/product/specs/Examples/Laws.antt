@@ -11,7 +11,7 @@ use mathlib.Core.Bool.{true, _&&_, false≢true}
 use lib.ListN.{length}
 use lib.Dec.{eqb}
 use borrow.Author.Tests.{eqb-true}
-use Rattle.graphs.specs.Search.Laws.{and-true}
+use Rattle.basics.specs.Search.Laws.{and-true}
 use Rattle.fsbm.specs.declared.machine.Machine.{Machine}
 use Rattle.language.specs.Examples as language
 use Rattle.language.specs.Examples.{doubling, doublingList}

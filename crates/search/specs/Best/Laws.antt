@@ -15,7 +15,7 @@ use native.Mathlib.Decide.{decLt, ℕ-discrete}
 use lib.ListN.{getD}
 use lib.Dec.{ltb, eqb}
 use borrow.Author.Tests.{le-ltb, lt-ltb, eqb-true}
-use Rattle.graphs.specs.Search.Laws.{not-both}
+use Rattle.basics.specs.Search.Laws.{not-both}
 use Rattle.fsbm.specs.Machine.{final, markOf}
 use Rattle.pieces.specs.Blocks.{nothing, costOf}
 use Rattle.search.specs.Best.{noState, Best}

@@ -16,7 +16,7 @@ use lib.ListN.{length, getD}
 use lib.Dec.{leb, ltb, eqb}
 use borrow.Author.Tests.{leb-true, eqb-true, eqb-false, not-true, not-false, le-leb, eq-eqb, ne-eqb}
 use Rattle.columns.specs.Column.{noNumber}
-use Rattle.graphs.specs.Search.Laws.{true-or-false, and-true, and-both-true}
+use Rattle.basics.specs.Search.Laws.{true-or-false, and-true, and-both-true}
 use Rattle.fsbm.specs.Machine.{maxStates, maxLetters, maxTransitions, named, precedes}
 use Rattle.fsbm.specs.declared.machine.Transition.{Transition}
 use Rattle.sheet.specs.Series.{orElse, firstOf}

@@ -19,7 +19,7 @@ use lib.Seq.{drop-length, drop-set-lt, getD-set-same}
 use lib.Dec.{eqb}
 use borrow.Author.Tests.{eqb-true, eq-eqb}
 use Rattle.graphs.specs.Cost.Laws.{settled-under}
-use Rattle.graphs.specs.Search.Laws.{not-both}
+use Rattle.basics.specs.Search.Laws.{not-both}
 use Rattle.stateset.specs.Set.{In}
 use Rattle.fsbm.specs.Machine.{transitionAt, matching}
 use Rattle.fsbm.specs.Published.{fsbmOf, symbol}

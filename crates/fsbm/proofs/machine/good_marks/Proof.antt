@@ -5,7 +5,7 @@ use native.Mathlib.Omega.{arith}
 use lib.ListN.{getD}
 use lib.Dec.{leb}
 use borrow.Author.Needs.{needs}
-use Rattle.graphs.specs.Search.{allBelow}
+use Rattle.basics.specs.Search.{allBelow}
 use Rattle.fsbm.specs.Machine.{goodMark, maxStates}
 use Rattle.fsbm.proofs.MachineCases.{marked, marked-by, marks-none, marks-next, marks-large, marks-end, states-few}
 use Rattle.fsbm.proofs.machine.good_marks.Statement.{statement}

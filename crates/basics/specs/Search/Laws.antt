@@ -18,7 +18,7 @@ use Prim.Native.Nat.{ℕ, zero, suc, _<_, _≤_}
 use native.Mathlib.Omega.{arith}
 use native.Mathlib.Decide.{ℕ-discrete}
 use lib.ListN.{length}
-use Rattle.graphs.specs.Search.{anyBelow, allBelow, anyIn, allIn, AllBelow, none, more, existsList}
+use Rattle.basics.specs.Search.{anyBelow, allBelow, anyIn, allIn, AllBelow, none, more, existsList}
 
 -- Bools
 

@@ -14,7 +14,7 @@ use native.Mathlib.Numerals.{add-one, sub-one}
 use native.Mathlib.Omega.{arith}
 use lib.ListN.{length, getD, drop, drop-of-length-le}
 use lib.Seq.{drop-cons}
-use Rattle.graphs.specs.Search.{allBelow, allIn}
+use Rattle.basics.specs.Search.{allBelow, allIn}
 
 pub pass : {a b c : Bool} → a ≡ true → c ≡ b → c ≡ (a && b)
 pass {a} {b} h e = e ∙ ap (λ (z : Bool). z && b) (sym h)
