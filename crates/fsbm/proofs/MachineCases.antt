@@ -25,8 +25,8 @@ use Rattle.basics.specs.Search.Laws.{true-or-false, and-true, and-both-true, an
 use Rattle.basics.specs.Search.Loops.{pass, stop}
 use Rattle.fsbm.specs.declared.machine.Machine.{Machine}
 use Rattle.fsbm.specs.declared.machine.Transition.{Transition}
-use Rattle.fsbm.specs.Machine.{markOf, buffering, matching, bothMatching, transitionAt, goodMark, named, precedes, goodTransition, wellFormed}
-use Rattle.fsbm.specs.Machine.{maxStates, maxLetters, maxTransitions}
+use Rattle.fsbm.specs.Machine.{transitionAt, goodMark, named, precedes, goodTransition}
+use Rattle.fsbm.specs.Machine.{maxStates}
 
 pub transition-past : (list : List ℕ) (k : ℕ) → length list ≤ k → record { from = 0; letter = 0; to = 0 } ≡ transitionAt list k
 transition-past list k h =

@@ -598,6 +598,3 @@ module _ {m₁ : Machine} {l₁ : List ℕ} {m₂ : Machine} {l₂ : List ℕ} (
   pub writing-end : {at lo p : ℕ} {entry list : List ℕ} → Writing entry list at lo p → m₁ .states ≤ p → list ≡ replaced entry 0 (joinedTransitions m₁ l₁ m₂ l₂)
   unfolding flat
   writing-end {p = p} s le = putting-end (s .putting) (ap flat (each-over p (m₁ .states) row le)) .0
-
-  pub writing-size : {at lo p : ℕ} {entry list : List ℕ} → Writing entry list at lo p → length list ≡ length entry
-  writing-size s = s .putting .size

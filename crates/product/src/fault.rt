@@ -56,7 +56,7 @@ fn plain_transitions(list: &[u16], n: usize) -> bool
 
 // Whether a machine is plain: no buffering or matching state, no epsilon transition.
 // Time: the states and the transitions, each once.
-pub fn is_plain(m: Machine, list: &[u16]) -> bool
+fn is_plain(m: Machine, list: &[u16]) -> bool
     ensures { λ r. ⌜ r ≡ plain m (now (list .entry)) ⌝ }
 {
     if !plain_states(&m.marks, m.states) {

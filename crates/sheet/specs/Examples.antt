@@ -8,8 +8,8 @@
 use Prim.Native.Nat.{ℕ}
 use mathlib.Core.Path.{_≡_, refl}
 use mathlib.Core.List.{List, [], _∷_, _++_}
-use mathlib.Core.Bool.{Bool, true, false}
-use lib.ListN.{length, replicate}
+use mathlib.Core.Bool.{Bool, true}
+use lib.ListN.{replicate}
 use lib.Dec.{eqb}
 use Rattle.columns.specs.Column.{next, passFrom, found, columnNumber, digitOr, padded, columnOf}
 use Rattle.basics.specs.Search.{allIn}

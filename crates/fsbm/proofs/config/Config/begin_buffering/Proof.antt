@@ -1,4 +1,4 @@
-use mathlib.Core.Path.{_≡_, refl, sym, ap, _∙_}
+use mathlib.Core.Path.{sym, _∙_}
 use borrow.Author.Tests.{eq-eqb, ne-eqb, not-true, not-false}
 use Rattle.fsbm.specs.Moves.{changes}
 use Rattle.fsbm.proofs.ConfigCases.{goes-not, goes-yes}

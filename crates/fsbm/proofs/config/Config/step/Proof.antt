@@ -1,4 +1,4 @@
-use mathlib.Core.Path.{_≡_, refl, sym, _∙_, ap}
+use mathlib.Core.Path.{refl, _∙_}
 use Rattle.fsbm.proofs.AnswerCases.{step-refused, step-moved, step-says}
 use Rattle.basics.specs.Search.Loops.{first, second}
 use borrow.Author.Needs.{needs}
