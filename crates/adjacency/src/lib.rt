@@ -6,7 +6,7 @@
 // seek       the first transition of a stretch whose from, letter or to is at least a number
 //
 // The functions ask what a public call above them has tested: they are seams between crates.
-ghost use Prim.Native.Nat.{ℕ, _+_, _*_, _≤_, _<_};
+ghost use Prim.Native.Nat.{_+_, _*_, _≤_, _<_};
 ghost use mathlib.Core.Path.{_≡_};
 ghost use mathlib.Core.Bool.{true};
 ghost use lib.ListN.{length};
@@ -22,7 +22,7 @@ pub struct Adjacency {
 
 // The first transition from k on, below n, whose number in this column (0 from, 1 letter, 2 to) is at least x; n where there
 // is none.
-pub fn seek(list: &[u16], column: usize, k: usize, n: usize, x: u16) -> usize
+fn seek(list: &[u16], column: usize, k: usize, n: usize, x: u16) -> usize
     requires { ⌜ (column < 3) × (k ≤ n) × (n * 3 ≤ length (now list)) ⌝ }
     ensures { λ r. ⌜ Sought (now (list .entry)) column k n x r ⌝ }
 {

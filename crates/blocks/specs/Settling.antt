@@ -11,7 +11,7 @@
 -- Worked m list top b d b′   == and settled, where no pair is marked any more
 -- BlockTo m list top guess set D b == the block of a guess and of the copies that begin in a state of the set (crate pieces), settled below top
 -- Block m list guess set D b == the settled block
-use Prim.Native.Nat.{ℕ, _+_, _*_, _≤_, _<_}
+use Prim.Native.Nat.{ℕ, _+_, _≤_, _<_}
 use mathlib.Core.Path.{_≡_}
 use mathlib.Core.List.{List}
 use lib.ListN.{length, getD, replicate}

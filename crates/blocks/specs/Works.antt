@@ -18,11 +18,10 @@ use mathlib.Core.Path.{_≡_}
 use mathlib.Core.Logic.{_⊎_, _↔_}
 use mathlib.Core.Bool.{Bool, true}
 use mathlib.Core.List.{List}
-use lib.ListN.{getD}
 use Rattle.graphs.specs.Working.{Working}
 use Rattle.stateset.specs.Set.{In}
 use Rattle.fsbm.specs.Machine.{wellFormed, buffering, matching}
-use Rattle.fsbm.specs.Published.{Listed, fsbmOf}
+use Rattle.fsbm.specs.Published.{fsbmOf}
 use Rattle.fsbm.specs.declared.machine.Machine.{Machine}
 use Rattle.pieces.specs.Pairs.{unit, halves, Pair, PairMove, stores-none, matches-none, letter}
 use Rattle.pieces.specs.Blocks.{cell, costOf, Node, outside, inside, BlockEdge, blockOf}

@@ -2,9 +2,9 @@
 // each pair of states.
 //
 // block_by, block   the numbers of a block, for copies that begin in a state of a set
-ghost use Prim.Native.Nat.{ℕ, _+_, _*_, _≤_, _<_};
+ghost use Prim.Native.Nat.{_+_, _*_, _≤_, _<_};
 ghost use mathlib.Core.Path.{_≡_};
-ghost use lib.ListN.{length, getD};
+ghost use lib.ListN.{length};
 ghost use Rattle.stateset.specs.Set.{In};
 ghost use Rattle.fsbm.specs.Machine.{buffering};
 ghost use Rattle.pieces.specs.Blocks.{nothing};

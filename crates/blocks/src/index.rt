@@ -3,7 +3,7 @@
 //
 // index     for each key the number of transitions with a lower key, so that the transitions of a key y have the numbers from index[y] up
 //           to, not including, index[y + 1]
-ghost use Prim.Native.Nat.{ℕ, _+_, _*_, _≤_, _<_};
+ghost use Prim.Native.Nat.{_+_, _*_, _≤_, _<_};
 ghost use mathlib.Core.Path.{_≡_};
 ghost use mathlib.Core.Bool.{true};
 ghost use lib.ListN.{length};

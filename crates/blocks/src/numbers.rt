@@ -1,6 +1,5 @@
 // The numbers of a block, and loops that lower them. A block has a number for each pair of states, 64 a row; a row has a set of marks.
-ghost use Prim.Native.Nat.{ℕ, _+_, _*_, _≤_, _<_};
-ghost use mathlib.Core.Path.{_≡_};
+ghost use Prim.Native.Nat.{_+_, _*_, _≤_, _<_};
 ghost use lib.ListN.{length};
 ghost use Rattle.stateset.specs.Set.{In};
 ghost use Rattle.blocks.specs.Numbers.{Sized, Lowers, One, Put, Enter, Spread};

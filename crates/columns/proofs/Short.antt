@@ -7,11 +7,10 @@
 -- five-bytes               == the five bytes of a column, one by one
 -- five-spaces              == a column of five bytes that begins with two spaces
 -- short-is                 == a number below 1000 from the last three bytes
-use Prim.Native.Nat.{ℕ, zero, suc, _+_, _*_, _-_, _/_, _%_, _<_, _≤_}
+use Prim.Native.Nat.{ℕ, suc, _+_, _*_, _-_, _/_, _%_, _<_, _≤_}
 use mathlib.Core.Path.{_≡_, refl, sym, ap, _∙_}
-use mathlib.Core.Logic.{_⊎_, inl, inr}
-use mathlib.Core.List.{List, [], _∷_, _++_}
-use mathlib.Core.Bool.{Bool, true, false, cond, _&&_, true≢false}
+use mathlib.Core.List.{List, [], _∷_}
+use mathlib.Core.Bool.{Bool, true, false, cond, true≢false}
 use native.Mathlib.Omega.{arith}
 use native.Mathlib.Numerals.{add-one}
 use native.Mathlib.Decide.{ℕ-discrete}
@@ -19,8 +18,8 @@ use lib.ListN.{length, take, drop, getD, length-drop}
 use lib.Seq.{drop-cons, length-take-le}
 use lib.Dec.{leb, eqb}
 use borrow.Author.Tests.{leb-true, eq-eqb, ne-eqb}
-use Rattle.graphs.specs.Search.Laws.{and-true}
-use Rattle.columns.specs.Column.{noNumber, isDigit, Pass, blank, nought, digits, broken, next, passFrom, found, columnNumber, digitOr, padded, columnOf}
+use Rattle.basics.specs.Search.Laws.{and-true}
+use Rattle.columns.specs.Column.{noNumber, isDigit, Pass, nought, digits, broken, next, passFrom, found, columnNumber, digitOr, padded, columnOf}
 use Rattle.columns.specs.Column.Laws.{column-of-number}
 use Rattle.columns.proofs.Passes.{pass-broken, blank-space, blank-nought, blank-rest, blank-first, digits-more}
 

@@ -5,7 +5,7 @@
 // short_number      the number below 1000 in a column of five bytes that has one
 // write_number      a number written as a column of five bytes
 // write_short       the same for a number below 1000, write_shorter for one below 100
-ghost use Prim.Native.Nat.{ℕ, _+_, _-_, _/_, _%_, _<_, _≤_};
+ghost use Prim.Native.Nat.{_+_, _-_, _/_, _%_, _<_, _≤_};
 ghost use mathlib.Core.List.{[], _∷_};
 ghost use mathlib.Core.Path.{_≡_};
 ghost use lib.ListN.{length, take, drop};

@@ -15,7 +15,7 @@ use mathlib.Core.Bool.{Bool, true, cond, _&&_}
 use mathlib.Core.List.{List, _++_}
 use lib.ListN.{length, take, drop}
 use lib.Dec.{leb, eqb}
-use Rattle.graphs.specs.Search.{existsList}
+use Rattle.basics.specs.Search.{existsList}
 use Rattle.graphs.specs.Least.{leastBelow}
 use Rattle.fsbm.specs.Machine.{maxLetters}
 use Rattle.fsbm.specs.Moves.{accepting}

@@ -15,7 +15,7 @@ use mathlib.Core.List.{List, [], _∷_, map}
 use mathlib.Core.Bool.{Bool, true, false, not, _&&_, _||_}
 use lib.ListN.{length, getD}
 use lib.Dec.{ltb, eqb}
-use Rattle.graphs.specs.Search.{anyBelow, allBelow}
+use Rattle.basics.specs.Search.{anyBelow, allBelow}
 use Rattle.fsbm.specs.Machine.{wellFormed}
 use Rattle.fsbm.specs.Moves.{wellPlaced, readsLetter, takes, changes, move, accepts, acceptingFrom, accepting}
 use Rattle.fsbm.specs.Accepted.{runBound}

@@ -11,7 +11,7 @@
 -- copiesValues            == the number and values that the rules give
 use Prim.Native.Nat.{ℕ, _+_, _*_, _-_}
 use mathlib.Core.List.{List, [], _∷_, _++_}
-use mathlib.Core.Bool.{Bool, true, false, cond}
+use mathlib.Core.Bool.{cond}
 use lib.ListN.{length, drop}
 use lib.Dec.{leb, eqb}
 use Rattle.fsbm.specs.Moves.{move, startAt, isNormal, accepting, beginEmptying}

@@ -15,7 +15,7 @@ use lib.ListN.{length, getD, drop, length-drop}
 use lib.Seq.{slice, slice-empty}
 use lib.Dec.{ltb, eqb}
 use borrow.Author.Tests.{ltb-true, eqb-true, eq-eqb}
-use Rattle.graphs.specs.Search.Laws.{or-true, and-true}
+use Rattle.basics.specs.Search.Laws.{or-true, and-true}
 use Rattle.stateset.specs.Set.{width, In}
 use Rattle.fsbm.specs.Moves.{readsLetter, advanced}
 use Rattle.fsbm.specs.Published.{FSBM, Listed, fsbmOf, Configuration, config, symbol, Yields, normal, buffer, empty, begin-buffering, begin-emptying, back-to-normal, Run, done}

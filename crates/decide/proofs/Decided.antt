@@ -17,7 +17,7 @@ use Rattle.fsbm.specs.Accepted.{accepted}
 use Rattle.fsbm.specs.Published.{config, fsbmOf, Run}
 use Rattle.fsbm.specs.declared.machine.Machine.{Machine}
 use Rattle.fsbm.specs.declared.config.Mode.the-variants.{Normal}
-use Rattle.graphs.specs.Bools.{same-truth}
+use Rattle.basics.specs.Bools.{same-truth}
 use Rattle.language.specs.Bound.{accepted-iff-published}
 use Rattle.fsbm.specs.Rules.{rules}
 use Rattle.targets.specs.Prepared.{Prepared}

@@ -14,7 +14,7 @@ use lib.ListN.{length, getD, drop}
 use lib.Seq.{slice, slice-empty}
 use lib.Dec.{ltb, eqb}
 use borrow.Author.Tests.{lt-ltb, eq-eqb, ne-eqb}
-use Rattle.graphs.specs.Search.Laws.{or-true-right, and-both-true}
+use Rattle.basics.specs.Search.Laws.{or-true-right, and-both-true}
 use Rattle.stateset.specs.Set.{width, In}
 use Rattle.fsbm.specs.Moves.{readsLetter, advanced}
 use Rattle.fsbm.specs.Published.{FSBM, Listed, fsbmOf, Configuration, config, symbol, Yields, normal, buffer, empty, begin-buffering, begin-emptying, back-to-normal, Run, done}

@@ -15,7 +15,7 @@ use native.Mathlib.Omega.{arith}
 use lib.ListN.{length, getD}
 use lib.Dec.{ltb}
 use borrow.Author.Tests.{ltb-true, eqb-true, eq-eqb}
-use Rattle.graphs.specs.Search.Laws.{true-or-false}
+use Rattle.basics.specs.Search.Laws.{true-or-false}
 use Rattle.stateset.specs.Set.{In}
 use Rattle.fsbm.specs.Machine.{wellFormed, markOf, initial, final, buffering, matching, maxStates}
 use Rattle.fsbm.specs.Published.{Listed}

@@ -22,11 +22,11 @@ use mathlib.Core.Logic.{_↔_}
 use mathlib.Core.Bool.{Bool, true, false, cond}
 use mathlib.Core.List.{List, _++_}
 use native.Mathlib.Omega.{arith}
-use lib.ListN.{length, take, drop, take-append-drop}
+use lib.ListN.{length, take, drop}
 use lib.Dec.{leb, eqb}
 use borrow.Author.Tests.{le-leb, eq-eqb}
-use Rattle.graphs.specs.Bools.{false-iff}
-use Rattle.graphs.specs.Search.Loops.{first}
+use Rattle.basics.specs.Bools.{false-iff}
+use Rattle.basics.specs.Search.Loops.{first}
 use Rattle.fsbm.specs.Moves.{accepting}
 use Rattle.fsbm.specs.Published.{fsbmOf, InLanguage}
 use Rattle.fsbm.specs.Entries.{WrittenRun}
@@ -45,7 +45,7 @@ use Rattle.sheet.specs.declared.write.Written.the-variants.{Bytes}
 use Rattle.sheet_laws.specs.Calls.{Wrote, Read, written-read, read-written}
 use Rattle.recognize.specs.Recognition.{longestRecognized, recognition, recognizedValues, Recognition}
 use Rattle.recognize.specs.declared.Recognized.{Recognized}
-use Rattle.recognize.specs.declared.Recognized.the-variants.{Refused, No, Yes}
+use Rattle.recognize.specs.declared.Recognized.the-variants.{No, Yes}
 
 -- 1. Recognition, where nothing is refused: a table and a word that pass 16, 9 and 8, and a slice that is long enough
 

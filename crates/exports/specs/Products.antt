@@ -2,7 +2,6 @@
 --
 -- joinedOf p           == the record of the answer p of join, which is a record already
 -- copyListRecord v     == the record of the number and values v of list_copies
-use Rattle.fsbm.specs.declared.answer.Refusal.{Refusal}
 use Rattle.copies.specs.Copies.{CopiedValues}
 use Rattle.product.specs.declared.Product.{Product}
 use Rattle.exports.specs.declared.products.Joined.{Joined}

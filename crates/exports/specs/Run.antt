@@ -6,7 +6,7 @@
 -- steppedRecord r v   == the record of the number and values v of Config::step, from the record r
 -- checkedRecord v     == the record of the number and values v of check_run
 use Prim.Native.Nat.{ℕ}
-use mathlib.Core.Bool.{Bool, true, false, cond}
+use mathlib.Core.Bool.{cond}
 use lib.Dec.{ltb, eqb}
 use Rattle.fsbm.specs.declared.config.Config.{Config}
 use Rattle.fsbm.specs.declared.config.Mode.{Mode}

@@ -12,9 +12,9 @@ use native.Mathlib.Omega.{arith}
 use lib.ListN.{length}
 use lib.Dec.{leb, eqb}
 use borrow.Author.Tests.{eq-eqb, ne-eqb, leb-true}
-use Rattle.graphs.specs.Search.Laws.{true-or-false}
+use Rattle.basics.specs.Search.Laws.{true-or-false}
 use Rattle.fsbm.specs.Machine.{wellFormed}
-use Rattle.graphs.specs.Search.Loops.{first, second}
+use Rattle.basics.specs.Search.Loops.{first, second}
 use Rattle.fsbm.specs.declared.machine.Machine.{Machine}
 use Rattle.fsbm.specs.declared.config.Config.{Config}
 use Rattle.fsbm.specs.declared.config.Move.{Move}

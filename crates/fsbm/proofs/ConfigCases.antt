@@ -31,7 +31,7 @@ use Rattle.fsbm.specs.Moves.{wellPlaced, readsLetter, advanced, goes, ta
 use Rattle.fsbm.specs.Moves.Laws.{start-placed, move-placed}
 use Rattle.fsbm.specs.Rules.{placed, unplaced}
 use Rattle.fsbm.specs.Taken.{passes, readsStored, mayTake, after}
-use Rattle.graphs.specs.Search.Loops.{pass, stop, first, second}
+use Rattle.basics.specs.Search.Loops.{pass, stop, first, second}
 
 pub goes-not : {ok : Bool} (next : Config) {c : Config} {r : Move} → r ≡ goes false c c → false ≡ ok → r ≡ goes ok next c
 goes-not next {c} e h = e ∙ ap (λ (b : Bool). goes b next c) h

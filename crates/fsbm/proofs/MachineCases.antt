@@ -20,13 +20,13 @@ use native.Mathlib.Decide.{ℕ-discrete}
 use lib.ListN.{length, getD, List·getD-eq-default}
 use lib.Dec.{ltb, leb, eqb}
 use borrow.Author.Tests.{lt-ltb, le-ltb, le-leb, lt-leb, eq-eqb, ne-eqb, ltb-true, ltb-false, leb-true, eqb-true, eqb-false, not-true}
-use Rattle.graphs.specs.Search.{allBelow}
-use Rattle.graphs.specs.Search.Laws.{true-or-false, and-true, and-both-true, and-false, and-false-left, and-false-right, allBelow-false}
-use Rattle.graphs.specs.Search.Loops.{pass, stop}
+use Rattle.basics.specs.Search.{allBelow}
+use Rattle.basics.specs.Search.Laws.{true-or-false, and-true, and-both-true, and-false, and-false-left, and-false-right, allBelow-false}
+use Rattle.basics.specs.Search.Loops.{pass, stop}
 use Rattle.fsbm.specs.declared.machine.Machine.{Machine}
 use Rattle.fsbm.specs.declared.machine.Transition.{Transition}
-use Rattle.fsbm.specs.Machine.{markOf, buffering, matching, bothMatching, transitionAt, goodMark, named, precedes, goodTransition, wellFormed}
-use Rattle.fsbm.specs.Machine.{maxStates, maxLetters, maxTransitions}
+use Rattle.fsbm.specs.Machine.{transitionAt, goodMark, named, precedes, goodTransition}
+use Rattle.fsbm.specs.Machine.{maxStates}
 
 pub transition-past : (list : List ℕ) (k : ℕ) → length list ≤ k → record { from = 0; letter = 0; to = 0 } ≡ transitionAt list k
 transition-past list k h =

@@ -6,7 +6,7 @@ use Prim.Native.Nat.{ℕ, _+_, _*_}
 use mathlib.Core.List.{List}
 use mathlib.Core.Bool.{Bool}
 use lib.ListN.{length}
-use Rattle.graphs.specs.Search.{existsList}
+use Rattle.basics.specs.Search.{existsList}
 use Rattle.fsbm.specs.Moves.{accepting}
 use Rattle.fsbm.specs.declared.machine.Machine.{Machine}
 pub mod Laws

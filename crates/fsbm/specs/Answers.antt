@@ -9,10 +9,10 @@
 -- stepValues, checkValues     == the number and values that the rules give
 use Prim.Native.Nat.{ℕ}
 use mathlib.Core.List.{List}
-use mathlib.Core.Bool.{Bool, true, false, cond, _&&_}
+use mathlib.Core.Bool.{Bool, cond, _&&_}
 use lib.ListN.{length, replicate}
 use lib.Dec.{leb, eqb}
-use Rattle.graphs.specs.Search.{allIn}
+use Rattle.basics.specs.Search.{allIn}
 use Rattle.fsbm.specs.Machine.{wellFormed, maxStates}
 use Rattle.fsbm.specs.Moves.{move, accepting}
 use Rattle.fsbm.specs.declared.machine.Machine.{Machine}

@@ -8,7 +8,7 @@
 -- InLanguage M w      == definition 13: there is a run of M on w
 use Prim.Native.Nat.{ℕ, zero, suc, _<_}
 use mathlib.Core.Path.{_≡_}
-use mathlib.Core.Bool.{Bool, true, false}
+use mathlib.Core.Bool.{true}
 use mathlib.Core.List.{List, [], _∷_, _++_}
 use Rattle.fsbm.specs.Machine.{initial, final, buffering, matching, transitionAt}
 use Rattle.fsbm.specs.declared.machine.Machine.{Machine}

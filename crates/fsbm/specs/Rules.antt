@@ -16,9 +16,9 @@ use native.Mathlib.Omega.{arith}
 use lib.ListN.{length}
 use lib.Dec.{leb, ltb, eqb}
 use borrow.Author.Tests.{leb-true, ltb-true, eqb-true, le-leb, lt-ltb}
-use Rattle.graphs.specs.Search.{allBelow}
-use Rattle.graphs.specs.Bools.{not-and-says}
-use Rattle.graphs.specs.Search.Laws.{and-true, and-both-true, true-or-false, allBelow-true, or-true}
+use Rattle.basics.specs.Search.{allBelow}
+use Rattle.basics.specs.Bools.{not-and-says}
+use Rattle.basics.specs.Search.Laws.{and-true, and-both-true, true-or-false, allBelow-true, or-true}
 use Rattle.fsbm.specs.Machine.{wellFormed, goodMark, named, precedes, goodTransition, transitionAt, markOf, maxStates, maxLetters, maxTransitions, buffering, matching}
 use Rattle.fsbm.specs.Moves.{wellPlaced, bufferFits}
 use Rattle.fsbm.specs.declared.machine.Machine.{Machine}

@@ -26,7 +26,7 @@ pub enum Checked {
 }
 
 // Whether x is a letter of a machine with this many.
-pub fn good_letter(letters: usize, x: u8) -> bool
+fn good_letter(letters: usize, x: u8) -> bool
     ensures { λ r. ⌜ r ≡ goodLetter letters x ⌝ }
 {
     if x < 1 {

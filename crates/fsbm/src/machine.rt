@@ -5,7 +5,7 @@ ghost use mathlib.Core.Bool.{cond};
 ghost use mathlib.Core.Logic.{_↔_};
 ghost use lib.ListN.{getD, length};
 ghost use lib.Dec.{eqb};
-ghost use Rattle.graphs.specs.Search.{allBelow};
+ghost use Rattle.basics.specs.Search.{allBelow};
 ghost use Rattle.fsbm.specs.Machine.{markOf, initial, final, buffering, matching, bothMatching, transitionAt};
 ghost use Rattle.fsbm.specs.Machine.{maxStates, goodMark, named, goodTransition, wellFormed};
 ghost use Rattle.fsbm.specs.declared.machine.Machine.{Machine};

@@ -52,7 +52,7 @@ fn accepts_from(
 
 // Whether the run in the first entries of a slice, as many as counted, accepts a word. What stands after them is not looked at.
 // Time: these entries once. Memory: none beside its arguments.
-pub fn accepts_front(m: Machine, list: &[u16], word: &[u8], run: &[u16], count: usize) -> bool
+fn accepts_front(m: Machine, list: &[u16], word: &[u8], run: &[u16], count: usize) -> bool
     requires { ⌜ (wellFormed m (now list) ≡ true) × (count ≤ length (now run)) ⌝ }
     ensures { λ r. ⌜ r ≡ accepting m (now (list .entry)) (now (word .entry)) (take count (now (run .entry))) ⌝ }
 {

@@ -1,7 +1,3 @@
-pub mod Bools
-pub mod Lists
-pub mod Search
-pub mod Counting
 pub mod Paths
 pub mod Reach
 pub mod Cost

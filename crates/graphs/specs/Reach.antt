@@ -8,7 +8,7 @@
 use mathlib.Core.Bool.{Bool, true, false, cond, _||_}
 use mathlib.Core.List.{List, [], _∷_, _++_, List·Memᴰ}
 use Prim.Native.Nat.{ℕ, zero, suc}
-use Rattle.graphs.specs.Search.{anyIn, allIn}
+use Rattle.basics.specs.Search.{anyIn, allIn}
 pub mod Laws
 
 module _ {Node : Type 0} (succ : Node → List Node) where

@@ -24,7 +24,7 @@ use lib.Seq.{getD-set-same, getD-set-other}
 use lib.Count.{trailingZeros}
 use lib.Dec.{eqb}
 use borrow.Author.Tests.{eqb-true, eq-eqb}
-use Rattle.graphs.specs.Search.Laws.{not-both}
+use Rattle.basics.specs.Search.Laws.{not-both}
 use Rattle.stateset.specs.Set.{width, In, has, SetIs}
 use Rattle.stateset.specs.Set.Laws.{has-in, in-lt, in?, empty-in, lowest-in}
 use Rattle.fsbm.specs.Machine.{markOf}

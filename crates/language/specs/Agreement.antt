@@ -14,7 +14,7 @@
 -- path-accepting         == the entries of such a path are an accepting run, each below 65536
 -- accepting-published    == a word with an accepting run is in the published language
 -- published-accepting    == a word in the published language of a well-formed machine has an accepting run of entries below 65536
-use Prim.Native.Nat.{ℕ, zero, suc, _-_, _≤_, _<_}
+use Prim.Native.Nat.{ℕ, suc, _-_, _≤_, _<_}
 use mathlib.Core.Path.{_≡_, refl, sym, ap, _∙_, subst, subst₂}
 use mathlib.Core.Logic.{_↔_}
 use mathlib.Core.Bool.{Bool, true, false, cond, not, _&&_, false≢true}
@@ -24,13 +24,13 @@ use lib.ListN.{length, drop, length-drop}
 use lib.Seq.{slice, slice-empty, drop-length}
 use lib.Dec.{ltb, eqb}
 use borrow.Author.Tests.{ltb-true, eqb-true, eq-eqb, lt-ltb, le-ltb}
-use Rattle.graphs.specs.Search.{AllBelow, none, more}
-use Rattle.graphs.specs.Search.Laws.{and-true, and-both-true}
+use Rattle.basics.specs.Search.{AllBelow, none, more}
+use Rattle.basics.specs.Search.Laws.{and-true, and-both-true}
 use Rattle.graphs.specs.Paths.{Path, here, step}
 use Rattle.fsbm.specs.Machine.{wellFormed, transitionAt, initial, final, buffering, matching, bothMatching}
 use Rattle.fsbm.specs.Moves.{wellPlaced, readsLetter, advanced, goes, takes, changes, move, startAt, isNormal, accepts, acceptingFrom, accepting, beginBuffering, beginEmptying, backToNormal}
 use Rattle.fsbm.specs.Moves.Laws.{start-placed, move-stays}
-use Rattle.fsbm.specs.Published.{FSBM, Listed, fsbmOf, Configuration, config, symbol, Yields, normal, buffer, empty, begin-buffering, begin-emptying, back-to-normal, Run, done, InLanguage}
+use Rattle.fsbm.specs.Published.{Listed, fsbmOf, Configuration, config, symbol, Yields, normal, buffer, empty, begin-buffering, begin-emptying, back-to-normal, Run, done, InLanguage}
 use Rattle.fsbm.specs.Entries.{entryOf, entriesOf, WrittenRun}
 use Rattle.fsbm.specs.declared.machine.Machine.{Machine}
 use Rattle.fsbm.specs.declared.machine.Transition.{Transition}
@@ -38,7 +38,7 @@ use Rattle.fsbm.specs.declared.config.Config.{Config}
 use Rattle.fsbm.specs.declared.config.Move.{Move}
 use Rattle.fsbm.specs.declared.config.Mode.{Mode}
 use Rattle.fsbm.specs.declared.config.Mode.the-variants.{Normal, Buffering, Emptying}
-use Rattle.graphs.specs.Bools.{cond-elim, not-says, says-not, not-and-says, says-not-and}
+use Rattle.basics.specs.Bools.{cond-elim, not-says, says-not, not-and-says, says-not-and}
 use Rattle.fsbm.specs.Rules.{Rules, rules, Placed, placed, unplaced}
 use Rattle.language.specs.Strings.{reads-slice, slice-reads, reads-drop, drop-reads, slice-grows, slice-none}
 

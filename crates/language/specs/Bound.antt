@@ -6,17 +6,16 @@
 -- published-short         == a word in the published language has a run of at most runBound entries, each below 65536
 -- accepted-iff-run        == accepted, if and only if some run accepts
 -- accepted-iff-published  == accepted, if and only if the word is in the published language
--- accepted-not-run, accepted-not-published == not accepted, if and only if no run accepts; if and only if the word is not in the language
+-- accepted-not-published  == not accepted, if and only if the word is not in the language
 use Prim.Native.Nat.{ℕ, zero, suc, _+_, _*_, _/_, _%_, _≤_, _<_}
 use mathlib.Core.Path.{_≡_, refl, sym, ap, _∙_}
-use mathlib.Core.Logic.{_↔_, _⊎_, inl, inr}
+use mathlib.Core.Logic.{_↔_}
 use mathlib.Core.Bool.{true, false}
 use mathlib.Core.List.{List, [], append-nil}
 use native.Mathlib.Omega.{arith}
 use native.Mathlib.Nat.{mul-add-mod-self-right, mul-add-div-right, mod-eq-of-lt, div-eq-of-lt, mul-le-mul-right, mul-right-comm, suc-mul}
 use lib.ListN.{length}
-use Rattle.graphs.specs.Search.{AllBelow}
-use Rattle.graphs.specs.Search.Laws.{true-or-false, not-both}
+use Rattle.basics.specs.Search.{AllBelow}
 use Rattle.graphs.specs.Paths.{Path, here, step}
 use Rattle.graphs.specs.Paths.Laws.{closed, short-path}
 use Rattle.fsbm.specs.Machine.{wellFormed}
@@ -27,7 +26,7 @@ use Rattle.fsbm.specs.Published.{FSBM, Listed, fsbmOf, Configuration, config, Y
 use Rattle.fsbm.specs.declared.machine.Machine.{Machine}
 use Rattle.fsbm.specs.declared.config.Mode.{Mode}
 use Rattle.fsbm.specs.declared.config.Mode.the-variants.{Normal, Buffering, Emptying}
-use Rattle.graphs.specs.Bools.{false-iff}
+use Rattle.basics.specs.Bools.{false-iff}
 use Rattle.fsbm.specs.Rules.{Rules, rules, buffering-below, matching-below}
 use Rattle.language.specs.Agreement.{run-path, path-accepting, accepting-published}
 
@@ -179,13 +178,3 @@ module _ (m : Machine) (list w : List ℕ) where
 
   pub accepted-not-published : wellFormed m list ≡ true → (accepted m list w ≡ false) ↔ (InLanguage (fsbmOf m list) w → ⊥)
   accepted-not-published good = false-iff (accepted m list w) (accepted-iff-published good)
-
-  pub accepted-not-run : wellFormed m list ≡ true → (accepted m list w ≡ false) ↔ ((run : List ℕ) → accepting m list w run ≡ false)
-  accepted-not-run good = (
-    λ f run. no-run run (true-or-false (accepting m list w run)) f,
-    λ h. false-iff (accepted m list w) (accepted-iff-run good) .1 (λ s. not-both (s .1) (h (s .0))),
-  )
-    where
-      no-run : (run : List ℕ) → (accepting m list w run ≡ true) ⊎ (accepting m list w run ≡ false) → accepted m list w ≡ false → accepting m list w run ≡ false
-      no-run run (inl t) f = absurd (false-iff (accepted m list w) (accepted-iff-run good) .0 f (run, t))
-      no-run run (inr z) f = z

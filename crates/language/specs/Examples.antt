@@ -13,7 +13,7 @@ use mathlib.Core.List.{List, [], _∷_, _++_, List·Memᴰ}
 use mathlib.Core.Bool.{Bool, true, false, not, _&&_}
 use lib.ListN.{length, replicate}
 use lib.Dec.{ltb}
-use Rattle.graphs.specs.Search.{allBelow, allIn}
+use Rattle.basics.specs.Search.{allBelow, allIn}
 use Rattle.fsbm.specs.Machine.{maxStates, wellFormed}
 use Rattle.fsbm.specs.Moves.{wellPlaced, readsLetter, takes, changes, move, accepts, acceptingFrom, accepting, beginBuffering}
 use Rattle.fsbm.specs.Accepted.{accepted}

@@ -11,7 +11,7 @@ use mathlib.Core.List.{List, _∷_}
 use mathlib.Core.Bool.{Bool, true, false, _&&_}
 use lib.ListN.{length}
 use lib.Dec.{eqb}
-use Rattle.graphs.specs.Search.{anyIn}
+use Rattle.basics.specs.Search.{anyIn}
 use Rattle.graphs.specs.Reach.{reach}
 use Rattle.fsbm.specs.Machine.{initial}
 use Rattle.fsbm.specs.Moves.{wellPlaced, readsLetter, takes, changes, move, startAt, accepts, beginBuffering, beginEmptying, backToNormal}

@@ -16,7 +16,7 @@ use lib.ListN.{length, getD, take, drop}
 use lib.Seq.{slice, slice-cons, length-slice, take-length, take-suc, drop-append-le, length-take-le}
 use lib.Dec.{ltb, eqb, eqb·suc-zero}
 use borrow.Author.Tests.{ltb-true, ltb-false, eq-eqb}
-use Rattle.graphs.specs.Search.Laws.{and-both-true, true-or-false}
+use Rattle.basics.specs.Search.Laws.{and-both-true, true-or-false}
 use Rattle.fsbm.specs.Moves.{readsLetter, advanced}
 use Rattle.fsbm.specs.Moves.Laws.{reads-suc, advanced-suc}
 use Rattle.fsbm.specs.Published.{symbol}

@@ -19,7 +19,7 @@ use native.Mathlib.Decide.{ℕ-discrete, decLt}
 use lib.ListN.{set, replicate, length-set}
 use lib.Count.{trailingZeros}
 use lib.Seq.{getD-set-same, getD-set-other}
-use Rattle.graphs.specs.Search.Laws.{not-both, true-or-false}
+use Rattle.basics.specs.Search.Laws.{not-both, true-or-false}
 use Rattle.graphs.specs.Paths.{here}
 use Rattle.stateset.specs.Set.{width, In, SetIs}
 use Rattle.stateset.specs.Set.Laws.{empty-in, lowest-in}

@@ -21,7 +21,7 @@ use native.Mathlib.Numerals.{add-one}
 use lib.ListN.{getD, set}
 use lib.Dec.{ltb, eqb}
 use borrow.Author.Tests.{le-ltb, lt-ltb, ltb-true, eqb-true}
-use Rattle.graphs.specs.Search.Laws.{not-both, true-or-false}
+use Rattle.basics.specs.Search.Laws.{not-both, true-or-false}
 use Rattle.stateset.specs.Set.{width, In, has, SetIs}
 use Rattle.stateset.specs.Set.Laws.{has-in, empty-in, lowest-in}
 use Rattle.fsbm.specs.declared.config.Mode.{Mode}

@@ -21,7 +21,7 @@ use mathlib.Core.Path.{_≡_}
 use mathlib.Core.Logic.{_⊎_}
 use mathlib.Core.Bool.{Bool, true, false}
 use mathlib.Core.List.{List}
-use lib.ListN.{length, getD}
+use lib.ListN.{length}
 use lib.Count.{ones}
 use Rattle.graphs.specs.Cost.{Route, Settled}
 use Rattle.graphs.specs.Back.{Back}

@@ -1,8 +1,7 @@
 // A number for each state, lowered step by step. The states that are lowered are noted in a set.
-ghost use Prim.Native.Nat.{ℕ, _+_, _*_, _≤_, _<_};
+ghost use Prim.Native.Nat.{_+_, _*_, _≤_, _<_};
 ghost use mathlib.Core.Path.{_≡_};
 ghost use lib.ListN.{length};
-ghost use Rattle.stateset.specs.Set.{In};
 ghost use Rattle.fsbm.specs.Machine.{buffering};
 ghost use Rattle.pieces.specs.Pairs.{weigh};
 ghost use Rattle.pieces.specs.Blocks.{nothing};

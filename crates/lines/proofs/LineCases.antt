@@ -20,9 +20,9 @@ use native.Mathlib.Nat.{add-assoc}
 use lib.Dec.{eqb, leb}
 use native.Mathlib.Decide.{decLe, decLt, ℕ-discrete}
 use borrow.Author.Tests.{le-leb, lt-leb, leb-true, eq-eqb, ne-eqb}
-use Rattle.graphs.specs.Search.{allBelow}
-use Rattle.graphs.specs.Search.Laws.{allBelow-true, allBelow-false, and-true, and-both-true, true-or-false}
-use Rattle.graphs.specs.Search.Loops.{pass, stop, first, second}
+use Rattle.basics.specs.Search.{allBelow}
+use Rattle.basics.specs.Search.Laws.{allBelow-true, allBelow-false, and-true, and-both-true, true-or-false}
+use Rattle.basics.specs.Search.Loops.{pass, stop, first, second}
 use Rattle.columns.specs.Column.{noNumber, columnOf, put}
 use Rattle.columns.specs.Column.Laws.{column-length, put-put}
 use Rattle.fsbm.specs.Answers.{goodLetter}

@@ -13,7 +13,7 @@ use mathlib.Core.List.{List, [], _∷_, _++_}
 use mathlib.Core.Bool.{Bool, true, cond, not, _&&_}
 use lib.ListN.{length, take, drop, set}
 use lib.Dec.{leb, eqb}
-use Rattle.graphs.specs.Search.{allBelow}
+use Rattle.basics.specs.Search.{allBelow}
 use Rattle.columns.specs.Column.{columnNumber, noNumber, columnOf}
 use Rattle.fsbm.specs.Machine.{wellFormed}
 use Rattle.fsbm.specs.Answers.{goodLetter}

@@ -13,7 +13,7 @@ use Prim.Native.Nat.{ℕ, _*_}
 use mathlib.Core.List.{List, [], _∷_, _++_, flatMap}
 use mathlib.Core.Bool.{Bool, false, cond, not, _&&_}
 use lib.Dec.{eqb}
-use Rattle.graphs.specs.Search.{allIn}
+use Rattle.basics.specs.Search.{allIn}
 use Rattle.graphs.specs.Reach.{reach, isClosed}
 use Rattle.fsbm.specs.Machine.{initial, final, buffering, matching, bothMatching, transitionAt}
 use Rattle.fsbm.specs.declared.machine.Machine.{Machine}

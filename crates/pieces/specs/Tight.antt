@@ -7,21 +7,18 @@
 -- block-tight          == with a settled block for the guess of a tight copy, D q is the block's number and 2 more, for the changes of mode
 -- block-above          == and with any guess it is no more than that
 -- settled-leads        == a number below top is the weight of pieces from an initial state
--- room                 == where n letters are the fewest that lead from an initial state to f, and pieces from q to f are written behind i letters and r moves,
---                         with D q = i × unit + r, pieces from p to q with D q = (their weight) + D p fit before them, and so on with D p
 use Prim.Native.Nat.{ℕ, _+_, _*_, _-_, _≤_, _<_}
 use mathlib.Core.Path.{_≡_, subst}
 use mathlib.Core.Logic.{_⊎_, inl, inr}
-use mathlib.Core.List.{List, _++_}
+use mathlib.Core.List.{List}
 use native.Mathlib.Omega.{arith}
-use lib.ListN.{length, length-append}
+use lib.ListN.{length}
 use Rattle.graphs.specs.Cost.{Route, Settled}
 use Rattle.graphs.specs.Cost.Laws.{descend, zero-goal}
 use Rattle.graphs.specs.Back.{Back}
 use Rattle.graphs.specs.Back.Laws.{route-back}
 use Rattle.fsbm.specs.Published.{FSBM}
 use Rattle.pieces.specs.Pieces.{Leads}
-use Rattle.pieces.specs.Pieces.Laws.{leads-append}
 use Rattle.pieces.specs.Pairs.{unit, weigh, Pair, both, PairMove, moves, Piece, moved, copied}
 use Rattle.pieces.specs.Pairs.Laws.{route-leads, piece-positive}
 use Rattle.pieces.specs.Blocks.{Node, outside, inside, BlockEdge}
@@ -76,15 +73,3 @@ module _ {M : FSBM} {top : ℕ} {D : ℕ → ℕ} (s : Settled (Back (Piece M)) 
       let t = s .realised q l in
       let (w, k, leads, e) = route-leads (route-back (Back (Piece M)) (t .route)) in
       (t .goal, w, k, t .isGoal, leads, e)
-
-  pub room : (f n : ℕ) → ((p : ℕ) (w : List ℕ) (k : ℕ) → M .I p → Leads M p w f k → n ≤ length w)
-      → {p q j k i r : ℕ} {x w : List ℕ} → Leads M q w f k → D q ≡ i * unit + r → r < unit → i + length w ≡ n → D p < top → Leads M p x q j → D q ≡ length x * unit + j + D p
-      → (length x ≤ i) × (j ≤ r) × (D p ≡ (i - length x) * unit + (r - j))
-  room f n fewest {p} {j = j} {k = k} {i = i} {r = r} {x = x} {w = w} rest is small all below piece tight =
-      let (o, u, m, start, leads, e) = settled-leads p below in
-      let least = fewest o (u ++ (x ++ w)) (m + (j + k)) start (leads-append leads (leads-append piece rest)) in
-      let outer = length-append u (x ++ w) in
-      let inner = length-append x w in
-      let letters : length u + length x ≡ i = omega arith in
-      let steps : m + j ≡ r = omega arith in
-      (omega arith, omega arith, omega arith)

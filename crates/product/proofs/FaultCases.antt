@@ -9,9 +9,9 @@
 -- pair-mark-is            == the mark of a pair from its four parts
 -- marks-next, marks-end   == the loop over the marks
 -- fault-..                == the ways through first_fault
-use Prim.Native.Nat.{ℕ, zero, suc, _+_, _*_, _-_, _/_, _%_, _≤_, _<_}
-use mathlib.Core.Path.{_≡_, refl, sym, ap, _∙_, subst}
-use mathlib.Core.Bool.{Bool, true, false, cond, not, _&&_}
+use Prim.Native.Nat.{ℕ, zero, suc, _+_, _*_, _-_, _≤_, _<_}
+use mathlib.Core.Path.{_≡_, refl, sym, ap, _∙_}
+use mathlib.Core.Bool.{Bool, true, false, cond, _&&_}
 use mathlib.Core.List.{List, [], _∷_}
 use native.Mathlib.Omega.{arith}
 use native.Mathlib.Numerals.{add-one}
@@ -19,17 +19,17 @@ use native.Mathlib.Decide.{ℕ-discrete}
 use native.Mathlib.Nat.{mul-le-mul}
 use lib.ListN.{length, getD, set, length-set, replicate, length-replicate, getD-replicate}
 use lib.Seq.{getD-set-same, getD-set-other, ext-getD}
-use lib.Dec.{leb, ltb, eqb}
-use borrow.Author.Tests.{eq-eqb, ne-eqb, le-leb, lt-leb, lt-ltb, le-ltb}
-use Rattle.graphs.specs.Search.Loops.{first, second, pass, stop}
-use Rattle.fsbm.specs.Machine.{initial, final, buffering, matching, transitionAt, wellFormed, maxStates, maxTransitions}
+use lib.Dec.{eqb}
+use borrow.Author.Tests.{eq-eqb, ne-eqb}
+use Rattle.basics.specs.Search.Loops.{first, second}
+use Rattle.fsbm.specs.Machine.{initial, final, buffering, matching, transitionAt, maxStates}
 use Rattle.fsbm.specs.Rules.{Rules}
 use Rattle.fsbm.specs.declared.machine.Machine.{Machine}
 use Rattle.fsbm.specs.declared.machine.Transition.{Transition}
 use Rattle.product.specs.Each.{each, sumOver, zerosOf}
 use Rattle.product.specs.Each.Laws.{each-single, length-each}
 use Rattle.product.specs.Each.Sums.{sum-const, sum-same}
-use Rattle.product.specs.Product.{plain, letterCount, joinedCount, pairMark, joinedMark, joinedMarks, joinFault}
+use Rattle.product.specs.Product.{letterCount, joinedCount, pairMark, joinedMark, joinedMarks}
 
 pub zeros-length : (n : ℕ) → length (zerosOf n) ≡ n
 unfolding zerosOf

@@ -24,13 +24,13 @@ use lib.ListN.{length, getD, set}
 use lib.Seq.{sets-eq}
 use lib.Dec.{eqb}
 use borrow.Author.Tests.{eq-eqb, ne-eqb, eqb-true}
-use Rattle.graphs.specs.Search.Laws.{and-true, and-both-true}
-use Rattle.graphs.specs.Search.Loops.{first, second}
+use Rattle.basics.specs.Search.Laws.{and-true, and-both-true}
+use Rattle.basics.specs.Search.Loops.{first, second}
 use Rattle.fsbm.specs.Machine.{transitionAt}
 use Rattle.fsbm.specs.Rules.{Rules}
 use Rattle.fsbm.specs.declared.machine.Machine.{Machine}
 use Rattle.fsbm.specs.declared.machine.Transition.{Transition}
-use Rattle.graphs.specs.Bools.{cond-elim}
+use Rattle.basics.specs.Bools.{cond-elim}
 use Rattle.product.specs.Each.{each, replaced}
 use Rattle.product.specs.Each.Laws.{each-step, each-over, each-same, each-none, each-block, each-skip, length-each, Putting, putting-start, putting-room, putting-step, putting-at, putting-end}
 use Rattle.product.specs.Each.Sums.{sum-const}
@@ -120,7 +120,7 @@ module _ (n count : ℕ) (second : List ℕ) (r : ℕ) (t : Transition) where
   pub nothing-given : (t .letter ≡ 0 → ⊥) → ((u : ℕ) → u < count → letterKey second u ≡ r * 256 + t .letter → ⊥) → jointMoves n count second r t ≡ []
   unfolding jointMoves
   nothing-given some none =
-      sym (Rattle.graphs.specs.Search.Loops.second (joint n (t .from) r 0 (t .to) r ∷ []) (ne-eqb (t .letter) 0 some) refl)
+      sym (Rattle.basics.specs.Search.Loops.second (joint n (t .from) r 0 (t .to) r ∷ []) (ne-eqb (t .letter) 0 some) refl)
       ∙ each-none 0 count (letterMove n count second r t) (λ u a b. no-move u (none u (omega arith)))
 
   module _ {starts : List ℕ} {lo hi : ℕ} (m : Moving n count second starts r t) (some : t .letter ≡ 0 → ⊥)
@@ -157,7 +157,7 @@ module _ (n count : ℕ) (second : List ℕ) (r : ℕ) (t : Transition) where
         ∙ each-same lo (hi - lo) (λ u. flat (letterMove n count second r t u)) (threes second (t .from * n + r) (t .letter) (t .to * n + 0)) (λ u a b. one-move u a (omega arith))
       where
         second-arm : each 0 count (letterMove n count second r t) ≡ cond (eqb (t .letter) 0) (joint n (t .from) r 0 (t .to) r ∷ []) (each 0 count (letterMove n count second r t))
-        second-arm = Rattle.graphs.specs.Search.Loops.second (joint n (t .from) r 0 (t .to) r ∷ []) (ne-eqb (t .letter) 0 some) refl
+        second-arm = Rattle.basics.specs.Search.Loops.second (joint n (t .from) r 0 (t .to) r ∷ []) (ne-eqb (t .letter) 0 some) refl
 
     pub letters-length : length (flat (jointMoves n count second r t)) ≡ (hi - lo) * 3
     letters-length = ap length letters-is ∙ threes-length lo (hi - lo) (t .from * n + r) (t .letter) (λ u. t .to * n + 0 + transitionAt second u .to)
@@ -598,6 +598,3 @@ module _ {m₁ : Machine} {l₁ : List ℕ} {m₂ : Machine} {l₂ : List ℕ} (
   pub writing-end : {at lo p : ℕ} {entry list : List ℕ} → Writing entry list at lo p → m₁ .states ≤ p → list ≡ replaced entry 0 (joinedTransitions m₁ l₁ m₂ l₂)
   unfolding flat
   writing-end {p = p} s le = putting-end (s .putting) (ap flat (each-over p (m₁ .states) row le)) .0
-
-  pub writing-size : {at lo p : ℕ} {entry list : List ℕ} → Writing entry list at lo p → length list ≡ length entry
-  writing-size s = s .putting .size

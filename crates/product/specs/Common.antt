@@ -8,38 +8,36 @@
 -- joined-splits           == from an accepting run of the product one of each machine, the first's as long, the second's of n + 1 entries
 -- splits-join             == from accepting runs of both machines one of the product, as long as the first's
 -- joined-accepted         == the product accepts a word, if and only if both machines do
-use Prim.Native.Nat.{ℕ, zero, suc, _+_, _*_, _-_, _/_, _%_, _≤_, _<_}
+use Prim.Native.Nat.{ℕ, zero, suc, _+_, _*_, _-_, _/_, _%_, _<_}
 use mathlib.Core.Path.{_≡_, refl, sym, ap, _∙_, subst}
-use mathlib.Core.Logic.{_↔_, _⊎_, inl, inr}
-use mathlib.Core.Bool.{true, false, cond, _&&_, false≢true, true≢false}
+use mathlib.Core.Logic.{_⊎_, inl, inr}
+use mathlib.Core.Bool.{true, _&&_}
 use mathlib.Core.List.{List, [], _∷_, _++_, List·Memᴰ, List·Memᴰ·head, List·Memᴰ·tail}
 use native.Mathlib.Omega.{arith}
 use native.Mathlib.Decide.{decLt}
-use lib.ListN.{length, getD, drop}
-use lib.Seq.{slice, slice-empty, drop-length}
-use lib.Dec.{ltb, eqb}
-use borrow.Author.Tests.{ltb-true, eqb-true, lt-ltb, le-ltb}
-use Rattle.graphs.specs.Search.{AllBelow}
-use Rattle.graphs.specs.Search.Laws.{and-true, and-both-true, not-both}
-use Rattle.graphs.specs.Search.Loops.{first, second}
+use lib.ListN.{length, getD}
+use lib.Dec.{ltb}
+use borrow.Author.Tests.{eqb-true, le-ltb}
+use Rattle.basics.specs.Search.{AllBelow}
+use Rattle.basics.specs.Search.Laws.{and-true, and-both-true, not-both}
+use Rattle.basics.specs.Search.Loops.{first, second}
 use Rattle.graphs.specs.Paths.{Path, here, step}
 use Rattle.fsbm.specs.Accepted.{accepted}
-use Rattle.fsbm.specs.Machine.{maxStates, markOf, initial, final, matching, transitionAt, wellFormed}
-use Rattle.fsbm.specs.Moves.{move, startAt, isNormal, accepts, acceptingFrom, accepting}
-use Rattle.fsbm.specs.Published.{FSBM, Listed, fsbmOf, Configuration, config, symbol, Yields, normal, buffer, empty, begin-buffering, begin-emptying, back-to-normal}
+use Rattle.fsbm.specs.Machine.{maxStates, markOf, initial, final, matching, transitionAt}
+use Rattle.fsbm.specs.Moves.{accepting}
+use Rattle.fsbm.specs.Published.{Listed, fsbmOf, Configuration, config, symbol, Yields, normal, buffer, empty, begin-buffering, begin-emptying, back-to-normal}
 use Rattle.fsbm.specs.declared.machine.Machine.{Machine}
 use Rattle.fsbm.specs.declared.machine.Transition.{Transition}
-use Rattle.fsbm.specs.declared.config.Config.{Config}
 use Rattle.fsbm.specs.declared.config.Mode.{Mode}
 use Rattle.fsbm.specs.declared.config.Mode.the-variants.{Normal, Buffering, Emptying}
 use Rattle.language.specs.Agreement.{accepting-path, path-accepting}
-use Rattle.graphs.specs.Bools.{same-truth}
+use Rattle.basics.specs.Bools.{same-truth}
 use Rattle.language.specs.Bound.{accepted-iff-run}
 use Rattle.fsbm.specs.Rules.{Rules, rules, buffering-below, matching-below}
 use Rattle.product.specs.Count.{joined-count}
-use Rattle.product.specs.Product.{pairState, joint, jointMoves, joined, joinedTransitions, joinedCount, joinedMark, joinedMarks, joinedMachine, joinFault}
-use Rattle.product.specs.Rise.{Bounds, bounds}
-use Rattle.product.specs.Steps.{Step, moves-epsilon, moves-letter, joined-to, joined-of}
+use Rattle.product.specs.Product.{pairState, joint, joined, joinedTransitions, joinedCount, joinedMarks, joinedMachine, joinFault}
+use Rattle.product.specs.Rise.{bounds}
+use Rattle.product.specs.Steps.{moves-epsilon, moves-letter, joined-to, joined-of}
 use Rattle.product.specs.Tables.{Joinable, joinable, pair-below, pair-first, pair-second, first-below, second-below}
 use Rattle.product.specs.WellFormed.{initial-joined, final-joined, buffering-joined, matching-joined, initial-at, final-at, buffering-at, matching-at, noTransition, listed-at, joined-well-formed}
 

@@ -3,18 +3,16 @@
 -- letter-sum           == the number of transitions with a letter, as a sum
 -- joined-count         == the product has joinedCount transitions
 -- joined-length        == its list has three numbers for each
-use Prim.Native.Nat.{ℕ, zero, suc, _+_, _*_, _≤_, _<_}
+use Prim.Native.Nat.{ℕ, zero, suc, _+_, _*_, _<_}
 use mathlib.Core.Path.{_≡_, refl, sym, ap, _∙_}
-use mathlib.Core.Logic.{_⊎_, inl, inr}
 use mathlib.Core.Bool.{Bool, true, false, cond, _&&_}
 use mathlib.Core.List.{List, [], _∷_}
 use native.Mathlib.Omega.{arith}
 use native.Mathlib.Nat.{zero-add, one-mul, zero-mul, mul-one}
 use lib.ListN.{length}
 use lib.Dec.{eqb}
-use borrow.Author.Tests.{eqb-true, ne-eqb}
-use Rattle.graphs.specs.Search.Laws.{true-or-false}
-use Rattle.graphs.specs.Search.Loops.{first, second}
+use borrow.Author.Tests.{ne-eqb}
+use Rattle.basics.specs.Search.Loops.{first, second}
 use Rattle.fsbm.specs.Machine.{transitionAt}
 use Rattle.fsbm.specs.declared.machine.Machine.{Machine}
 use Rattle.fsbm.specs.declared.machine.Transition.{Transition}

@@ -7,11 +7,11 @@
 -- rows                 == the table
 use Prim.Native.Nat.{ℕ, _*_}
 use mathlib.Core.Path.{_≡_}
-use mathlib.Core.List.{List, [], _∷_, _++_, map}
+use mathlib.Core.List.{List, [], _∷_, map}
 use mathlib.Core.Bool.{Bool, true, false, _&&_}
 use lib.ListN.{length}
 use lib.Dec.{eqb}
-use Rattle.graphs.specs.Search.{allBelow}
+use Rattle.basics.specs.Search.{allBelow}
 use Rattle.fsbm.specs.Machine.{wellFormed}
 use Rattle.fsbm.specs.declared.machine.Machine.{Machine}
 use Rattle.language.specs.Examples as language

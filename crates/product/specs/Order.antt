@@ -5,7 +5,7 @@
 -- Moving n count second starts r t == transition t of the first can be taken at state r of the second, whose transitions by its letter
 --                            begin where starts says
 -- Block list n p lo hi    == of the first n transitions those from lo up to hi leave state p
-use Prim.Native.Nat.{ℕ, suc, _+_, _*_, _≤_, _<_, _^_}
+use Prim.Native.Nat.{ℕ, _+_, _*_, _≤_, _<_, _^_}
 use mathlib.Core.Path.{_≡_}
 use mathlib.Core.List.{List}
 use lib.ListN.{getD}

@@ -10,12 +10,12 @@
 -- joinedMachine ..        == the product's record
 -- joinFault ..            == the first refusal of two tables that are joined, 0 where there is none
 -- joinRefusal, joinAnswer, joinAfter == the refusal and the answer of join, and what the caller's list holds afterwards
-use Prim.Native.Nat.{ℕ, zero, suc, _+_, _*_, _-_, _/_, _%_}
+use Prim.Native.Nat.{ℕ, zero, suc, _+_, _*_, _/_, _%_}
 use mathlib.Core.List.{List, [], _∷_, _++_}
-use mathlib.Core.Bool.{Bool, true, false, cond, not, _&&_}
-use lib.ListN.{length, drop, replicate}
+use mathlib.Core.Bool.{Bool, cond, not, _&&_}
+use lib.ListN.{length, drop}
 use lib.Dec.{leb, ltb, eqb}
-use Rattle.graphs.specs.Search.{allBelow}
+use Rattle.basics.specs.Search.{allBelow}
 use Rattle.fsbm.specs.Machine.{maxStates, maxTransitions, initial, final, buffering, matching, transitionAt, wellFormed}
 use Rattle.fsbm.specs.Answers.{refusal, noMachine}
 use Rattle.fsbm.specs.declared.machine.Machine.{Machine}

@@ -5,25 +5,24 @@
 -- moves-to, moves-epsilon, moves-letter == x stands in jointMoves exactly if it is such a step
 -- joined-to, joined-of    == x stands in joined exactly if it stands in jointMoves of some transition of the first at some state
 -- flat-at                 == transition k of the written list is element k of joined
-use Prim.Native.Nat.{ℕ, zero, suc, _+_, _*_, _≤_, _<_}
+use Prim.Native.Nat.{ℕ, zero, suc, _+_, _*_, _<_}
 use mathlib.Core.Path.{_≡_, refl, sym, ap, _∙_, subst}
 use mathlib.Core.Logic.{_⊎_, inl, inr}
 use mathlib.Core.Bool.{Bool, true, false, cond, _&&_}
-use mathlib.Core.List.{List, [], _∷_, _++_, List·Memᴰ, List·Memᴰ·head, List·Memᴰ·tail, List·Memᴰ·not-nil, List·Memᴰ·cases-cons}
+use mathlib.Core.List.{List, [], _∷_, _++_, List·Memᴰ, List·Memᴰ·head, List·Memᴰ·not-nil, List·Memᴰ·cases-cons}
 use native.Mathlib.Omega.{arith}
 use lib.ListN.{length, getD}
 use lib.Dec.{eqb}
-use borrow.Author.Tests.{eqb-true, eqb-false, eq-eqb, ne-eqb}
-use Rattle.graphs.specs.Search.Laws.{and-true, and-both-true, true-or-false}
+use borrow.Author.Tests.{eqb-true, eqb-false, eq-eqb}
+use Rattle.basics.specs.Search.Laws.{and-true, and-both-true}
 use Rattle.fsbm.specs.Machine.{transitionAt}
 use Rattle.fsbm.specs.Published.{Listed}
 use Rattle.fsbm.specs.declared.machine.Machine.{Machine}
 use Rattle.fsbm.specs.declared.machine.Transition.{Transition}
-use Rattle.graphs.specs.Bools.{cond-elim}
+use Rattle.basics.specs.Bools.{cond-elim}
 use Rattle.product.specs.Each.{each}
 use Rattle.product.specs.Each.Laws.{each-to, each-of}
 use Rattle.product.specs.Product.{pairState, joint, jointMoves, joinedFrom, joined, flat}
-use Rattle.product.specs.Tables.{Joinable}
 
 -- the only element of a list of one
 only : {A : Type 0} {x y : A} → List·Memᴰ x (y ∷ []) → x ≡ y

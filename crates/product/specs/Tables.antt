@@ -8,22 +8,21 @@
 -- pair-first, pair-second, pair-same == its parts; it is the number of one pair only
 -- first-below, second-below == the parts of a state of the product are states of the two machines
 use Prim.Native.Nat.{ℕ, zero, suc, _+_, _*_, _-_, _/_, _%_, _≤_, _<_}
-use mathlib.Core.Path.{_≡_, refl, sym, ap, _∙_}
-use mathlib.Core.Logic.{_⊎_, inl, inr}
-use mathlib.Core.Bool.{Bool, true, false, cond, not, false≢true}
+use mathlib.Core.Path.{_≡_, sym, ap, _∙_}
+use mathlib.Core.Bool.{Bool, true, false, not}
 use mathlib.Core.List.{List}
 use native.Mathlib.Omega.{arith}
 use native.Mathlib.Decide.{ℕ-discrete}
 use native.Mathlib.Nat.{mul-le-mul-right, suc-mul, mul-add-div-right, div-eq-of-lt, mul-add-mod-self-right, mod-eq-of-lt, mod-lt, div-lt-iff-lt-mul}
 use lib.Dec.{leb, ltb, eqb}
 use borrow.Author.Tests.{leb-true, ltb-true, eqb-true, eqb-false, not-true}
-use Rattle.graphs.specs.Search.{allBelow}
-use Rattle.graphs.specs.Search.Laws.{and-true, true-or-false, allBelow-true}
+use Rattle.basics.specs.Search.{allBelow}
+use Rattle.basics.specs.Search.Laws.{and-true, allBelow-true}
 use Rattle.fsbm.specs.Machine.{maxStates, maxTransitions, buffering, matching, transitionAt, precedes, wellFormed}
 use Rattle.fsbm.specs.Rules.{Rules, rules}
 use Rattle.fsbm.specs.declared.machine.Machine.{Machine}
 use Rattle.fsbm.specs.declared.machine.Transition.{Transition}
-use Rattle.graphs.specs.Bools.{cond-elim}
+use Rattle.basics.specs.Bools.{cond-elim}
 use Rattle.product.specs.Product.{plainState, plainTransition, plain, joinedCount, joinFault}
 
 abbrev pub order : Transition → ℕ

@@ -6,7 +6,6 @@
 -- joined-well-formed      == the product's record and its list obey the rules of a table
 use Prim.Native.Nat.{ℕ, zero, suc, _+_, _*_, _-_, _/_, _%_, _≤_, _<_}
 use mathlib.Core.Path.{_≡_, refl, sym, ap, _∙_, subst}
-use mathlib.Core.Logic.{_⊎_, inl, inr}
 use mathlib.Core.Bool.{Bool, true, false, cond, not, _&&_, _||_}
 use mathlib.Core.List.{List, [], _∷_, _++_, List·Memᴰ, List·Memᴰ·head, List·Memᴰ·tail}
 use native.Mathlib.Omega.{arith}
@@ -14,20 +13,19 @@ use native.Mathlib.Numerals.{sub-one}
 use native.Mathlib.Nat.{mul-le-mul, div-add-mod'}
 use lib.ListN.{length, getD, length-append}
 use lib.Dec.{leb, ltb, eqb, eqb·suc-zero}
-use borrow.Author.Tests.{leb-true, ltb-true, ltb-false, lt-ltb, le-ltb, le-leb, eq-eqb, ne-eqb, eqb-true, eqb-false, not-true}
-use Rattle.graphs.specs.Search.{allBelow}
-use Rattle.graphs.specs.Search.Laws.{and-both-true, true-or-false, allBelow-true}
-use Rattle.graphs.specs.Search.Loops.{first, second}
+use borrow.Author.Tests.{ltb-true, lt-ltb, le-leb, eq-eqb, eqb-true, eqb-false}
+use Rattle.basics.specs.Search.{allBelow}
+use Rattle.basics.specs.Search.Laws.{and-both-true, allBelow-true}
+use Rattle.basics.specs.Search.Loops.{first, second}
 use Rattle.fsbm.specs.Machine.{maxStates, maxLetters, maxTransitions, markOf, initial, final, buffering, matching, transitionAt, goodMark, named, precedes, goodTransition, wellFormed}
 use Rattle.fsbm.specs.Rules.{one-kind}
 use Rattle.fsbm.specs.declared.machine.Machine.{Machine}
 use Rattle.fsbm.specs.declared.machine.Transition.{Transition}
-use Rattle.graphs.specs.Bools.{cond-elim, says-not-and}
+use Rattle.basics.specs.Bools.{cond-elim, says-not-and}
 use Rattle.product.specs.Count.{joined-count, joined-length}
-use Rattle.product.specs.Each.{each}
 use Rattle.product.specs.Each.Laws.{each-single}
-use Rattle.product.specs.Product.{pairState, joined, flat, joinedTransitions, joinedCount, pairMark, joinedMark, joinedMarks, joinedMachine, joinFault}
-use Rattle.product.specs.Rise.{Rises, rises-next, joined-rises, joined-bounds}
+use Rattle.product.specs.Product.{pairState, joined, joinedTransitions, joinedCount, pairMark, joinedMark, joinedMarks, joinedMachine, joinFault}
+use Rattle.product.specs.Rise.{rises-next, joined-rises, joined-bounds}
 use Rattle.product.specs.Steps.{flat-at}
 use Rattle.product.specs.Tables.{order, Joinable, joinable, pair-below, pair-first, pair-second, first-below, second-below}
 

@@ -3,7 +3,7 @@ ghost use Prim.Native.Nat.{ℕ, _*_, _≤_, _<_};
 ghost use mathlib.Core.Path.{_≡_};
 ghost use mathlib.Core.Bool.{true};
 ghost use lib.ListN.{getD};
-ghost use Rattle.graphs.specs.Search.{allBelow};
+ghost use Rattle.basics.specs.Search.{allBelow};
 ghost use Rattle.fsbm.specs.Machine.{transitionAt, wellFormed};
 ghost use Rattle.product.specs.Each.{sumOver, zerosOf};
 ghost use Rattle.product.specs.Product.{plainState, plainTransition, plain, letterCount, joinedCount, joinFault};
@@ -56,7 +56,7 @@ fn plain_transitions(list: &[u16], n: usize) -> bool
 
 // Whether a machine is plain: no buffering or matching state, no epsilon transition.
 // Time: the states and the transitions, each once.
-pub fn is_plain(m: Machine, list: &[u16]) -> bool
+fn is_plain(m: Machine, list: &[u16]) -> bool
     ensures { λ r. ⌜ r ≡ plain m (now (list .entry)) ⌝ }
 {
     if !plain_states(&m.marks, m.states) {

@@ -16,7 +16,7 @@ use native.Mathlib.Numerals.{add-one}
 use lib.ListN.{length, getD}
 use lib.Dec.{eqb}
 use borrow.Author.Tests.{eqb-true, eqb-false, eq-eqb}
-use Rattle.graphs.specs.Search.Laws.{not-both}
+use Rattle.basics.specs.Search.Laws.{not-both}
 use Rattle.fsbm.specs.Machine.{wellFormed, initial, transitionAt, markOf}
 use Rattle.fsbm.specs.Moves.{wellPlaced, move, beginBuffering, beginEmptying, backToNormal}
 use Rattle.fsbm.specs.Published.{Configuration}

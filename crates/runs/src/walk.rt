@@ -1,7 +1,7 @@
 // The walk that writes a run: at each configuration the smallest entry whose next configuration has one move less to go.
 ghost use Prim.Native.Nat.{ℕ, _+_, _-_, _*_, _≤_, _<_};
 ghost use mathlib.Core.Path.{_≡_};
-ghost use mathlib.Core.Bool.{Bool, true, false};
+ghost use mathlib.Core.Bool.{true, false};
 ghost use mathlib.Core.List.{List, []};
 ghost use lib.ListN.{length, getD};
 ghost use Rattle.fsbm.specs.Machine.{wellFormed, initial};
@@ -13,7 +13,7 @@ ghost use Rattle.adjacency.specs.Index.{Index};
 ghost use Rattle.targets.specs.Prepared.{Prepared};
 ghost use Rattle.images.specs.Graph.{KindsOf};
 ghost use Rattle.decide.specs.Covers.{Covers};
-ghost use Rattle.tables.specs.Tables.{nearOf, Known, rowAt, Sized, Sizes, PlaceRows};
+ghost use Rattle.tables.specs.Tables.{nearOf, Known, Sized, Sizes, PlaceRows};
 ghost use Rattle.runs.specs.Walk.{Ready, changeEntry, Tried, Scanned, Entered, Fresh, Refreshed, Started, Written};
 use decide::places::Reached;
 use fsbm::config::Config;

@@ -5,7 +5,7 @@
 -- entries-fit          == a run of e entries fits in a slice of that length
 -- writable             == the word and the runs can be written into the front of the three slices
 use Prim.Native.Nat.{ℕ, _+_, _*_, _/_, _%_, _≤_, _<_}
-use mathlib.Core.Path.{_≡_, refl, sym, ap, _∙_, subst, subst₂}
+use mathlib.Core.Path.{_≡_, sym, ap, _∙_, subst, subst₂}
 use mathlib.Core.Bool.{true}
 use mathlib.Core.List.{List, _++_}
 use native.Mathlib.Omega.{arith}
@@ -16,7 +16,6 @@ use Rattle.fsbm.specs.Accepted.{runBound}
 use Rattle.fsbm.specs.declared.machine.Machine.{Machine}
 use Rattle.product.specs.Tables.{joinable}
 use Rattle.pieces.specs.Pairs.{unit}
-use Rattle.pieces.specs.Bound.{wordBound}
 use Rattle.pieces.specs.Blocks.{nothing, costOf}
 use Rattle.common.specs.declared.Common.the-variants.{Refused, NoCommonWord, Found}
 use Rattle.common.specs.Common.{leastCommon, Front, CommonWord}

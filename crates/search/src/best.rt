@@ -1,7 +1,6 @@
 // The final state with the least number.
-ghost use Prim.Native.Nat.{_+_, _≤_, _<_};
+ghost use Prim.Native.Nat.{_+_, _<_};
 ghost use mathlib.Core.Path.{_≡_};
-ghost use lib.ListN.{length};
 ghost use Rattle.pieces.specs.Blocks.{costOf};
 ghost use Rattle.search.specs.Best.{Best};
 use fsbm::machine;

@@ -3,17 +3,16 @@
 -- Held s i c numbers  == the first c columns of the line at byte i are as described, and these are their numbers
 -- line-..             == the fault of a line: too short, a bad column, a bad end, none
 -- state-.., transition-.. == the fault of a state's and of a transition's line
-use Prim.Native.Nat.{ℕ, zero, suc, _+_, _*_, _-_, _/_, _%_, _<_, _≤_}
-use mathlib.Core.Path.{_≡_, refl, sym, ap, _∙_, subst}
-use mathlib.Core.Logic.{_⊎_, inl, inr}
-use mathlib.Core.List.{List, [], _∷_, _++_}
-use mathlib.Core.Bool.{Bool, true, false, cond, not, _&&_, _||_}
+use Prim.Native.Nat.{ℕ, zero, _+_, _*_, _-_, _/_, _%_, _<_, _≤_}
+use mathlib.Core.Path.{_≡_, refl, sym, ap, _∙_}
+use mathlib.Core.List.{List}
+use mathlib.Core.Bool.{Bool, true, false, not, _||_}
 use native.Mathlib.Omega.{arith}
 use native.Mathlib.Decide.{ℕ-discrete}
-use lib.ListN.{length, take, drop, getD, set}
+use lib.ListN.{length, getD, set}
 use lib.Seq.{getD-set-same, getD-set-other}
-use lib.Dec.{leb, ltb, eqb}
-use borrow.Author.Tests.{le-leb, lt-leb, lt-ltb, le-ltb, eq-eqb, ne-eqb}
+use lib.Dec.{leb, eqb}
+use borrow.Author.Tests.{le-leb, lt-leb, eq-eqb, ne-eqb}
 use Rattle.columns.specs.Column.{noNumber}
 use Rattle.fsbm.specs.Machine.{named, precedes}
 use Rattle.fsbm.specs.declared.machine.Transition.{Transition}
@@ -22,7 +21,7 @@ use Rattle.sheet.specs.Series.Laws.{or-none, or-fault, first-at, first-n
 use Rattle.sheet.specs.Format.{stateStart, transitionStart}
 use Rattle.sheet.specs.Reading.{unless, columnAt, columnFault, lineFault, countsFault, headerFault, markFault, stateFault, transitionIn, orderFault, transitionFault}
 use Rattle.sheet.specs.Reading.{restFault, firstFault}
-use Rattle.sheet.specs.Reading.Laws.{Header, Counts, header-none, header-first, rest-of}
+use Rattle.sheet.specs.Reading.Laws.{Counts, header-none, header-first, rest-of}
 
 -- the numbers of columns that were read
 pub record Held (s : List ℕ) (i c : ℕ) (numbers : List ℕ) : Type 0 where

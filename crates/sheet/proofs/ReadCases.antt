@@ -6,29 +6,26 @@
 -- transition-there, from-small ..        == a transition's numbers are there, and small
 -- transitions-done                       == the transitions that were read
 -- answer-..                              == what read_sheet answers, way by way
-use Prim.Native.Nat.{ℕ, zero, suc, _+_, _*_, _-_, _/_, _%_, _<_, _≤_}
+use Prim.Native.Nat.{ℕ, zero, suc, _+_, _*_, _-_, _<_, _≤_}
 use mathlib.Core.Path.{_≡_, refl, sym, ap, _∙_, subst}
-use mathlib.Core.List.{List, [], _∷_, _++_, append-assoc}
-use mathlib.Core.Bool.{Bool, true, false, cond, not, _&&_, _||_}
+use mathlib.Core.List.{List, [], _∷_, _++_}
+use mathlib.Core.Bool.{Bool, true, false, cond, _&&_}
 use native.Mathlib.Omega.{arith}
-use native.Mathlib.Numerals.{add-one}
 use lib.ListN.{length, drop, set, replicate}
 use lib.Seq.{set-at, append-snoc}
 use lib.Dec.{leb, ltb, eqb}
 use borrow.Author.Tests.{leb-true, ltb-true, le-leb, lt-leb, eq-eqb, ne-eqb}
 use Rattle.columns.specs.Column.{put}
 use Rattle.columns.specs.Column.Laws.{put-zero, put-three}
-use Rattle.graphs.specs.Search.Laws.{and-true}
-use Rattle.fsbm.specs.Machine.{maxStates, named}
+use Rattle.basics.specs.Search.Laws.{and-true}
 use Rattle.fsbm.specs.Answers.{refusal, noMachine}
-use Rattle.fsbm.specs.declared.machine.Machine.{Machine}
 use Rattle.fsbm.specs.declared.answer.Refusal.{Refusal}
 use Rattle.sheet.specs.declared.read.Sheet.{Sheet}
 use Rattle.sheet.specs.Series.{eachBelow}
 use Rattle.sheet.specs.Series.Laws.{each-next, each-length}
 use Rattle.sheet.specs.Format.{stateStart, transitionStart}
 use Rattle.sheet.specs.Reading.{columnAt, firstFault, transitionIn, marksOf, machineOf, numbersIn, transitionsOf, readRefusal, readAnswer, readList}
-use Rattle.sheet.specs.Reading.Laws.{Sound, no-fault, Header, Counts, GoodLine, GoodState, GoodTransition, state-none, transition-none, goodFlags}
+use Rattle.sheet.specs.Reading.Laws.{no-fault, GoodState, GoodTransition, state-none, transition-none}
 
 -- the mark of state q, as a list
 abbrev pub markPiece : List ℕ → ℕ → List ℕ

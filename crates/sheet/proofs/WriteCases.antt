@@ -3,7 +3,7 @@
 -- line-two, line-three == columns and the byte 10, put one by one, are the line
 -- each-none, each-more == a loop that puts the lists of eachBelow
 -- write-ill, write-short, write-long, write-says == the ways through write_sheet, and the number and values of its answer
-use Prim.Native.Nat.{ℕ, zero, suc, _+_, _*_, _-_, _<_, _≤_}
+use Prim.Native.Nat.{ℕ, zero, _+_, _*_, _-_, _<_, _≤_}
 use mathlib.Core.Path.{_≡_, refl, sym, ap, _∙_, subst}
 use mathlib.Core.List.{List, [], _∷_, _++_, append-assoc, append-nil}
 use mathlib.Core.Bool.{Bool, true, false, cond}
@@ -115,10 +115,6 @@ transition-piece list k = refl
 pub transition-wide : (list : List ℕ) (k : ℕ) → length (transitionLine list k) ≡ 16
 unfolding transitionLine
 transition-wide list k = length-three (transitionAt list k .from) (transitionAt list k .letter) (transitionAt list k .to)
-
--- how long what was written is
-pub each-fits : (w start : ℕ) (f : ℕ → List ℕ) → ((k : ℕ) → length (f k) ≡ w) → (l : List ℕ) (k : ℕ) → start + w * k ≤ length l → length (put start l (eachBelow k f)) ≡ length l
-each-fits w start f wide l k h = let n = each-length w f wide k in put-length start l (eachBelow k f) (omega arith)
 
 pub each-done : (start : ℕ) (f : ℕ → List ℕ) (l l1 : List ℕ) (k n : ℕ) → k ≤ n → n ≤ k → l1 ≡ put start l (eachBelow k f) → l1 ≡ put start l (eachBelow n f)
 each-done start f l l1 k n h g e = let q : k ≡ n = omega arith in e ∙ ap (λ (j : ℕ). put start l (eachBelow j f)) q

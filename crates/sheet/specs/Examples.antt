@@ -8,11 +8,11 @@
 use Prim.Native.Nat.{ℕ}
 use mathlib.Core.Path.{_≡_, refl}
 use mathlib.Core.List.{List, [], _∷_, _++_}
-use mathlib.Core.Bool.{Bool, true, false}
-use lib.ListN.{length, replicate}
+use mathlib.Core.Bool.{Bool, true}
+use lib.ListN.{replicate}
 use lib.Dec.{eqb}
 use Rattle.columns.specs.Column.{next, passFrom, found, columnNumber, digitOr, padded, columnOf}
-use Rattle.graphs.specs.Search.{allIn}
+use Rattle.basics.specs.Search.{allIn}
 use Rattle.fsbm.specs.Answers.{refusal}
 use Rattle.fsbm.specs.declared.machine.Machine.{Machine}
 use Rattle.sheet.specs.Series.{orElse, firstOf, eachBelow}

@@ -13,9 +13,9 @@
 -- readList s list         == what the list holds afterwards
 use Prim.Native.Nat.{ℕ, _+_, _*_, _-_, _/_, _%_}
 use mathlib.Core.List.{List, [], _∷_, _++_}
-use mathlib.Core.Bool.{Bool, true, false, cond, not, _&&_, _||_}
+use mathlib.Core.Bool.{Bool, cond, not, _&&_, _||_}
 use lib.ListN.{length, take, drop, getD, replicate}
-use lib.Dec.{leb, ltb, eqb}
+use lib.Dec.{leb, eqb}
 use Rattle.columns.specs.Column.{columnNumber, noNumber}
 use Rattle.fsbm.specs.Machine.{maxStates, maxLetters, maxTransitions, named, precedes}
 use Rattle.fsbm.specs.Answers.{refusal, noMachine}

@@ -7,7 +7,7 @@
 -- writeValues m list len  == the number and values that the rules give
 use Prim.Native.Nat.{ℕ}
 use mathlib.Core.List.{List, _++_}
-use mathlib.Core.Bool.{Bool, true, false, cond}
+use mathlib.Core.Bool.{cond}
 use lib.ListN.{length, drop}
 use lib.Dec.{leb, eqb}
 use Rattle.fsbm.specs.Machine.{wellFormed}

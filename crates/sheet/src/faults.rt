@@ -1,13 +1,11 @@
 // The first fault of a sheet in reading order.
-ghost use Prim.Native.Nat.{ℕ, _+_, _*_, _-_, _<_, _≤_};
+ghost use Prim.Native.Nat.{_+_, _*_, _-_, _<_, _≤_};
 ghost use mathlib.Core.Path.{_≡_};
-ghost use mathlib.Core.Bool.{_||_};
 ghost use lib.ListN.{length};
 ghost use Rattle.fsbm.specs.Machine.{named, precedes};
-ghost use Rattle.sheet.specs.Format.{transitionStart};
 ghost use Rattle.sheet.specs.Series.{firstOf};
-ghost use Rattle.sheet.specs.Reading.{asTransition, orderFault, restFault};
-ghost use Rattle.sheet.specs.Reading.{columnAt, lineFault, countsFault, headerFault, markFault, stateFault, transitionFault, firstFault};
+ghost use Rattle.sheet.specs.Reading.{asTransition, orderFault};
+ghost use Rattle.sheet.specs.Reading.{columnAt, countsFault, headerFault, markFault, stateFault, transitionFault, firstFault};
 
 // The three numbers of a transition's line, as they stand in the sheet.
 pub struct Line {

@@ -1,10 +1,10 @@
 // The reader of sheets.
-ghost use Prim.Native.Nat.{ℕ, _*_, _≤_};
+ghost use Prim.Native.Nat.{_*_, _≤_};
 ghost use mathlib.Core.Path.{_≡_};
 ghost use mathlib.Core.List.{_++_};
 ghost use lib.ListN.{length, drop};
 ghost use Rattle.fsbm.specs.Answers.{refusal, noMachine};
-ghost use Rattle.sheet.specs.Reading.{columnAt, firstFault, marksOf, machineOf, transitionsOf, readAnswer, readList};
+ghost use Rattle.sheet.specs.Reading.{columnAt, firstFault, marksOf, transitionsOf, readAnswer, readList};
 use crate::faults;
 use fsbm::answer::Refusal;
 use fsbm::machine::Machine;

@@ -6,7 +6,7 @@
 -- written-read == a table written as a sheet and read again is the same table: the same record and transitions, the rest of the list as it was
 -- read-written == a sheet read and written is the same bytes, the rest of the slice as it was
 use Prim.Native.Nat.{ℕ, _*_, _≤_}
-use mathlib.Core.Path.{_≡_, refl, sym, ap, _∙_, subst}
+use mathlib.Core.Path.{_≡_, sym, ap, _∙_}
 use mathlib.Core.Logic.{_⊎_, inl, inr}
 use mathlib.Core.List.{List, _++_}
 use mathlib.Core.Bool.{Bool, true, false, cond}
@@ -15,7 +15,7 @@ use lib.ListN.{length, take, drop}
 use lib.Seq.{take-at}
 use lib.Dec.{leb, eqb}
 use borrow.Author.Tests.{eq-eqb}
-use Rattle.graphs.specs.Search.Laws.{true-or-false}
+use Rattle.basics.specs.Search.Laws.{true-or-false}
 use Rattle.fsbm.specs.Machine.{wellFormed}
 use Rattle.fsbm.specs.Answers.{refusal, noMachine}
 use Rattle.fsbm.specs.declared.machine.Machine.{Machine}

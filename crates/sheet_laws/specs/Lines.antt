@@ -7,12 +7,12 @@
 -- three-part       == three elements of a list, as a part of it
 -- each-getD        == the elements of a list, one by one
 -- all-zero         == a list of zeros
-use Prim.Native.Nat.{ℕ, zero, suc, _+_, _*_, _-_, _<_, _≤_, _^_}
+use Prim.Native.Nat.{ℕ, zero, suc, _+_, _*_, _-_, _<_, _≤_}
 use mathlib.Core.Path.{_≡_, refl, sym, ap, _∙_, subst}
-use mathlib.Core.List.{List, [], _∷_, _++_, append-assoc, append-nil}
+use mathlib.Core.List.{List, [], _∷_, _++_, append-assoc}
 use native.Mathlib.Omega.{arith}
 use native.Mathlib.Numerals.{add-one, add-two}
-use lib.ListN.{length, take, drop, getD, replicate, length-append, length-take, length-drop, List·getD-append}
+use lib.ListN.{length, take, drop, getD, replicate, length-append, length-drop}
 use lib.Seq.{take-at, drop-at, drop-drop, take-add, getD-drop, length-take-le, drop-cons, take-suc}
 use Rattle.columns.specs.Column.{columnNumber, columnOf, noNumber}
 use Rattle.columns.specs.Column.Laws.{column-length, number-of-column, column-of-number}

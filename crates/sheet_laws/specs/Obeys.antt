@@ -3,18 +3,17 @@
 -- read-sound == a sheet that is read without refusal has no fault
 -- read-obeys == the machine of the answer and the list afterwards are well formed where the refusal's number is 0
 use Prim.Native.Nat.{ℕ, _*_}
-use mathlib.Core.Path.{_≡_, refl, sym, ap, _∙_, subst₂}
+use mathlib.Core.Path.{_≡_, refl, ap, _∙_}
 use mathlib.Core.Logic.{_⊎_, inl, inr}
 use mathlib.Core.List.{List, _++_}
 use mathlib.Core.Bool.{Bool, true, false, cond}
 use lib.ListN.{length, drop}
-use lib.Dec.{eqb, leb}
-use borrow.Author.Tests.{eq-eqb, eqb-true, eqb-false}
-use Rattle.graphs.specs.Search.Laws.{true-or-false}
-use Rattle.graphs.specs.Search.Loops.{first, second}
+use lib.Dec.{eqb}
+use borrow.Author.Tests.{eq-eqb, eqb-true}
+use Rattle.basics.specs.Search.Laws.{true-or-false}
+use Rattle.basics.specs.Search.Loops.{second}
 use Rattle.fsbm.specs.Machine.{wellFormed}
 use Rattle.fsbm.specs.Answers.{refusal, noMachine}
-use Rattle.fsbm.specs.declared.machine.Machine.{Machine}
 use Rattle.fsbm.specs.declared.answer.Refusal.{Refusal}
 use Rattle.sheet.specs.Reading.{columnAt, firstFault, machineOf, transitionsOf, readRefusal, readAnswer, readList}
 use Rattle.sheet_laws.specs.RoundTrip.{sound-table}

@@ -9,34 +9,32 @@
 -- sheet-length    == the sheet of a table is as long as sheetLength says
 -- read-table, list-table == read_sheet on the sheet of a table: the machine, and its transitions at the front of the list
 -- write-sound, sheet-sound-written == write_sheet on the table of a sheet without fault: the same bytes at the front of the slice
-use Prim.Native.Nat.{ℕ, zero, suc, _+_, _*_, _-_, _/_, _%_, _<_, _≤_}
+use Prim.Native.Nat.{ℕ, zero, suc, _+_, _*_, _-_, _<_, _≤_}
 use mathlib.Core.Path.{_≡_, refl, sym, ap, _∙_, subst}
 use mathlib.Core.Logic.{_⊎_, inl, inr, _↔_}
 use mathlib.Core.List.{List, [], _∷_, _++_, append-assoc, append-nil}
-use mathlib.Core.Bool.{Bool, true, false, cond, not, _&&_, _||_}
+use mathlib.Core.Bool.{Bool, true, cond, _&&_, _||_}
 use native.Mathlib.Omega.{arith}
 use native.Mathlib.Decide.{decLt}
 use lib.ListN.{length, take, drop, getD, replicate, length-append, length-drop, length-replicate, getD-replicate, take-append-drop}
-use lib.Seq.{drop-append-add, take-add, take-all, getD-drop, getD-append-add, drop-drop, length-take-le}
+use lib.Seq.{drop-append-add, take-add, take-all, getD-drop, getD-append-add}
 use lib.Dec.{leb, ltb, eqb}
 use borrow.Author.Tests.{lt-ltb, le-ltb, le-leb, leb-true, ltb-true, eq-eqb, eqb-true}
-use Rattle.graphs.specs.Search.{allBelow}
-use Rattle.graphs.specs.Search.Laws.{and-true, and-both-true, allBelow-true}
+use Rattle.basics.specs.Search.{allBelow}
+use Rattle.basics.specs.Search.Laws.{and-true, and-both-true, allBelow-true}
 use Rattle.columns.specs.Column.{noNumber}
 use Rattle.fsbm.specs.Machine.{markOf, transitionAt, goodMark, named, precedes, goodTransition, wellFormed, maxStates}
 use Rattle.fsbm.specs.Answers.{refusal, noMachine}
 use Rattle.fsbm.specs.declared.machine.Machine.{Machine}
 use Rattle.fsbm.specs.declared.machine.Transition.{Transition}
 use Rattle.fsbm.specs.declared.answer.Refusal.{Refusal}
-use Rattle.sheet.specs.declared.read.Sheet.{Sheet}
-use Rattle.sheet.specs.declared.write.Written.{Written}
 use Rattle.sheet.specs.declared.write.Written.the-variants.{Refused, Bytes}
 use Rattle.sheet.specs.Series.{eachBelow}
 use Rattle.sheet.specs.Series.Laws.{each-length, each-same, each-drop, each-elem, each-parts}
 use Rattle.sheet.specs.Format.{lineOf, stateStart, transitionStart, sheetLength, headerLine, stateLine, transitionLine, sheetOf}
 use Rattle.sheet.specs.Reading.{columnAt, firstFault, stateFault, transitionFault, transitionIn, marksOf, machineOf, numbersIn, transitionsOf}
 use Rattle.sheet.specs.Reading.{readRefusal, readAnswer, readList}
-use Rattle.sheet.specs.Reading.Laws.{GoodLine, Counts, Header, GoodState, GoodTransition, Sound, state-none, transition-none, no-fault, goodFlags}
+use Rattle.sheet.specs.Reading.Laws.{GoodLine, Counts, GoodState, GoodTransition, Sound, state-none, transition-none, no-fault, goodFlags}
 use Rattle.sheet.specs.Writing.{writeRefusal, writeAnswer, writeSheet}
 use Rattle.sheet_laws.specs.Lines.{line-length, line-number, line-good, line-written, three-part, each-getD, all-zero}
 

@@ -16,7 +16,7 @@ use Rattle.fsbm.specs.Machine.{transitionAt, buffering, bothMatching}
 use Rattle.fsbm.specs.declared.machine.Transition.{Transition}
 use Rattle.pieces.specs.Pairs.{weigh}
 use Rattle.pieces.specs.Blocks.{costOf, cell}
-use Rattle.graphs.specs.Search.Laws.{not-both}
+use Rattle.basics.specs.Search.Laws.{not-both}
 use Rattle.fsbm.specs.declared.machine.Machine.{Machine}
 use Rattle.shortest.specs.Find.{Finds, Tried, pairUnit, normalTest, storeTest, matchTest, StoreFits, MatchFits, LetterStep, LetterFits, Backs, by-storing, by-matching, by-both, by-none}
 

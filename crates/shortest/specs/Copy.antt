@@ -18,8 +18,8 @@ use mathlib.Core.Bool.{Bool, true, _&&_}
 use mathlib.Core.List.{List, _++_, List·Memᴰ}
 use lib.ListN.{length, getD, set, drop}
 use lib.Dec.{eqb}
-use Rattle.graphs.specs.Search.{AllBelow}
-use Rattle.graphs.specs.Counting.{Distinct}
+use Rattle.basics.specs.Search.{AllBelow}
+use Rattle.basics.specs.Counting.{Distinct}
 use Rattle.fsbm.specs.Machine.{transitionAt, buffering, matching, wellFormed}
 use Rattle.fsbm.specs.Published.{fsbmOf}
 use Rattle.fsbm.specs.declared.machine.Machine.{Machine}

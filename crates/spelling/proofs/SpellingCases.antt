@@ -4,17 +4,17 @@
 -- letter-none, letter-some == the test of a byte's letter
 -- letters-none, letters-more, letters-done == the loop that writes letters
 -- translate-..             == the answer, way by way, and its number and values
-use Prim.Native.Nat.{ℕ, zero, suc, _+_, _<_, _≤_}
-use mathlib.Core.Path.{_≡_, refl, sym, ap, _∙_, subst}
-use mathlib.Core.List.{List, [], _∷_, _++_, map, append-assoc}
-use mathlib.Core.Bool.{Bool, true, false, cond, not, _&&_}
+use Prim.Native.Nat.{ℕ, suc, _+_, _<_, _≤_}
+use mathlib.Core.Path.{_≡_, refl, sym, ap, _∙_}
+use mathlib.Core.List.{List, [], _∷_, _++_, map}
+use mathlib.Core.Bool.{Bool, true, false, cond, not}
 use native.Mathlib.Omega.{arith}
 use native.Mathlib.Numerals.{add-one}
-use lib.ListN.{length, take, drop, getD, set, length-append, length-map}
+use lib.ListN.{length, take, drop, getD, set, length-map}
 use lib.Seq.{drop-cons, take-suc, take-all, set-at, length-take-le, append-snoc}
 use lib.Dec.{leb, eqb, eqb→eq}
 use borrow.Author.Tests.{le-leb, lt-leb, eq-eqb, ne-eqb}
-use Rattle.graphs.specs.Search.{allIn}
+use Rattle.basics.specs.Search.{allIn}
 use Rattle.fsbm.specs.Answers.{refusal}
 use Rattle.fsbm.specs.declared.answer.Refusal.{Refusal}
 use Rattle.spelling.specs.declared.Translated.{Translated}

@@ -8,10 +8,10 @@
 -- translateValues bytes len == the number and values that the rules give
 use Prim.Native.Nat.{ℕ, _-_}
 use mathlib.Core.List.{List, _++_, map}
-use mathlib.Core.Bool.{Bool, true, false, cond, not, _&&_}
+use mathlib.Core.Bool.{Bool, cond, not, _&&_}
 use lib.ListN.{length, drop}
 use lib.Dec.{leb, eqb}
-use Rattle.graphs.specs.Search.{allIn}
+use Rattle.basics.specs.Search.{allIn}
 use Rattle.fsbm.specs.Answers.{refusal}
 use Rattle.fsbm.specs.declared.answer.Refusal.{Refusal}
 use Rattle.spelling.specs.declared.Translated.{Translated}

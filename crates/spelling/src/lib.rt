@@ -5,7 +5,7 @@ ghost use mathlib.Core.Path.{_≡_};
 ghost use mathlib.Core.List.{_++_, map};
 ghost use Prim.Native.Nat.{_≤_};
 ghost use lib.ListN.{length, drop};
-ghost use Rattle.graphs.specs.Search.{allIn};
+ghost use Rattle.basics.specs.Search.{allIn};
 ghost use Rattle.spelling.specs.Spelling.{letterOf, hasLetter, translateAnswer, translateWord, translatedValues, translateValues};
 use fsbm::answer::Refusal;
 

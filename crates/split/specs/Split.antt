@@ -7,10 +7,9 @@
 use Prim.Native.Nat.{ℕ, suc, _+_, _/_, _%_, _≤_, _<_}
 use mathlib.Core.Path.{_≡_}
 use mathlib.Core.Logic.{_⊎_}
-use mathlib.Core.Bool.{Bool, true, false, cond, not, _&&_}
-use mathlib.Core.List.{List, [], _∷_, _++_}
+use mathlib.Core.Bool.{true, false}
+use mathlib.Core.List.{List, _++_}
 use lib.ListN.{length, getD, set, drop}
-use lib.Dec.{ltb, eqb}
 use Rattle.fsbm.specs.Machine.{transitionAt, wellFormed}
 use Rattle.fsbm.specs.Moves.{beginBuffering}
 use Rattle.fsbm.specs.Published.{Listed}

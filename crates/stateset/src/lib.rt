@@ -1,11 +1,10 @@
 // Sets of states, each a 64-bit number, one bit a state: the state q is a member of the set if the bit of value 2^q is set in it.
-// The states are 0 to 63. Every function takes every input; a number of 64 and above is no state: no member, and neither added nor
-// removed. Each takes a few instructions and no memory. The laws of sets, by membership, stand in specs/Set/Laws.antt.
+// The states are 0 to 63. Every function takes every input; a number of 64 and above is no state: no member, and not added.
+// Each takes a few instructions and no memory. The laws of sets, by membership, stand in specs/Set/Laws.antt.
 ghost use mathlib.Core.Path.{_≡_};
 ghost use mathlib.Core.Logic.{_⊎_};
 ghost use Prim.Native.Nat.{_<_};
 ghost use lib.Bits.{bitAnd, bitOr};
-ghost use lib.Dec.{eqb};
 ghost use Rattle.stateset.specs.Set.{width, In, has, added, removed, without, below, lowestOf, SetIs, Size, Lowest};
 
 // How many states a set can hold.
@@ -47,20 +46,6 @@ pub fn add(set: u64, q: usize) -> u64
     if q < WIDTH { set | (1u64 << q) } else { set }
 }
 
-// The set of the state q alone.
-pub fn single(q: usize) -> u64
-    ensures { λ r. ⌜ SetIs r (added 0 q) (λ p. (p ≡ q) × (p < width)) ⌝ }
-{
-    add(empty(), q)
-}
-
-// The set without the state q.
-pub fn remove(set: u64, q: usize) -> u64
-    ensures { λ r. ⌜ SetIs r (removed set q) (λ p. In set p × (p ≡ q → ⊥)) ⌝ }
-{
-    if q < WIDTH { set & !(1u64 << q) } else { set }
-}
-
 // The set without its lowest member; empty where it is empty. The step of a loop over the members.
 pub fn without_lowest(set: u64) -> u64
     ensures { λ r. ⌜ SetIs r (removed set (lowestOf set)) (λ p. In set p × (p ≡ lowestOf set → ⊥)) ⌝ }
@@ -90,13 +75,6 @@ pub fn difference(a: u64, b: u64) -> u64
     ensures { λ r. ⌜ SetIs r (without a b) (λ p. In a p × (In b p → ⊥)) ⌝ }
 {
     a & !b
-}
-
-// Whether a and b have the same members.
-pub fn same(a: u64, b: u64) -> bool
-    ensures { λ r. ⌜ r ≡ eqb a b ⌝ }
-{
-    a == b
 }
 
 // How many members the set has.

@@ -10,7 +10,7 @@ use mathlib.Core.Path.{_≡_, refl}
 use mathlib.Core.List.{List, [], _∷_, _++_}
 use Rattle.columns.specs.Column.{padded, digitOr, columnOf}
 use Rattle.columns.specs.Column.{next, passFrom, found, columnNumber}
-use Rattle.graphs.specs.Search.{allBelow}
+use Rattle.basics.specs.Search.{allBelow}
 use Rattle.lines.specs.Line.{letterAt, lineRefusal, lineAnswer, answerLine}
 use Rattle.sheet.specs.Examples.{tMachine, tList}
 use Rattle.stream.specs.Listing.{longer, linesOf, wordLine, sheetRefused, refusedSheet}

@@ -11,7 +11,7 @@ use native.Mathlib.Omega.{arith}
 use lib.ListN.{length, List·getD-append}
 use lib.Dec.{ltb, eqb}
 use borrow.Author.Tests.{ltb-true}
-use Rattle.graphs.specs.Bools.{same-truth}
+use Rattle.basics.specs.Bools.{same-truth}
 use Rattle.fsbm.specs.Machine.{transitionAt}
 use Rattle.fsbm.specs.Moves.{takes, changes, goes, wellPlaced, move, acceptingFrom, accepting, startAt}
 use Rattle.fsbm.specs.Accepted.{accepted}

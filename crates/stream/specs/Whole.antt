@@ -17,7 +17,7 @@ use lib.ListN.{length, take, drop}
 use lib.Seq.{take-nil}
 use lib.Dec.{eqb}
 use borrow.Author.Tests.{le-leb, eq-eqb, ne-eqb}
-use Rattle.graphs.specs.Search.Loops.{first, second}
+use Rattle.basics.specs.Search.Loops.{first, second}
 use Rattle.fsbm.specs.Answers.{refusal}
 use Rattle.fsbm.specs.Answers.{noMachine}
 use Rattle.fsbm.specs.declared.machine.Machine.{Machine}

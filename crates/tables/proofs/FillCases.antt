@@ -14,7 +14,7 @@ use native.Mathlib.Decide.{ℕ-discrete, decLt}
 use lib.ListN.{length, getD, set, drop, length-set, replicate, getD-replicate, List·getD-eq-default}
 use lib.Bits.{bitAnd}
 use lib.Seq.{slice, getD-set-same, getD-set-other}
-use Rattle.graphs.specs.Search.Laws.{true-or-false}
+use Rattle.basics.specs.Search.Laws.{true-or-false}
 use Rattle.stateset.specs.Set.{In, below, SetIs}
 use Rattle.stateset.specs.Set.Laws.{empty-in}
 use Rattle.fsbm.specs.declared.machine.Machine.{Machine}

@@ -2,7 +2,7 @@
 // and how many letters are stored.
 ghost use Prim.Native.Nat.{ℕ, _+_, _*_, _≤_, _<_, _/_};
 ghost use mathlib.Core.Path.{_≡_};
-ghost use mathlib.Core.Bool.{Bool, true, false};
+ghost use mathlib.Core.Bool.{true, false};
 ghost use mathlib.Core.List.{List, []};
 ghost use lib.ListN.{length, getD, set};
 ghost use Rattle.targets.specs.Prepared.{Row};

@@ -1,5 +1,5 @@
 // Stretches of a word that stand a second time after themselves.
-ghost use Prim.Native.Nat.{ℕ, _+_, _≤_, _<_};
+ghost use Prim.Native.Nat.{_+_, _≤_, _<_};
 ghost use lib.ListN.{length};
 ghost use Rattle.tables.specs.Halves.{Matched, Shared, SharedFrom};
 

@@ -1,14 +1,14 @@
 // The table of rows of every position: for each the three modes, the buffer empty.
-ghost use Prim.Native.Nat.{ℕ, _+_, _*_, _≤_, _<_, _/_};
+ghost use Prim.Native.Nat.{ℕ, _+_, _*_, _≤_, _<_};
 ghost use mathlib.Core.Path.{_≡_};
-ghost use mathlib.Core.Bool.{Bool, true, false};
-ghost use mathlib.Core.List.{List, []};
-ghost use lib.ListN.{length, getD, set};
+ghost use mathlib.Core.Bool.{true, false};
+ghost use mathlib.Core.List.{List};
+ghost use lib.ListN.{length, getD};
 ghost use lib.Bits.{bitAnd};
 ghost use Rattle.stateset.specs.Set.{In, below};
 ghost use Rattle.layers.specs.Layers.{blankRow};
 ghost use Rattle.tables.specs.Halves.{SharedFrom};
-ghost use Rattle.tables.specs.Tables.{Known, PlaceRows, putPlace, Placed, Sizes, Filling, Filled};
+ghost use Rattle.tables.specs.Tables.{Known, putPlace, Placed, Sizes, Filling, Filled};
 use crate::copy;
 use crate::halves;
 use fsbm::machine::Machine;

@@ -2,7 +2,7 @@ use borrow.Author.Count.{below-more}
 use Prim.Native.Nat.{ℕ, _≤_, _<_, _-_, _*_}
 use native.Mathlib.Omega.{arith}
 use lib.ListN.{length}
-use Rattle.adjacency.specs.Index.{column, Sought}
+use Rattle.adjacency.specs.Index.{column}
 use Rattle.adjacency.proofs.seek.Statement.{statement}
 use Rattle.adjacency.proofs.seek.Tie as tie
 use Rattle.adjacency.proofs.seek.Reads as reads

@@ -1,23 +1,21 @@
--- What the rise of the list gives, and which transitions an index names.
+-- What the rise of the list gives, and how an index is built.
 --
 -- from-rises        == a later transition leaves no lower state
 -- letter-rises      == a later transition of the same state has no lower letter
--- leaves            == the transitions that leave q are those from first[q] up to first[q + 1]
--- group-rises       == within them the letters do not fall
 -- zeros-at          == a list of zeros has a 0 everywhere
 -- Built              == the part of an index that a loop has built; built-start, built-turn, built-index: it begins, one turn, it ends
 use Prim.Native.Nat.{ℕ, zero, suc, _+_, _*_, _-_, _≤_, _<_}
 use mathlib.Core.Path.{_≡_, refl, sym, ap, _∙_, subst}
 use mathlib.Core.Logic.{_↔_, _⊎_, inl, inr}
-use mathlib.Core.Bool.{Bool, true, false, cond, not, false≢true}
+use mathlib.Core.Bool.{true, false}
 use mathlib.Core.List.{List}
 use native.Mathlib.Omega.{arith}
-use native.Mathlib.Decide.{decLe, decLt, ℕ-discrete}
-use lib.ListN.{length, getD, set, length-set, replicate, length-replicate}
+use native.Mathlib.Decide.{decLt, ℕ-discrete}
+use lib.ListN.{length, getD, set, length-set, replicate}
 use lib.Seq.{getD-set-same, getD-set-other}
 use lib.Dec.{eqb}
-use borrow.Author.Tests.{ltb-true, eqb-true, eqb-false, eq-eqb}
-use Rattle.graphs.specs.Search.Laws.{true-or-false}
+use borrow.Author.Tests.{ltb-true, eqb-true}
+use Rattle.basics.specs.Search.Laws.{true-or-false}
 use Rattle.fsbm.specs.Machine.{precedes, transitionAt}
 use Rattle.fsbm.specs.Rules.{Rules}
 use Rattle.fsbm.specs.declared.machine.Machine.{Machine}
@@ -83,39 +81,6 @@ module _ (m : Machine) (list : List ℕ) (s : Rules m list) where
 
   pub letter-rises : (i j : ℕ) → i ≤ j → j < m .transitions → transitionAt list i .from ≡ transitionAt list j .from → transitionAt list i .letter ≤ transitionAt list j .letter
   letter-rises i j le lt same = rises-to i j le lt .1 same
-
-  -- The index
-
-  module _ (first : List ℕ) (x : Index m list first) where
-    pub leaves : (q k : ℕ) → q < m .states → ((getD first q 0 ≤ k) × (k < getD first (q + 1) 0)) ↔ ((k < m .transitions) × (transitionAt list k .from ≡ q))
-    leaves q k lt = (
-      λ (h : (getD first q 0 ≤ k) × (k < getD first (q + 1) 0)).
-          let inside : k < m .transitions = omega (arith, x .within (q + 1) (omega arith)) in
-          let next = x .below (q + 1) k (omega arith) inside .0 (h .1) in
-          (inside, not-below k inside (h .0) next),
-      λ (h : (k < m .transitions) × (transitionAt list k .from ≡ q)).
-          (above k (h .0) (h .1), x .below (q + 1) k (omega arith) (h .0) .1 (omega arith)),
-    )
-      where
-        not-below : (k : ℕ) → k < m .transitions → getD first q 0 ≤ k → transitionAt list k .from < q + 1 → transitionAt list k .from ≡ q
-        not-below k inside ge le = at (decLt (transitionAt list k .from) q)
-          where
-            at : Dec (transitionAt list k .from < q) → transitionAt list k .from ≡ q
-            at (yes l) = let z = x .below q k (omega arith) inside .1 l in absurd (omega arith)
-            at (no n) = omega arith
-
-        above : (k : ℕ) → k < m .transitions → transitionAt list k .from ≡ q → getD first q 0 ≤ k
-        above k inside e = at (decLt k (getD first q 0))
-          where
-            at : Dec (k < getD first q 0) → getD first q 0 ≤ k
-            at (yes l) = let z = x .below q k (omega arith) inside .0 l in absurd (omega arith)
-            at (no n) = omega arith
-
-    pub group-rises : (q i j : ℕ) → q < m .states → getD first q 0 ≤ i → i ≤ j → j < getD first (q + 1) 0 → transitionAt list i .letter ≤ transitionAt list j .letter
-    group-rises q i j lt lo le hi =
-        let (a, f) = leaves q i lt .0 (omega arith, omega arith) in
-        let (b, g) = leaves q j lt .0 (omega arith, hi) in
-        letter-rises i j le b (f ∙ sym g)
 
   -- Building it
 

@@ -16,10 +16,9 @@ use native.Mathlib.Omega.{arith}
 use native.Mathlib.Decide.{ℕ-discrete, decLt}
 use lib.ListN.{length, getD, set, length-set}
 use lib.Seq.{getD-set-same, getD-set-other}
-use lib.Dec.{eqb}
 use borrow.Author.Tests.{eqb-false}
 use Rattle.stateset.specs.Set.{width, In, has, digit, added, SetIs}
-use Rattle.stateset.specs.Set.Laws.{in?, in-lt, has-in, empty-in}
+use Rattle.stateset.specs.Set.Laws.{has-in}
 use Rattle.pieces.specs.Blocks.{cell}
 use Rattle.blocks.specs.Numbers.Laws.{Left, Rest, Taken, left-start, left-more, left-end}
 use Rattle.blocks.specs.Gathered.{Adding, Pick, Reach, Far, From, Near, Stay}

@@ -6,7 +6,7 @@
 -- covers-from              == what is gathered from the readers of a letter is gathered from all members of h
 use Prim.Native.Nat.{ℕ, _+_, _*_, _≤_, _<_}
 use mathlib.Core.Path.{_≡_, refl, sym, ap, _∙_, subst}
-use mathlib.Core.Logic.{_⊎_, inl, inr, _↔_}
+use mathlib.Core.Logic.{_⊎_, inl, inr}
 use mathlib.Core.Bool.{true, false}
 use mathlib.Core.List.{List}
 use native.Mathlib.Omega.{arith}
@@ -16,10 +16,9 @@ use lib.Seq.{getD-set-same, getD-set-other}
 use borrow.Author.Tests.{eqb-false}
 use Rattle.stateset.specs.Set.{width, digit, In, has, added, SetIs}
 use Rattle.stateset.specs.Set.Laws.{has-in, empty-in}
-use Rattle.fsbm.specs.Machine.{wellFormed, transitionAt, matching}
+use Rattle.fsbm.specs.Machine.{transitionAt, matching}
 use Rattle.fsbm.specs.Rules.{rules, matching-below}
 use Rattle.fsbm.specs.declared.machine.Machine.{Machine}
-use Rattle.adjacency.specs.Index.Laws.{zeros-at}
 use Rattle.blocks.specs.Stretches.Laws.{stretch}
 use Rattle.blocks.specs.Works.{Kind, Ready}
 use Rattle.blocks.specs.Gathered.{Adding, From}

@@ -1,7 +1,6 @@
 -- The laws of specs/Settling.antt.
 --
 -- scan-found, scan-none, scan-on == the loop that looks for a marked row: it finds one, finds none, goes on
--- scanned-all         == a search that begins again at the first row
 -- storing-below       == whoever leads out of a block has its storing half in one of the machine's states
 -- take-none           == no row is taken yet
 -- take-row            == a row is taken: its marks are gone, and its moves are done
@@ -13,9 +12,9 @@
 -- begins-start, begins-more, begins-end == the loop over the states where a copy begins
 -- begun-works         == a cleared block with the first numbers of its copies is a block that is computed
 -- block-done          == the whole
-use Prim.Native.Nat.{ℕ, zero, suc, _+_, _*_, _^_, _≤_, _<_}
+use Prim.Native.Nat.{ℕ, zero, _+_, _*_, _≤_, _<_}
 use mathlib.Core.Path.{_≡_, refl, sym, ap, _∙_, subst}
-use mathlib.Core.Logic.{_⊎_, inl, inr, _↔_}
+use mathlib.Core.Logic.{_⊎_, inl, inr}
 use mathlib.Core.Bool.{true}
 use mathlib.Core.List.{List}
 use native.Mathlib.Omega.{arith}
@@ -23,10 +22,9 @@ use native.Mathlib.Decide.{decLt, ℕ-discrete}
 use lib.ListN.{length, getD, set, length-set, replicate, length-replicate, getD-replicate}
 use lib.Seq.{getD-set-same, getD-set-other}
 use lib.Count.{ones}
-use Rattle.graphs.specs.Cost.{Route, stop, via, ToGoal, Settled}
-use Rattle.graphs.specs.Working.{Working}
+use Rattle.graphs.specs.Cost.{Route, stop, via, ToGoal}
 use Rattle.graphs.specs.Working.Laws.{working-start, working-looked, working-end}
-use Rattle.stateset.specs.Set.{width, In, SetIs}
+use Rattle.stateset.specs.Set.{In, SetIs}
 use Rattle.stateset.specs.Set.Laws.{empty-in, ones-zero, ones-of-zero}
 use Rattle.fsbm.specs.Machine.{wellFormed, buffering}
 use Rattle.fsbm.specs.Rules.{Rules, rules, buffering-below}
@@ -34,8 +32,8 @@ use Rattle.fsbm.specs.Published.{Listed, fsbmOf}
 use Rattle.fsbm.specs.declared.machine.Machine.{Machine}
 use Rattle.pieces.specs.Pairs.{Pair, both, PairMove, stores-none, matches-none, letter}
 use Rattle.pieces.specs.Blocks.{nothing, cell, costOf, Node, outside, inside, BlockEdge, begins, goes-on, blockOf}
-use Rattle.pieces.specs.Blocks.Laws.{cell-inside, cell-past, cost-inside, inside-not}
-use Rattle.blocks.specs.Numbers.{Marked, Sized, Steps, Lowers, One, total, marked}
+use Rattle.pieces.specs.Blocks.Laws.{cell-inside, cell-past, inside-not}
+use Rattle.blocks.specs.Numbers.{Marked, Steps, Lowers, One, total, marked}
 use Rattle.blocks.specs.Numbers.Laws.{Left, Rest, Taken, left-start, left-more, left-end, lowers-none, lowers-then, lowers-as, marked-set}
 use Rattle.blocks.specs.Works.{Kind, Works, Waiting, Busy, RowDone}
 use Rattle.blocks.specs.Works.Laws.{block-inside, block-outside, Edges, works-lowers, still-lowers}
@@ -56,9 +54,6 @@ module _ (d : List ℕ) (k n r : ℕ) where
       on : Dec (q < r) → getD d q 0 ≡ 0
       on (yes l) = f q le l
       on (no g) = ap (λ (i : ℕ). getD d i 0) (let z : q ≡ r = omega arith in z) ∙ e
-
-pub scanned-all : {d : List ℕ} {k n r : ℕ} → Scanned d k n r → r < n → Scanned d 0 n r
-scanned-all f lt = record { found = f .found; empty = λ le. absurd (omega arith) }
 
 -- The states of the machine
 

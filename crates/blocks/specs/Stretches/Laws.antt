@@ -8,9 +8,9 @@
 -- bounded, bounded-next == the numbers of an index are numbers of transitions
 -- stretch           == the transitions from index[q × stride + a] up to index[q × stride + a + 1] are those that leave q by a
 -- row-stretch       == those from index[q × stride] up to index[(q + 1) × stride] are all that leave q
-use Prim.Native.Nat.{ℕ, zero, suc, _+_, _*_, _-_, _≤_, _<_}
-use mathlib.Core.Path.{_≡_, refl, sym, ap, _∙_, subst}
-use mathlib.Core.Logic.{_↔_, _⊎_, inl, inr}
+use Prim.Native.Nat.{ℕ, suc, _+_, _*_, _-_, _≤_, _<_}
+use mathlib.Core.Path.{_≡_, ap, _∙_}
+use mathlib.Core.Logic.{_↔_}
 use mathlib.Core.List.{List}
 use native.Mathlib.Omega.{arith}
 use native.Mathlib.Decide.{decLt, ℕ-discrete}

@@ -14,14 +14,13 @@
 -- so-done             == the row after its last transition
 use Prim.Native.Nat.{ℕ, zero, suc, _+_, _*_, _/_, _%_, _≤_, _<_}
 use mathlib.Core.Path.{_≡_, refl, sym, ap, _∙_, subst}
-use mathlib.Core.Logic.{_⊎_, inl, inr, _↔_}
-use mathlib.Core.Bool.{Bool, true, false}
+use mathlib.Core.Logic.{_⊎_, inl, inr}
+use mathlib.Core.Bool.{true, false}
 use mathlib.Core.List.{List}
 use native.Mathlib.Omega.{arith}
 use native.Mathlib.Decide.{decLt, ℕ-discrete}
 use lib.ListN.{length, getD}
 use borrow.Author.Tests.{eqb-false, eqb-true, eq-eqb}
-use Rattle.graphs.specs.Working.{Working}
 use Rattle.graphs.specs.Working.Laws.{working-lowers, working-looked}
 use Rattle.stateset.specs.Set.{width, digit, In, has, SetIs}
 use Rattle.stateset.specs.Set.Laws.{in?, has-in, empty-in}
@@ -35,7 +34,7 @@ use Rattle.pieces.specs.Pairs.{unit, halves, Pair, both, PairMove, stores-none,
 use Rattle.pieces.specs.Blocks.{cell, costOf, Node, outside, inside, BlockEdge, begins, goes-on, blockOf}
 use Rattle.blocks.specs.Numbers.{Marked, Steps, Lowers, Put, Spread}
 use Rattle.blocks.specs.Numbers.Laws.{steps-none, steps-then}
-use Rattle.blocks.specs.Gathered.{Adding, Reach, Far, From, Stay}
+use Rattle.blocks.specs.Gathered.{Adding, From, Stay}
 use Rattle.blocks.specs.Gathered.Laws.{adding-as}
 use Rattle.blocks.specs.Stretches.{Stretches}
 use Rattle.blocks.specs.Stretches.Laws.{key-fits, bounded, bounded-next, stretch, row-stretch}
@@ -103,9 +102,6 @@ busy-grows {d = d} {d′ = d′} s set f (inside u) still = (λ z. still (on z),
     on : Marked d (u .storing) (u .matching) ⊎ ((u .storing ≡ s) × In set (u .matching)) → Marked d′ (u .storing) (u .matching) ⊎ ((u .storing ≡ s) × In set (u .matching))
     on (inl k) = inl (f .stays (u .storing) (u .matching) k)
     on (inr k) = inr k
-
-pub pair-is : (u : Pair) (s : ℕ) → u .storing ≡ s → u ≡ both s (u .matching)
-pair-is u s e = ap (λ (z : ℕ). both z (u .matching)) e
 
 module _ {m : Machine} {list index : List ℕ} {h : ℕ} (r : Ready m list index h) where
   sorts : Rules m list

@@ -1,5 +1,5 @@
 use borrow.Author.Tests.{lt-leb, le-leb}
-use Rattle.graphs.specs.Search.Loops.{pass, stop}
+use Rattle.basics.specs.Search.Loops.{pass, stop}
 use mathlib.Core.Path.{refl}
 use Rattle.columns.proofs.is_digit.Statement.{statement}
 use Rattle.columns.proofs.is_digit.Tie as tie

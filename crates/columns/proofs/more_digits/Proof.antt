@@ -1,11 +1,11 @@
 use Rattle.columns.proofs.Passes.{first-fits, digits-end}
 use Prim.Native.Nat.{_≤_, _<_, _+_, _-_, _*_, _^_}
-use mathlib.Core.Path.{_≡_, refl, sym, ap, _∙_}
+use mathlib.Core.Path.{_≡_, refl}
 use native.Mathlib.Omega.{arith}
-use lib.ListN.{length, take, drop, getD}
+use lib.ListN.{take, drop, getD}
 use borrow.Author.Needs.{needs}
-use Rattle.columns.specs.Column.{digits, passFrom, found, noNumber}
-use Rattle.columns.proofs.Passes.{goes-on, breaks, pass-end, digits-low, digits-high, digits-more, power-fits, power-more}
+use Rattle.columns.specs.Column.{digits, passFrom, found}
+use Rattle.columns.proofs.Passes.{goes-on, breaks, digits-low, digits-high, digits-more, power-fits, power-more}
 use Rattle.columns.proofs.more_digits.Statement.{statement}
 use Rattle.columns.proofs.more_digits.Tie as tie
 use Rattle.columns.proofs.more_digits.Reads as reads

@@ -1,9 +1,9 @@
-use Prim.Native.Nat.{_≤_, _<_, _+_, _-_}
-use mathlib.Core.Path.{_≡_, refl, sym, ap, _∙_}
+use Prim.Native.Nat.{_≤_, _+_, _-_}
+use mathlib.Core.Path.{_≡_, _∙_}
 use native.Mathlib.Omega.{arith}
-use lib.ListN.{length, take, drop, getD}
+use lib.ListN.{take, drop, getD}
 use borrow.Author.Needs.{needs}
-use Rattle.columns.specs.Column.{blank, nought, digits, passFrom, found, columnNumber, noNumber}
+use Rattle.columns.specs.Column.{blank, nought, digits, passFrom, found, columnNumber}
 use Rattle.columns.proofs.Passes.{goes-on, breaks, nought-last, nought-more, blank-end, blank-low, blank-high, blank-nought, blank-first, blank-space, column-start}
 use Rattle.columns.proofs.number.Statement.{statement}
 use Rattle.columns.proofs.number.Tie as tie

@@ -1,4 +1,4 @@
-use Rattle.columns.proofs.Short.{digit-range, skip-space, one-bad, one-good}
+use Rattle.columns.proofs.Short.{digit-range, one-bad, one-good}
 use borrow.Author.Tests.{not-true, not-false}
 use native.Mathlib.Omega.{arith}
 use borrow.Author.Needs.{needs}

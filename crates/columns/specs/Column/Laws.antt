@@ -3,7 +3,6 @@
 -- column-length    == a column of width w has w bytes
 -- number-of-column == a number that fits the width, written and read, is itself
 -- column-of-number == a column that holds a number is the column of that number
--- number-fits      == the number that w bytes hold has at most w digits
 -- put-length       == what is put into a list does not change its length
 -- put-put          == two parts put one after the other
 -- put-zero         == a part put at the front
@@ -13,15 +12,15 @@ use Prim.Native.Nat.{ℕ, zero, suc, _+_, _*_, _-_, _/_, _%_, _<_, _≤_, _^_}
 use mathlib.Core.Path.{_≡_, refl, sym, ap, _∙_, subst}
 use mathlib.Core.Logic.{_⊎_, inl, inr}
 use mathlib.Core.List.{List, [], _∷_, _++_, append-assoc, append-nil}
-use mathlib.Core.Bool.{Bool, true, false, cond, _&&_}
+use mathlib.Core.Bool.{Bool, true, false, cond}
 use native.Mathlib.Omega.{arith}
 use native.Mathlib.Nat.{pow-suc, one-le-pow}
 use native.Mathlib.Numerals.{add-one, add-two}
 use lib.ListN.{length, take, drop, set, length-append, length-drop}
 use lib.Seq.{length-take-le, take-at, drop-at, drop-drop, sets-eq}
 use lib.Dec.{leb, eqb}
-use borrow.Author.Tests.{le-leb, lt-leb, eq-eqb, ne-eqb, eqb-true, eqb-false, leb-true, leb-false}
-use Rattle.graphs.specs.Search.Laws.{true-or-false, and-true, and-both-true}
+use borrow.Author.Tests.{le-leb, ne-eqb, eqb-true, eqb-false, leb-true}
+use Rattle.basics.specs.Search.Laws.{true-or-false, and-true, and-both-true}
 use Rattle.columns.specs.Column.{noNumber, isDigit, Pass, blank, nought, digits, broken, next, passFrom, found, columnNumber, digitOr, padded, columnOf, put}
 
 pub passFrom-append : (p : Pass) (l r : List ℕ) → passFrom p (l ++ r) ≡ passFrom (passFrom p l) r
@@ -80,11 +79,6 @@ next-digit v d h =
 heldOf : ℕ → Pass
 heldOf zero = blank
 heldOf (suc v) = digits (suc v)
-
-held-more : (v : ℕ) → 0 < v → heldOf v ≡ digits v
-unfolding heldOf
-held-more zero h = absurd (omega arith)
-held-more (suc v) h = refl
 
 next-held : (v : ℕ) → next (heldOf (v / 10)) (digitOr v) ≡ heldOf v
 unfolding heldOf
@@ -221,10 +215,6 @@ column-found broken k l h n = absurd (n refl)
 pub column-of-number : (l : List ℕ) → (columnNumber l ≡ noNumber → ⊥) → columnOf (length l) (columnNumber l) ≡ l
 unfolding columnNumber
 column-of-number l n = column-found (passFrom blank l) (length l) l (held l) n .0
-
-pub number-fits : (l : List ℕ) → (columnNumber l ≡ noNumber → ⊥) → columnNumber l < 10 ^ length l
-unfolding columnNumber
-number-fits l n = column-found (passFrom blank l) (length l) l (held l) n .1
 
 -- Parts put into a list
 

@@ -19,9 +19,9 @@ use native.Mathlib.Decide.{decLe}
 use lib.ListN.{length}
 use lib.Dec.{eqb}
 use borrow.Author.Tests.{eqb-true, eq-eqb, ne-eqb, le-leb, lt-leb}
-use Rattle.graphs.specs.Search.{AllBelow, none, more}
-use Rattle.graphs.specs.Search.Laws.{and-true, and-both-true, true-or-false, not-both, existsList-true}
-use Rattle.graphs.specs.Search.Loops.{first, second}
+use Rattle.basics.specs.Search.{AllBelow, none, more}
+use Rattle.basics.specs.Search.Laws.{and-true, and-both-true, true-or-false, not-both, existsList-true}
+use Rattle.basics.specs.Search.Loops.{first, second}
 use Rattle.graphs.specs.Least.Laws.{least-bound, least-has, least-first}
 use Rattle.fsbm.specs.Machine.{maxLetters, wellFormed}
 use Rattle.fsbm.specs.Moves.{accepting}

@@ -14,7 +14,7 @@ use lib.ListN.{length, take, drop}
 use lib.Seq.{length-take-le}
 use lib.Dec.{leb}
 use borrow.Author.Tests.{leb-true, leb-false, le-leb, lt-leb, eq-eqb}
-use Rattle.graphs.specs.Search.Laws.{not-both, true-or-false}
+use Rattle.basics.specs.Search.Laws.{not-both, true-or-false}
 use Rattle.fsbm.specs.Accepted.{runBound}
 use Rattle.fsbm.specs.declared.machine.Machine.{Machine}
 use Rattle.language.specs.Agreement.{accepting-written}

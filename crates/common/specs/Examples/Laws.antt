@@ -7,16 +7,16 @@ use Prim.Native.Nat.{ℕ, zero, suc, _+_, _≤_, _<_}
 use mathlib.Core.Path.{_≡_, refl, sym, ap, _∙_, subst, subst₂}
 use mathlib.Core.Logic.{_⊎_, inl, inr}
 use mathlib.Core.List.{List, [], _∷_, _++_, map, append-nil, List·Memᴰ, List·Memᴰ·cases-cons, Memᴰ·of-map}
-use mathlib.Core.Bool.{Bool, true, false, cond, _&&_}
+use mathlib.Core.Bool.{Bool, true, false, _&&_}
 use native.Mathlib.Omega.{arith}
 use native.Mathlib.Decide.{decLe}
 use lib.ListN.{length, getD}
 use lib.Seq.{ext-getD}
 use lib.Dec.{ltb, eqb}
 use borrow.Author.Tests.{ltb-true, eqb-true, not-true}
-use Rattle.graphs.specs.Search.{anyBelow, allBelow, AllBelow}
-use Rattle.graphs.specs.Search.Laws.{and-true, and-both-true, or-false, not-both, anyBelow-false, allBelow-true, AllBelow-head, AllBelow-tail}
-use Rattle.graphs.specs.Search.Loops.{first, second}
+use Rattle.basics.specs.Search.{anyBelow, allBelow, AllBelow}
+use Rattle.basics.specs.Search.Laws.{and-true, and-both-true, or-false, not-both, anyBelow-false, allBelow-true, AllBelow-head, AllBelow-tail}
+use Rattle.basics.specs.Search.Loops.{first, second}
 use Rattle.fsbm.specs.Moves.{accepting}
 use Rattle.fsbm.specs.Accepted.{runBound}
 use Rattle.fsbm.specs.declared.machine.Machine.{Machine}

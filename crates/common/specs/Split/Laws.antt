@@ -12,7 +12,7 @@ use native.Mathlib.Omega.{arith}
 use lib.ListN.{length, length-append}
 use lib.Dec.{ltb, eqb, eqb·suc-zero}
 use borrow.Author.Tests.{lt-ltb}
-use Rattle.graphs.specs.Search.Laws.{and-true, not-both}
+use Rattle.basics.specs.Search.Laws.{and-true, not-both}
 use Rattle.fsbm.specs.Machine.{transitionAt, initial, final}
 use Rattle.fsbm.specs.Moves.{accepting, beginBuffering, beginEmptying, backToNormal}
 use Rattle.fsbm.specs.Published.{fsbmOf, symbol}

@@ -1,8 +1,8 @@
 use lib.Seq.{lt-length-set}
-use Prim.Native.Nat.{ℕ, _≤_, _<_, _-_, _+_}
-use mathlib.Core.Path.{_≡_, refl, sym, ap, _∙_}
+use Prim.Native.Nat.{_-_}
+use mathlib.Core.Path.{refl}
 use native.Mathlib.Omega.{arith}
-use lib.ListN.{length, drop}
+use lib.ListN.{length}
 use borrow.Author.Needs.{needs}
 use Rattle.copies.proofs.CopyCases.{Writing, writing-start, writing-copy, writing-other, writing-end, slice-length, copy-room, some-entry}
 use Rattle.copies.proofs.write_copies.Statement.{statement}

@@ -1,7 +1,7 @@
 use native.Mathlib.Omega.{arith}
 use mathlib.Core.Path.{refl}
 use borrow.Author.Needs.{needs}
-use Rattle.graphs.specs.Search.Laws.{not-both}
+use Rattle.basics.specs.Search.Laws.{not-both}
 use Rattle.fsbm.specs.Rules.{rules}
 use Rattle.emptiness.specs.Reached.Laws.{Begun, begun-more, same-empty}
 use Rattle.emptiness.proofs.is_barren.Statement.{statement}

@@ -1,6 +1,6 @@
 use native.Mathlib.Omega.{arith}
 use mathlib.Core.Path.{refl}
-use Rattle.graphs.specs.Search.Laws.{not-both}
+use Rattle.basics.specs.Search.Laws.{not-both}
 use borrow.Author.Tests.{eqb-true}
 use Rattle.emptiness.proofs.same.Statement.{statement}
 use Rattle.emptiness.proofs.same.Tie as tie

@@ -1,5 +1,5 @@
-use mathlib.Core.Path.{_≡_, sym, _∙_}
-use borrow.Author.Tests.{not-true, not-false}
+use mathlib.Core.Path.{sym, _∙_}
+use borrow.Author.Tests.{not-true}
 use Rattle.emptiness.specs.Reached.Laws.{next-barred, next-other, next-is}
 use borrow.Author.Needs.{needs}
 use Rattle.emptiness.proofs.with_next.Statement.{statement}

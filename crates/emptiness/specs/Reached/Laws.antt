@@ -16,7 +16,7 @@ use native.Mathlib.Omega.{arith}
 use native.Mathlib.Decide.{decLt}
 use lib.Bits.{bitAnd, bitOr}
 use borrow.Author.Tests.{eqb-true, eqb-false, eq-eqb}
-use Rattle.graphs.specs.Search.Laws.{not-both}
+use Rattle.basics.specs.Search.Laws.{not-both}
 use Rattle.stateset.specs.Set.{width, digit, In, has, added, SetIs}
 use Rattle.stateset.specs.Set.Laws.{has-in, empty-in}
 use Rattle.fsbm.specs.Machine.{wellFormed, markOf, buffering, matching, final, initial, transitionAt}

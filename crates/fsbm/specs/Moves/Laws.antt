@@ -15,8 +15,8 @@ use native.Mathlib.Numerals.{add-one}
 use lib.ListN.{length, getD}
 use lib.Dec.{ltb, eqb, eqb·suc-zero}
 use borrow.Author.Tests.{ltb-true, eqb-true, eq-eqb}
-use Rattle.graphs.specs.Search.Laws.{and-true}
-use Rattle.graphs.specs.Bools.{cond-elim}
+use Rattle.basics.specs.Search.Laws.{and-true}
+use Rattle.basics.specs.Bools.{cond-elim}
 use Rattle.fsbm.specs.Machine.{wellFormed, transitionAt, buffering, matching, bothMatching}
 use Rattle.fsbm.specs.Moves.{wellPlaced, readsLetter, advanced, goes, takes, changes, move, startAt, beginBuffering, beginEmptying, backToNormal}
 use Rattle.fsbm.specs.Rules.{Rules, rules, Placed, placed, unplaced}

@@ -2,10 +2,9 @@
 --
 -- toGoal-edge            == an edge, then a route to a goal
 -- realised-start         == 0 at goals and top elsewhere is Realised
--- realised-lower         == and so it stays where D u is lowered to w + D v along an edge
 -- lower-bound            == D u is at most the weight of each route to a goal, of those below top
 -- least                  == D u below top is the least weight of a route to a goal
--- none, no-route         == D u of top or above: no route below top; no route at all, where a route means one below top
+-- none                   == D u of top or above: no route below top
 -- short-route            == with keys below a bound and weights of at most b, a route means one of fewer edges than the bound, so no dearer than that times b
 -- descend                == from a node with D u neither 0 nor none some edge has D u = w + D v: the first edge of a least route
 -- settled-under          == numbers that are settled are settled below a smaller top
@@ -37,14 +36,6 @@ module _ {Node : Type 0} (Edge : Node → Node → ℕ → Type 0) (Goal : Node 
       at (inl g) = rw (g .1) (toGoal-here (g .0))
       at (inr z) = absurd (omega arith)
 
-  pub realised-lower : (lowered : Node → ℕ) (u v : Node) (w : ℕ) → Realised Edge Goal top D → Edge u v w → D v < top
-      → ((x : Node) → (lowered x ≡ D x) ⊎ ((x ≡ u) × (lowered x ≡ w + D v))) → Realised Edge Goal top lowered
-  realised-lower lowered u v w r e l h x k = at (h x)
-    where
-      at : (lowered x ≡ D x) ⊎ ((x ≡ u) × (lowered x ≡ w + D v)) → ToGoal Edge Goal x (lowered x)
-      at (inl d) = rw d (r x (omega arith))
-      at (inr d) = rw (d .1, d .0) (toGoal-edge w e (r v l))
-
 -- Settled: the numbers are the least weights
 
 module _ {Node : Type 0} {Edge : Node → Node → ℕ → Type 0} {Goal : Node → Type 0} {top : ℕ} {D : Node → ℕ} (s : Settled Edge Goal top D) where
@@ -71,12 +62,6 @@ module _ {Node : Type 0} {Edge : Node → Node → ℕ → Type 0} {Goal : Node 
       at : Dec (n < top) → top ≤ n
       at (yes k) = let d = lower-bound t k in absurd (omega arith)
       at (no k) = omega arith
-
-  pub no-route : (u : Node) → ((n : ℕ) → ToGoal Edge Goal u n → (m : ℕ) × (m < top) × ToGoal Edge Goal u m) → top ≤ D u → (n : ℕ) → ToGoal Edge Goal u n → ⊥
-  no-route u cheap l n t =
-      let (m, k, r) = cheap n t in
-      let d = none u l m r in
-      omega arith
 
   first-edge : {u g : Node} {n : ℕ} → Goal g → Route Node Edge u g n → D u ≡ n → 0 < D u → D u < top → (v : Node) × (w : ℕ) × Edge u v w × (D u ≡ w + D v)
   first-edge i stop e p l = absurd (omega arith)

@@ -8,7 +8,7 @@ use mathlib.Core.Logic.{_⊎_, inl, inr}
 use mathlib.Core.Bool.{Bool, true, false, cond}
 use Prim.Native.Nat.{ℕ, zero, suc, _≤_, _<_}
 use native.Mathlib.Omega.{arith}
-use Rattle.graphs.specs.Search.Laws.{true-or-false, not-both}
+use Rattle.basics.specs.Search.Laws.{true-or-false, not-both}
 use Rattle.graphs.specs.Least.{leastBelow}
 
 pub least-bound : (n : ℕ) (p : ℕ → Bool) → leastBelow n p ≤ n

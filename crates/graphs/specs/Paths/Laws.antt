@@ -1,7 +1,6 @@
 -- The laws of specs/Paths.antt. Assumes nothing.
 --
 -- append p q             == the path p, then the path q
--- snoc p e               == the path p, then the edge e
 -- closed P keep p        == a property that edges keep, and that holds where a path starts, holds where it ends
 -- Simple Edge key u v    == a path from u to v whose nodes have pairwise distinct keys
 -- keys-length            == a path of n edges has n + 1 keys
@@ -15,18 +14,14 @@ use Prim.Native.Nat.{ℕ, zero, suc, _+_, _<_}
 use native.Mathlib.Omega.{arith}
 use native.Mathlib.Nat.{zero-add, suc-add}
 use lib.ListN.{length}
-use Rattle.graphs.specs.Search.{AllBelow, none, more}
-use Rattle.graphs.specs.Counting.{Distinct, empty, new, Distinct-tail, mem?, counting}
+use Rattle.basics.specs.Search.{AllBelow, none, more}
+use Rattle.basics.specs.Counting.{Distinct, empty, new, Distinct-tail, mem?, counting}
 use Rattle.graphs.specs.Paths.{Path, here, step, keys}
 
 module _ {Node : Type 0} {Edge : Node → Node → Type 0} where
   pub append : {u v w : Node} {n m : ℕ} → Path Node Edge u v n → Path Node Edge v w m → Path Node Edge u w (n + m)
   append here q = rw zero-add q
   append (step e p) q = rw suc-add (step e (append p q))
-
-  pub snoc : {u v w : Node} {n : ℕ} → Path Node Edge u v n → Edge v w → Path Node Edge u w (suc n)
-  snoc here e = step e here
-  snoc (step d p) e = step d (snoc p e)
 
   pub closed : (P : Node → Type 0) → ((u v : Node) → Edge u v → P u → P v) → {u v : Node} {n : ℕ} → Path Node Edge u v n → P u → P v
   closed P keep here h = h

@@ -4,19 +4,17 @@
 -- reach-sound            == each element of `reach succ eqN i l` is Reached from l
 -- memb-true              == memb is membership, where eqN is equality
 -- reach-complete         == what a path of at most i edges reaches from l stands in `reach succ eqN i l`
--- reach-all              == and with i at least the number of keys, what any path reaches
 -- isClosed-all           == a closed list has all that any path reaches from its elements
--- unreachable            == no path leads from an element of a closed list to a node outside it, all by computed tests
 use mathlib.Core.Path.{_≡_, refl, subst}
 use mathlib.Core.Logic.{_↔_, _⊎_, inl, inr}
 use mathlib.Core.Bool.{Bool, true, false, cond, _||_, false≢true}
 use mathlib.Core.List.{List, [], _∷_, _++_, List·Memᴰ, List·Memᴰ·head, List·Memᴰ·tail, List·Memᴰ·not-nil, List·Memᴰ·cases-cons, List·Memᴰ·append-cases, Memᴰ·append-left, Memᴰ·append-right, Memᴰ·cast}
-use Prim.Native.Nat.{ℕ, zero, suc, _<_, _≤_}
+use Prim.Native.Nat.{ℕ, zero, suc, _≤_}
 use native.Mathlib.Omega.{arith}
-use Rattle.graphs.specs.Search.{anyIn, allIn}
-use Rattle.graphs.specs.Search.Laws.{anyIn-true, allIn-true, or-true, true-or-false, not-both}
+use Rattle.basics.specs.Search.{anyIn, allIn}
+use Rattle.basics.specs.Search.Laws.{anyIn-true, allIn-true, or-true, true-or-false}
 use Rattle.graphs.specs.Paths.{Path, here, step}
-use Rattle.graphs.specs.Paths.Laws.{closed, short-path}
+use Rattle.graphs.specs.Paths.Laws.{closed}
 use Rattle.graphs.specs.Reach.{Edges, succs, memb, fresh, isEmpty, reachFrom, reach, isClosed}
 
 -- v is the end of a path from an element of l
@@ -221,14 +219,3 @@ module _ {Node : Type 0} (succ : Node → List Node) (eqN : Node → Node → Bo
   isClosed-all l t m p =
       closed (λ x. List·Memᴰ x l)
       (λ x y d h. memb-true eqN law .0 (allIn-true (λ w. memb eqN w l) (succ x) .0 (allIn-true (λ z. allIn (λ w. memb eqN w l) (succ z)) l .0 t x h) y d)) p m
-
-  pub unreachable : {u v : Node} {n : ℕ} (l : List Node) → isClosed succ eqN l ≡ true → memb eqN u l ≡ true → memb eqN v l ≡ false → Path Node (Edges succ) u v n → ⊥
-  unreachable l t m f p = not-both (memb-true eqN law .1 (isClosed-all l t (memb-true eqN law .0 m) p)) f
-
-  -- all keys below the bound, and on a path equal keys mean equal nodes
-  pub reach-all : (key : Node → ℕ) → ((u v : Node) (n : ℕ) → Path Node (Edges succ) u v n → key u ≡ key v → u ≡ v)
-      → {u v : Node} {n : ℕ} (bound : ℕ) (l : List Node) → ((w : Node) (k : ℕ) → Path Node (Edges succ) u w k → key w < bound)
-      → List·Memᴰ u l → Path Node (Edges succ) u v n → List·Memᴰ v (reach succ eqN bound l)
-  reach-all key same bound l all m p =
-      let (k, h, q) = short-path key same bound all p in
-      reach-complete bound l (omega arith) m q

@@ -2,15 +2,12 @@
 --
 -- working-start        == 0 at the goals, which all wait, and top elsewhere
 -- working-lowers       == many numbers lowered at once, each along an edge from the old numbers; what is lowered waits
--- working-lower        == one number lowered along an edge
 -- working-looked       == a node that newly does not wait was looked at: no edge into it would lower a number
--- working-done         == one node was looked at
 -- working-end          == where no node waits the numbers are settled
-use mathlib.Core.Path.{_≡_, ap}
+use mathlib.Core.Path.{_≡_}
 use mathlib.Core.Logic.{_⊎_, inl, inr}
 use Prim.Native.Nat.{ℕ, _+_, _≤_, _<_}
 use native.Mathlib.Omega.{arith}
-use native.Mathlib.Decide.{decLe}
 use Rattle.graphs.specs.Cost.{ToGoal, Settled}
 use Rattle.graphs.specs.Cost.Laws.{toGoal-edge, realised-start}
 use Rattle.graphs.specs.Working.{Working}
@@ -50,36 +47,12 @@ module _ {Node : Type 0} {Edge : Node → Node → ℕ → Type 0} {Goal : Node 
         at x l (inl e) = rw e (so-far .realised x (omega arith))
         at x l (inr (v, w, e, is)) = rw is (toGoal-edge w e (so-far .realised v (omega arith)))
 
-    pub working-lower : (D′ : Node → ℕ) (u v : Node) (w : ℕ) → Edge u v w → w + D v ≤ D u → ((x : Node) → (D′ x ≡ D x) ⊎ ((x ≡ u) × (D′ x ≡ w + D v)))
-        → ((x : Node) → (Waits′ x → ⊥) → (Waits x → ⊥) × (D′ x ≡ D x)) → Working Edge Goal top Waits′ D′
-    working-lower D′ u v w e less only waits = working-lowers D′ (λ x. lower x (only x)) (λ x. origin x (only x)) waits
-      where
-        lower : (x : Node) → (D′ x ≡ D x) ⊎ ((x ≡ u) × (D′ x ≡ w + D v)) → D′ x ≤ D x
-        lower x (inl same) = omega arith
-        lower x (inr (is, low)) = let d : D x ≡ D u = ap D is in omega arith
-
-        origin : (x : Node) → (D′ x ≡ D x) ⊎ ((x ≡ u) × (D′ x ≡ w + D v)) → (D′ x ≡ D x) ⊎ ((v : Node) × (w : ℕ) × Edge x v w × (D′ x ≡ w + D v))
-        origin x (inl same) = inl same
-        origin x (inr (is, low)) = inr (v, w, rw is e, low)
-
     pub working-looked : ((v : Node) → (Waits′ v → ⊥) → (Waits v → ⊥) ⊎ ((u : Node) (w : ℕ) → Edge u v w → w + D v < top → D u ≤ w + D v)) → Working Edge Goal top Waits′ D
     working-looked looked = record { atGoal = so-far .atGoal; onEdge = λ u v w e quiet l. at u v w e l (looked v quiet); realised = so-far .realised }
       where
         at : (u v : Node) (w : ℕ) → Edge u v w → w + D v < top → (Waits v → ⊥) ⊎ ((u : Node) (w : ℕ) → Edge u v w → w + D v < top → D u ≤ w + D v) → D u ≤ w + D v
         at u v w e l (inl quiet) = so-far .onEdge u v w e quiet l
         at u v w e l (inr all) = all u w e l
-
-    pub working-done : (v : Node) → ((u : Node) (w : ℕ) → Edge u v w → w + D v < top → D u ≤ w + D v) → ((x : Node) → Waits x → (x ≡ v → ⊥) → Waits′ x)
-        → Working Edge Goal top Waits′ D
-    working-done v all others =
-        record { atGoal = so-far .atGoal; onEdge = λ u x w e quiet l. at u x w e quiet l (decLe (D u) (w + D x)); realised = so-far .realised }
-      where
-        at : (u x : Node) (w : ℕ) → Edge u x w → (Waits′ x → ⊥) → w + D x < top → Dec (D u ≤ w + D x) → D u ≤ w + D x
-        at u x w e quiet l (yes k) = k
-        at u x w e quiet l (no f) = so-far .onEdge u x w e (λ h. quiet (others x h (λ is. f (here u x w e l is)))) l
-          where
-            here : (u x : Node) (w : ℕ) → Edge u x w → w + D x < top → x ≡ v → D u ≤ w + D x
-            here u x w e l is = let d : D x ≡ D v = ap D is in let k = all u w (rw is at e) (omega arith) in omega arith
 
   module _ {Waits : Node → Type 0} {D : Node → ℕ} (so-far : Working Edge Goal top Waits D) where
     pub working-end : ((u : Node) → Waits u → ⊥) → Settled Edge Goal top D

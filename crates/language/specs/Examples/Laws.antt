@@ -8,8 +8,8 @@ use mathlib.Core.List.{List·Memᴰ}
 use mathlib.Core.Bool.{true, not, _&&_}
 use lib.Dec.{ltb}
 use borrow.Author.Tests.{ltb-true, not-true}
-use Rattle.graphs.specs.Search.{allIn}
-use Rattle.graphs.specs.Search.Laws.{and-true, allIn-true}
+use Rattle.basics.specs.Search.{allIn}
+use Rattle.basics.specs.Search.Laws.{and-true, allIn-true}
 use Rattle.fsbm.specs.Machine.{wellFormed}
 use Rattle.fsbm.specs.Moves.{accepting, beginBuffering}
 use Rattle.language.specs.Bound.{accepted-iff-run}

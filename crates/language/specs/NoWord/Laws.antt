@@ -12,8 +12,8 @@ use mathlib.Core.List.{List, _∷_, List·Memᴰ, List·Memᴰ·head, List·Mem�
 use native.Mathlib.Omega.{arith}
 use lib.Dec.{eqb}
 use borrow.Author.Tests.{eqb-true, eq-eqb}
-use Rattle.graphs.specs.Search.{allIn}
-use Rattle.graphs.specs.Search.Laws.{and-true, and-both-true, allIn-true}
+use Rattle.basics.specs.Search.{allIn}
+use Rattle.basics.specs.Search.Laws.{and-true, and-both-true, allIn-true}
 use Rattle.graphs.specs.Paths.{Path, here, step}
 use Rattle.graphs.specs.Reach.{Edges, isClosed}
 use Rattle.graphs.specs.Reach.Laws.{reach-complete, isClosed-all}
@@ -26,7 +26,7 @@ use Rattle.fsbm.specs.declared.machine.Machine.{Machine}
 use Rattle.fsbm.specs.declared.config.Mode.{Mode}
 use Rattle.fsbm.specs.declared.config.Mode.the-variants.{Normal, Buffering, Emptying}
 use Rattle.language.specs.Agreement.{accepting-published}
-use Rattle.graphs.specs.Bools.{false-iff, not-says, says-not, says-not-and}
+use Rattle.basics.specs.Bools.{false-iff, not-says, says-not, says-not-and}
 use Rattle.language.specs.Chosen.{numbers, numbers-of, chosen, chosen-of}
 use Rattle.language.specs.NoWord.{Control, control, sameControl, passable, changeable, nextMode, crossings, follows, controls, noWord}
 use Rattle.language.specs.Reached.{sameMode}

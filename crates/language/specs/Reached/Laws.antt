@@ -16,7 +16,7 @@ use native.Mathlib.Omega.{arith}
 use lib.ListN.{length}
 use lib.Dec.{ltb, eqb}
 use borrow.Author.Tests.{ltb-true, lt-ltb, eqb-true, eq-eqb}
-use Rattle.graphs.specs.Search.Laws.{and-true, and-both-true, anyIn-true}
+use Rattle.basics.specs.Search.Laws.{and-true, and-both-true, anyIn-true}
 use Rattle.graphs.specs.Paths.{Path, here, step}
 use Rattle.graphs.specs.Reach.{Edges}
 use Rattle.graphs.specs.Reach.Laws.{reach-sound, reach-complete}
@@ -29,7 +29,7 @@ use Rattle.fsbm.specs.declared.config.Config.{Config}
 use Rattle.fsbm.specs.declared.config.Move.{Move}
 use Rattle.fsbm.specs.declared.config.Mode.{Mode}
 use Rattle.fsbm.specs.declared.config.Mode.the-variants.{Normal, Buffering, Emptying}
-use Rattle.graphs.specs.Bools.{cond-elim, same-truth}
+use Rattle.basics.specs.Bools.{cond-elim, same-truth}
 use Rattle.language.specs.Bound.{accepted-iff-run}
 use Rattle.language.specs.Chosen.{numbers, numbers-of, numbers-to, chosen-of, chosen-to}
 use Rattle.language.specs.Reached.{sameMode, sameConfig, entries, successors, starts, reached, decided}

@@ -17,14 +17,14 @@ use mathlib.Core.Bool.{Bool, true, not}
 use mathlib.Core.List.{List, [], _∷_, _++_, append-nil}
 use native.Mathlib.Omega.{arith}
 use lib.ListN.{length, length-append}
-use Rattle.graphs.specs.Search.Laws.{and-true, and-both-true}
+use Rattle.basics.specs.Search.Laws.{and-true, and-both-true}
 use Rattle.graphs.specs.Paths.{Path, here, step}
 use Rattle.fsbm.specs.Machine.{transitionAt, buffering, matching, bothMatching}
 use Rattle.fsbm.specs.Published.{Listed, fsbmOf, Configuration, config, Yields, normal, buffer, empty, begin-buffering, begin-emptying, back-to-normal}
 use Rattle.fsbm.specs.declared.machine.Machine.{Machine}
 use Rattle.fsbm.specs.declared.config.Mode.{Mode}
 use Rattle.fsbm.specs.declared.config.Mode.the-variants.{Normal, Buffering, Emptying}
-use Rattle.graphs.specs.Bools.{not-says, says-not, not-and-says, says-not-and}
+use Rattle.basics.specs.Bools.{not-says, says-not, not-and-says, says-not-and}
 use Rattle.layers.specs.Costs.{none, Near, Step, Go, Best, Leads}
 
 unfoldable pub Fits : List ℕ → List ℕ → Mode → Type 0

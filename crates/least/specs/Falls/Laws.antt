@@ -3,7 +3,7 @@
 -- cost-set-same, cost-set-other == the numbers after one is replaced
 -- falls-none, falls-then, falls-as, falls-under == nothing lowered; one lot after the other; in other words; by the numbers themselves
 -- fall-not, fall-is     == one number, which is not less, or is
--- weigh-none, weigh-letter == the weight of a move by epsilon, and by a letter
+-- weigh-letter          == the weight of a move by a letter
 -- step-not, step-is     == one transition, which is not allowed, or is
 -- steps-start, steps-more, steps-past == the loop over transitions
 -- enterable-held, enterable-all == the ways through `enterable`
@@ -12,7 +12,7 @@
 -- ends-start, ends-more, ends-end == the loop over the states where a copy ends
 use Prim.Native.Nat.{ℕ, zero, suc, _+_, _*_, _^_, _≤_, _<_}
 use mathlib.Core.Path.{_≡_, refl, sym, ap, _∙_, subst}
-use mathlib.Core.Logic.{_⊎_, inl, inr, _↔_}
+use mathlib.Core.Logic.{_⊎_, inl, inr}
 use mathlib.Core.Bool.{true, false}
 use mathlib.Core.List.{List}
 use native.Mathlib.Omega.{arith}
@@ -23,14 +23,13 @@ use lib.Count.{ones}
 use borrow.Author.Tests.{eqb-false}
 use Rattle.stateset.specs.Set.{width, digit, In, has, added, SetIs}
 use Rattle.stateset.specs.Set.Laws.{has-in}
-use Rattle.fsbm.specs.Machine.{transitionAt, buffering, matching}
-use Rattle.fsbm.specs.Published.{Listed, fsbmOf}
+use Rattle.fsbm.specs.Machine.{transitionAt, buffering}
+use Rattle.fsbm.specs.Published.{fsbmOf}
 use Rattle.fsbm.specs.Rules.{rules}
 use Rattle.fsbm.specs.declared.machine.Machine.{Machine}
 use Rattle.pieces.specs.Pairs.{unit, weigh, NormalMove, moves}
 use Rattle.pieces.specs.Blocks.{nothing, cell, costOf}
 use Rattle.pieces.specs.Blocks.Laws.{cost-inside, cost-past}
-use Rattle.blocks.specs.Numbers.{total}
 use Rattle.blocks.specs.Numbers.Laws.{total-set, added-more, Left, Rest, Taken, left-start, left-more, left-end}
 use Rattle.blocks.specs.Stretches.Laws.{row-stretch}
 use Rattle.blocks.specs.Works.{Kind, Ready}
@@ -161,10 +160,6 @@ module _ (d : List ℕ) (got q v : ℕ) (inside : q < 64) where
       from p (no f) = inl (cost-set-other d q v inside p f)
 
 -- Transitions
-
-pub weigh-none : (x : ℕ) → x ≡ 0 → 1 ≡ weigh x
-weigh-none zero e = refl
-weigh-none (suc x) e = absurd (omega arith)
 
 pub weigh-letter : (x : ℕ) → (x ≡ 0 → ⊥) → unit + 1 ≡ weigh x
 weigh-letter zero e = absurd (e refl)

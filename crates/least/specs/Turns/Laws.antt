@@ -12,7 +12,7 @@
 -- lowered-same, lowered-to, lowered-then == the loop that lowers the limit
 -- turns-end           == the last turn: no buffering state was started
 -- turns-less          == each turn lowers the measure
-use Prim.Native.Nat.{ℕ, _+_, _*_, _/_, _%_, _^_, _≤_, _<_}
+use Prim.Native.Nat.{ℕ, _+_, _*_, _%_, _^_, _≤_, _<_}
 use mathlib.Core.Path.{_≡_, refl, sym, ap, _∙_, subst}
 use mathlib.Core.Logic.{_⊎_, inl, inr, _↔_}
 use mathlib.Core.Bool.{Bool, true, false}
@@ -25,19 +25,18 @@ use lib.Count.{ones}
 use borrow.Author.Tests.{eqb-true, eqb-false, eq-eqb}
 use Rattle.graphs.specs.Cost.{Route, Settled}
 use Rattle.graphs.specs.Back.{Back}
-use Rattle.graphs.specs.Search.Laws.{true-or-false}
+use Rattle.basics.specs.Search.Laws.{true-or-false}
 use Rattle.stateset.specs.Set.{width, digit, In, has, added, SetIs}
 use Rattle.stateset.specs.Set.Laws.{in?, has-in, in-lt, empty-in, ones-mono, ones-zero, ones-of-zero}
 use Rattle.fsbm.specs.Machine.{wellFormed, transitionAt, markOf, final, buffering, matching}
-use Rattle.fsbm.specs.Published.{Listed, fsbmOf}
+use Rattle.fsbm.specs.Published.{fsbmOf}
 use Rattle.fsbm.specs.Rules.{rules, one-kind}
 use Rattle.fsbm.specs.declared.machine.Machine.{Machine}
 use Rattle.images.specs.Graph.{KindsOf}
 use Rattle.images.specs.declared.Kinds.{Kinds}
 use Rattle.pieces.specs.Pairs.{Pair, both, PairMove, NormalMove, Piece, moved, copied}
-use Rattle.pieces.specs.Blocks.{nothing, cell, costOf, Node, outside, inside, BlockEdge, blockOf}
+use Rattle.pieces.specs.Blocks.{nothing, cell, costOf, inside}
 use Rattle.pieces.specs.Blocks.Laws.{cost-inside, cost-past, block-copies}
-use Rattle.pieces.specs.Rounds.{Rounds}
 use Rattle.pieces.specs.Rounds.Laws.{NormalDone, CopiesDone, rounds-start, rounds-turn, rounds-looked, rounds-copied, rounds-end, stores-enters, copy-origin}
 use Rattle.blocks.specs.Numbers.{total}
 use Rattle.blocks.specs.Numbers.Laws.{added-more, Left, Rest, Taken, left-start, left-more, left-end}
@@ -45,7 +44,7 @@ use Rattle.blocks.specs.Works.{Kind}
 use Rattle.blocks.specs.Works.Laws.{block-inside}
 use Rattle.least.specs.Falls.{Falls, NormalFrom, Ends}
 use Rattle.least.specs.Falls.Laws.{falls-none, falls-then, falls-under}
-use Rattle.least.specs.Turns.{Entered, EnteredBelow, EnteredBy, firstOf, Limit, Lowered, RoundsOf, NormalSo, NormalTurn, Made, Bound, Tops, Guessed, CopyTurn, First, Costs}
+use Rattle.least.specs.Turns.{Entered, EnteredBelow, EnteredBy, firstOf, Limit, Lowered, RoundsOf, NormalSo, NormalTurn, Made, Bound, Tops, Guessed, CopyTurn, First}
 
 -- Normal moves
 

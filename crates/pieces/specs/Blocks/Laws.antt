@@ -14,7 +14,7 @@ use native.Mathlib.Omega.{arith}
 use lib.ListN.{getD}
 use lib.Dec.{ltb}
 use borrow.Author.Tests.{lt-ltb, le-ltb}
-use Rattle.graphs.specs.Search.Laws.{and-both-true, and-false-left, and-false-right}
+use Rattle.basics.specs.Search.Laws.{and-both-true, and-false-left, and-false-right}
 use Rattle.graphs.specs.Cost.{Route, stop, via, Settled}
 use Rattle.graphs.specs.Cost.Laws.{lower-bound, descend, zero-goal}
 use Rattle.graphs.specs.Back.Laws.{route-weight, route-snoc}

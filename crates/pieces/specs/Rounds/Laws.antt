@@ -3,12 +3,10 @@
 -- NormalDone, CopiesDone == no normal move out of a state, no copy out of a state, would lower a number
 -- rounds-start         == 0 at the initial states, which all wait, and top elsewhere
 -- rounds-turn          == numbers lowered at once, each along a piece from the old numbers; whoever newly does not wait was looked at
--- rounds-lower         == the same, where whoever is lowered waits
 -- rounds-looked, rounds-copied == the numbers as they were; a state's normal moves, its copies, were looked at
 -- rounds-end           == where nothing waits the numbers are settled: the least weights from a start
 -- stores-enters        == storing that begins in a buffering and ends in a matching state ends with a move into it from one that is not matching
--- copy-bound           == a number lowered to a settled block's, for the changes of mode 2 more, is at most the weight of each copy with that guess
--- copy-origin          == and that number is the weight of one of them
+-- copy-origin          == a settled block's number, and for the changes of mode 2 more, is the weight of a copy with that guess
 use Prim.Native.Nat.{ℕ, _+_, _≤_, _<_}
 use mathlib.Core.Path.{_≡_, refl}
 use mathlib.Core.Logic.{_⊎_, inl, inr}
@@ -22,7 +20,7 @@ use Rattle.pieces.specs.Pieces.{Stores, stored, store}
 use Rattle.pieces.specs.Pairs.{Pair, both, PairMove, NormalMove, Piece, moved, copied}
 use Rattle.pieces.specs.Pairs.Laws.{apart}
 use Rattle.pieces.specs.Blocks.{Node, outside, inside, BlockEdge}
-use Rattle.pieces.specs.Blocks.Laws.{block-copies, block-realised}
+use Rattle.pieces.specs.Blocks.Laws.{block-realised}
 use Rattle.pieces.specs.Rounds.{Rounds}
 
 abbrev pub NormalDone : FSBM → ℕ → (ℕ → ℕ) → ℕ → Type 0
@@ -79,10 +77,6 @@ module _ {M : FSBM} {top : ℕ} where
         copies-at g h z n a b c r l (inl (quiet, same)) = let k = so-far .copies g h z n a b c r quiet (omega arith) in let d = lower z in omega arith
         copies-at g h z n a b c r l (inr all) = all h z n a b c r l
 
-    pub rounds-lower : (D′ : ℕ → ℕ) → ((q : ℕ) → D′ q ≤ D q) → ((q : ℕ) → (D′ q ≡ D q) ⊎ ((p : ℕ) × (w : ℕ) × Piece M p q w × (D′ q ≡ w + D p)))
-        → ((p : ℕ) → (Fresh′ p → ⊥) → (Fresh p → ⊥) × (D′ p ≡ D p)) → ((g : ℕ) → (Started′ g → ⊥) → (Started g → ⊥) × (D′ g ≡ D g)) → Rounds M top Fresh′ Started′ D′
-    rounds-lower D′ lower origin fresh started = rounds-turn D′ lower origin (λ p quiet. inl (fresh p quiet)) (λ g quiet. inl (started g quiet))
-
   module _ {Fresh Started : ℕ → Type 0} {D : ℕ → ℕ} (so-far : Rounds M top Fresh Started D) where
     pub rounds-looked : (Fresh′ : ℕ → Type 0) → ((p : ℕ) → (Fresh′ p → ⊥) → (Fresh p → ⊥) ⊎ NormalDone M top D p) → Rounds M top Fresh′ Started D
     rounds-looked Fresh′ looked = rounds-turn so-far D (λ q. omega arith) (λ q. inl refl) (λ p quiet. at p (looked p quiet)) (λ g quiet. inl (quiet, refl))
@@ -127,9 +121,6 @@ module _ {M : FSBM} (kinds : (q : ℕ) → M .G q → M .H q → ⊥) where
 -- What a block says of the numbers
 
 module _ {M : FSBM} {h : ℕ} {D : ℕ → ℕ} {S : ℕ → Type 0} {top : ℕ} {B : Node → ℕ} (s : Settled (BlockEdge M h D S) (λ (u : Node). u ≡ outside) top B) where
-  pub copy-bound : {g z n d : ℕ} → S g → M .G g → Route Pair (PairMove M) (both g h) (both h z) n → d ≤ B (inside (both h z)) + 2 → 3 + n + D g < top → d ≤ 3 + n + D g
-  copy-bound m buffers r low l = let k = block-copies s m buffers r (omega arith) in omega arith
-
   pub copy-origin : (z : ℕ) → M .H h → M .H z → B (inside (both h z)) < top → (g : ℕ) × (w : ℕ) × S g × Piece M g z w × (B (inside (both h z)) + 2 ≡ w + D g)
   copy-origin z turns ends l =
       let b = block-realised s (both h z) l in

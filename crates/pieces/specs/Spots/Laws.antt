@@ -12,9 +12,9 @@ use mathlib.Core.List.{List, [], _++_, flatMap, List·Memᴰ, List·Memᴰ·head
 use native.Mathlib.Omega.{arith}
 use lib.Dec.{eqb}
 use borrow.Author.Tests.{eqb-true, eq-eqb, ne-eqb}
-use Rattle.graphs.specs.Bools.{false-iff, not-says, says-not, says-not-and}
-use Rattle.graphs.specs.Search.{allIn}
-use Rattle.graphs.specs.Search.Laws.{and-true, and-both-true, allIn-true}
+use Rattle.basics.specs.Bools.{false-iff, not-says, says-not, says-not-and}
+use Rattle.basics.specs.Search.{allIn}
+use Rattle.basics.specs.Search.Laws.{and-true, and-both-true, allIn-true}
 use Rattle.graphs.specs.Paths.{Path, here, step}
 use Rattle.graphs.specs.Paths.Laws.{append}
 use Rattle.graphs.specs.Reach.{Edges, isClosed}

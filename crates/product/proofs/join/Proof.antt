@@ -1,9 +1,8 @@
-use Prim.Native.Nat.{ℕ, _≤_, _<_, _-_, _+_, _*_}
-use mathlib.Core.Path.{_≡_, refl, sym, ap, _∙_}
-use mathlib.Core.List.{List}
+use Prim.Native.Nat.{_-_}
+use mathlib.Core.Path.{sym, _∙_}
 use native.Mathlib.Omega.{arith}
 use lib.ListN.{length}
-use Rattle.product.specs.Tables.{Joinable, joinable}
+use Rattle.product.specs.Tables.{joinable}
 use Rattle.product.proofs.JoinCases.{refused-fault, refused-room, long-enough, joins}
 use borrow.Author.Needs.{needs}
 use Rattle.product.proofs.join.Statement.{statement}

@@ -4,14 +4,14 @@
 -- joins-means          == a row that passes its test means what it says
 -- examples             == every row of the table means what it says
 use Prim.Native.Nat.{ℕ, _*_}
-use mathlib.Core.Path.{_≡_, refl, sym, ap, subst}
+use mathlib.Core.Path.{_≡_, refl, sym, subst}
 use mathlib.Core.Logic.{_⊎_, inl, inr}
 use mathlib.Core.List.{List, [], _∷_, map, List·Memᴰ, List·Memᴰ·cases-cons, Memᴰ·of-map}
 use mathlib.Core.Bool.{true, _&&_, false≢true}
 use lib.ListN.{length}
 use lib.Dec.{eqb}
 use borrow.Author.Tests.{eqb-true}
-use Rattle.graphs.specs.Search.Laws.{and-true}
+use Rattle.basics.specs.Search.Laws.{and-true}
 use Rattle.fsbm.specs.declared.machine.Machine.{Machine}
 use Rattle.language.specs.Examples as language
 use Rattle.language.specs.Examples.{doubling, doublingList}

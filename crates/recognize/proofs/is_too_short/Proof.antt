@@ -1,7 +1,7 @@
 -- `recognize::is_too_short` meets its contract. Assumes nothing.
 use mathlib.Core.Path.{_≡_, refl}
 use mathlib.Core.Bool.{true, false}
-use Rattle.graphs.specs.Search.Laws.{not-both}
+use Rattle.basics.specs.Search.Laws.{not-both}
 use Rattle.recognize.proofs.is_too_short.Statement.{statement}
 use Rattle.recognize.proofs.is_too_short.Tie as tie
 

@@ -23,7 +23,7 @@ use lib.Dec.{ltb, eqb}
 use borrow.Author.Tests.{ltb-true, ltb-false, eqb-true, eq-eqb, lt-ltb}
 use Rattle.stateset.specs.Set.{width, below}
 use Rattle.stateset.specs.Set.Laws.{in-and, below-is}
-use Rattle.graphs.specs.Search.Laws.{and-true, and-both-true, true-or-false}
+use Rattle.basics.specs.Search.Laws.{and-true, and-both-true, true-or-false}
 use Rattle.graphs.specs.Paths.{Path, here, step}
 use Rattle.fsbm.specs.Machine.{wellFormed, transitionAt, buffering, matching, bothMatching, final, initial}
 use Rattle.fsbm.specs.Moves.{wellPlaced, bufferFits, readsLetter, advanced, goes, takes, changes, move, isNormal, accepts, acceptingFrom, accepting, startAt, beginBuffering, beginEmptying, backToNormal}
@@ -36,7 +36,7 @@ use Rattle.fsbm.specs.declared.config.Config.{Config}
 use Rattle.fsbm.specs.declared.config.Move.{Move}
 use Rattle.fsbm.specs.declared.config.Mode.{Mode}
 use Rattle.fsbm.specs.declared.config.Mode.the-variants.{Normal, Buffering, Emptying}
-use Rattle.graphs.specs.Bools.{cond-elim}
+use Rattle.basics.specs.Bools.{cond-elim}
 use Rattle.fsbm.specs.Rules.{Rules, rules, Placed, placed, unplaced}
 use Rattle.fsbm.specs.Moves.Laws.{advanced-fits, move-placed}
 use Rattle.language.specs.Strings.{slice-none}

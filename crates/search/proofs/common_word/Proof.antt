@@ -1,5 +1,4 @@
 use native.Mathlib.Omega.{arith}
-use mathlib.Core.Path.{_≡_, refl, sym, _∙_}
 use Rattle.search.proofs.SearchCases.{join-refuses, join-gives, fault}
 use borrow.Author.Needs.{needs}
 use Rattle.search.proofs.common_word.Statement.{statement}

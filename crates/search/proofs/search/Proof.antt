@@ -1,4 +1,4 @@
-use mathlib.Core.Path.{_≡_, sym}
+use mathlib.Core.Path.{sym}
 use Rattle.fsbm.specs.Rules.{rules}
 use Rattle.blocks.specs.Works.Laws.{kind-buffering, ready-of}
 use Rattle.search.proofs.SearchCases.{joined-good, none}

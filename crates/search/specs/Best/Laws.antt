@@ -6,8 +6,7 @@
 -- best-final           == once all states are looked at: a number below `nothing` is the least of all final states
 -- best-nothing         == and where it is not below `nothing`, no final state has one
 use Prim.Native.Nat.{ℕ, _+_, _/_, _%_, _≤_, _<_}
-use mathlib.Core.Path.{_≡_, refl, sym, ap, _∙_, subst}
-use mathlib.Core.Logic.{_⊎_, inl, inr}
+use mathlib.Core.Path.{_≡_, sym, ap, _∙_, subst}
 use mathlib.Core.Bool.{Bool, true, false, cond}
 use mathlib.Core.List.{List}
 use native.Mathlib.Omega.{arith}
@@ -15,8 +14,8 @@ use native.Mathlib.Decide.{decLt, ℕ-discrete}
 use lib.ListN.{getD}
 use lib.Dec.{ltb, eqb}
 use borrow.Author.Tests.{le-ltb, lt-ltb, eqb-true}
-use Rattle.graphs.specs.Search.Laws.{not-both}
-use Rattle.fsbm.specs.Machine.{final, markOf}
+use Rattle.basics.specs.Search.Laws.{not-both}
+use Rattle.fsbm.specs.Machine.{final}
 use Rattle.pieces.specs.Blocks.{nothing, costOf}
 use Rattle.search.specs.Best.{noState, Best}
 

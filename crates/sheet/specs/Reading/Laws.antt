@@ -6,21 +6,21 @@
 -- state-none, transition-none == the line of a state, of a transition, without fault
 -- Header, header-none == line one without fault
 -- Sound, no-fault  == a sheet without fault: line one, the lines of the states, those of the transitions, nothing more
-use Prim.Native.Nat.{ℕ, zero, suc, _+_, _*_, _-_, _/_, _%_, _<_, _≤_}
-use mathlib.Core.Path.{_≡_, refl, sym, ap, _∙_, subst}
+use Prim.Native.Nat.{ℕ, zero, _+_, _*_, _-_, _/_, _%_, _<_, _≤_}
+use mathlib.Core.Path.{_≡_, refl, sym, ap, _∙_}
 use mathlib.Core.Logic.{_⊎_, inl, inr, _↔_}
-use mathlib.Core.List.{List, [], _∷_, _++_}
+use mathlib.Core.List.{List}
 use mathlib.Core.Bool.{Bool, true, false, cond, not, _&&_, _||_}
 use native.Mathlib.Omega.{arith}
 use lib.ListN.{length, getD}
-use lib.Dec.{leb, ltb, eqb}
-use borrow.Author.Tests.{leb-true, eqb-true, eqb-false, not-true, not-false, le-leb, eq-eqb, ne-eqb}
+use lib.Dec.{leb, eqb}
+use borrow.Author.Tests.{leb-true, eqb-true, eqb-false, not-true, le-leb, eq-eqb, ne-eqb}
 use Rattle.columns.specs.Column.{noNumber}
-use Rattle.graphs.specs.Search.Laws.{true-or-false, and-true, and-both-true}
-use Rattle.fsbm.specs.Machine.{maxStates, maxLetters, maxTransitions, named, precedes}
+use Rattle.basics.specs.Search.Laws.{true-or-false, and-true, and-both-true}
+use Rattle.fsbm.specs.Machine.{named, precedes}
 use Rattle.fsbm.specs.declared.machine.Transition.{Transition}
 use Rattle.sheet.specs.Series.{orElse, firstOf}
-use Rattle.sheet.specs.Series.Laws.{or-none, or-zero, first-zero}
+use Rattle.sheet.specs.Series.Laws.{or-zero, first-zero}
 use Rattle.sheet.specs.Format.{stateStart, transitionStart}
 use Rattle.sheet.specs.Reading.{unless, columnAt, columnFault, lineFault, countsFault, headerFault, markFault, stateFault, transitionIn, orderFault}
 use Rattle.sheet.specs.Reading.{transitionFault, restFault, firstFault}

@@ -11,16 +11,16 @@
 -- each-drop             == from list k on
 -- each-elem             == element j of list k
 -- each-parts            == parts of a list, one after the other, joined
-use Prim.Native.Nat.{ℕ, zero, suc, _+_, _*_, _-_, _<_, _≤_}
-use mathlib.Core.Path.{_≡_, refl, sym, ap, _∙_, subst}
-use mathlib.Core.Logic.{_⊎_, inl, inr, _↔_}
-use mathlib.Core.List.{List, [], _∷_, _++_, append-assoc, append-nil}
+use Prim.Native.Nat.{ℕ, zero, suc, _+_, _*_, _-_, _<_}
+use mathlib.Core.Path.{_≡_, refl, sym, ap, _∙_}
+use mathlib.Core.Logic.{_↔_}
+use mathlib.Core.List.{List, _++_, append-assoc}
 use native.Mathlib.Omega.{arith}
 use native.Mathlib.Nat.{mul-suc}
 use native.Mathlib.Numerals.{add-one}
 use native.Mathlib.Decide.{ℕ-discrete}
 use lib.ListN.{length, take, drop, getD, length-append, List·getD-append}
-use lib.Seq.{drop-append-le, drop-at, take-add, drop-drop, getD-drop}
+use lib.Seq.{drop-at, take-add, drop-drop, getD-drop}
 use Rattle.sheet.specs.Series.{orElse, firstOf, eachBelow}
 
 -- Faults

@@ -12,9 +12,9 @@ use native.Mathlib.Decide.{decLt}
 use lib.ListN.{length, getD, set, drop, length-set, length-append}
 use lib.Dec.{eqb}
 use borrow.Author.Tests.{eq-eqb, eqb-true}
-use Rattle.graphs.specs.Search.{none, more}
-use Rattle.graphs.specs.Search.Laws.{and-true, and-both-true, not-both}
-use Rattle.graphs.specs.Counting.{Distinct, empty, new, counting}
+use Rattle.basics.specs.Search.{none, more}
+use Rattle.basics.specs.Search.Laws.{and-true, and-both-true, not-both}
+use Rattle.basics.specs.Counting.{Distinct, empty, new, counting}
 use Rattle.fsbm.specs.Machine.{transitionAt, buffering, matching}
 use Rattle.fsbm.specs.Published.{fsbmOf, symbol}
 use Rattle.fsbm.specs.Rules.{Rules, rules}

@@ -10,8 +10,8 @@ use mathlib.Core.List.{List}
 use native.Mathlib.Omega.{arith}
 use lib.Dec.{eqb}
 use borrow.Author.Tests.{eq-eqb, eqb-true}
-use Rattle.graphs.specs.Search.Laws.{and-true, and-both-true}
-use Rattle.graphs.specs.Bools.{not-says, says-not, not-and-says, says-not-and}
+use Rattle.basics.specs.Search.Laws.{and-true, and-both-true}
+use Rattle.basics.specs.Bools.{not-says, says-not, not-and-says, says-not-and}
 use Rattle.fsbm.specs.Machine.{transitionAt, buffering, matching}
 use Rattle.fsbm.specs.Published.{fsbmOf, Listed}
 use Rattle.fsbm.specs.declared.machine.Machine.{Machine}

@@ -7,7 +7,7 @@
 -- guess-start, guess-next, guess-found, guess-end == the loop of guess
 -- copy-ready, step-ready  == copy may begin, step may
 -- write-start, write-fits, write-turn, write-end == the loop of write
-use Prim.Native.Nat.{ℕ, suc, _+_, _*_, _-_, _≤_, _<_, _/_, _%_}
+use Prim.Native.Nat.{ℕ, suc, _+_, _*_, _-_, _≤_, _<_, _%_}
 use mathlib.Core.Path.{_≡_, refl, sym, ap, _∙_, subst, subst₂}
 use mathlib.Core.Logic.{_⊎_, inl, inr}
 use mathlib.Core.Bool.{Bool, true, false, false≢true}
@@ -19,13 +19,12 @@ use lib.Seq.{drop-length, drop-set-lt, getD-set-same}
 use lib.Dec.{eqb}
 use borrow.Author.Tests.{eqb-true, eq-eqb}
 use Rattle.graphs.specs.Cost.Laws.{settled-under}
-use Rattle.graphs.specs.Search.Laws.{not-both}
+use Rattle.basics.specs.Search.Laws.{not-both}
 use Rattle.stateset.specs.Set.{In}
 use Rattle.fsbm.specs.Machine.{transitionAt, matching}
 use Rattle.fsbm.specs.Published.{fsbmOf, symbol}
 use Rattle.fsbm.specs.Rules.{Rules, rules, matching-below, one-kind}
 use Rattle.fsbm.specs.declared.machine.Machine.{Machine}
-use Rattle.pieces.specs.Pieces.{Leads}
 use Rattle.pieces.specs.Pieces.Laws.{leads-append}
 use Rattle.pieces.specs.Pairs.{unit}
 use Rattle.pieces.specs.Pairs.Laws.{weigh-symbol}

@@ -1,11 +1,11 @@
 use Prim.Native.Nat.{_≤_, _-_}
-use mathlib.Core.Path.{_≡_, refl, sym}
+use mathlib.Core.Path.{_≡_, refl}
 use native.Mathlib.Omega.{arith}
 use lib.ListN.{length, drop, getD}
 use borrow.Author.Needs.{needs}
 use mathlib.Core.Bool.{true, false}
-use Rattle.graphs.specs.Search.{allIn}
-use Rattle.graphs.specs.Search.Loops.{in-fails, in-goes-on, in-done}
+use Rattle.basics.specs.Search.{allIn}
+use Rattle.basics.specs.Search.Loops.{in-fails, in-goes-on, in-done}
 use Rattle.spelling.specs.Spelling.{hasLetter}
 use Rattle.spelling.proofs.SpellingCases.{letter-none, letter-some}
 use Rattle.spelling.proofs.have_letters.Statement.{statement}

@@ -1,4 +1,3 @@
-use native.Mathlib.Omega.{arith}
 use borrow.Author.Tests.{not-true, not-false}
 use Rattle.spelling.proofs.SpellingCases.{translate-long, translate-unknown, translate-short, translate-done, translate-says}
 use borrow.Author.Needs.{needs}

@@ -16,9 +16,9 @@ use lib.ListN.{length, getD, set, drop, length-set}
 use lib.Seq.{drop-cons, drop-length, drop-set-lt, getD-set-same, getD-set-other, drop-nil}
 use lib.Dec.{ltb, eqb}
 use borrow.Author.Tests.{lt-ltb, le-ltb, eq-eqb, ne-eqb, ltb-true}
-use Rattle.graphs.specs.Search.Laws.{and-true, and-both-true, not-both}
-use Rattle.graphs.specs.Bools.{not-says}
-use Rattle.graphs.specs.Lists.{drop-set}
+use Rattle.basics.specs.Search.Laws.{and-true, and-both-true, not-both}
+use Rattle.basics.specs.Bools.{not-says}
+use Rattle.basics.specs.Lists.{drop-set}
 use Rattle.fsbm.specs.Machine.{transitionAt}
 use Rattle.fsbm.specs.Moves.{beginBuffering}
 use Rattle.fsbm.specs.Published.{Listed}

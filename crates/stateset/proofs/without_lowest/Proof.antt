@@ -1,6 +1,5 @@
 -- `stateset::without_lowest` meets its contract. Assumes nothing.
 use borrow.Author.Needs.{needs}
-use native.Mathlib.Omega.{arith}
 use Rattle.stateset.specs.Set.Laws.{rest-is, rest-none}
 use Rattle.stateset.proofs.without_lowest.Statement.{statement}
 use Rattle.stateset.proofs.without_lowest.Tie as tie

@@ -5,7 +5,7 @@
 -- digit-cases, in?                 == a digit is 0 or 1; q is a member or it is not
 -- has-in                           == the Bool test is membership
 -- digit-high, has-high, in-lt      == a number below 2 ^ w has no member at w or above
--- same-members, no-members         == same members, same number; no members, zero
+-- same-members                     == same members, same number
 -- empty-in, in-or, in-and, in-bit  == the members of 0, of an or, of an and, of a single bit
 -- in-not, in-full                  == the members of a complement, of 2 ^ n - 1
 -- in-add, in-remove, in-difference == the members with one more, with one less, without those of another set
@@ -15,12 +15,11 @@
 -- ones-remove                      == the size without a member
 -- ones-count                       == the ones are as many as the members
 -- lowest-in, lowest-lt, lowest-not == the lowest is a member, below the width, and nothing below it is a member
--- lowest-of-zero                   == the lowest of the empty set is the width
 -- less-one, in-less-one            == the digits of x - 1, and the members of x that are members of x - 1: all but the lowest
 -- rest-is, rest-none, lowest-removed == what is left of a set without its lowest member
--- empty-is, below-is, added-is, single-is, removed-is, union-is, intersection-is, without-is, size-is, lowest-is
+-- empty-is, below-is, added-is, removed-is, union-is, intersection-is, without-is, size-is, lowest-is
 --                                  == what each function returns, with its members
--- added-size, removed-size         == the size after adding, after removing
+-- removed-size                     == the size after removing
 -- drop-lowest, union-grows         == the measure of a loop that takes out the lowest member; of one that joins sets until nothing changes
 use mathlib.Core.Path.{_≡_, refl, sym, _∙_, ap}
 use mathlib.Core.Logic.{_↔_, _⊎_, inl, inr, ⊎-elim}
@@ -116,9 +115,6 @@ same-members x y h = same-digits x y (λ q. at q (digit-cases x q))
     at : (q : ℕ) → (digit x q ≡ 0) ⊎ (digit x q ≡ 1) → digit x q ≡ digit y q
     at q (inl z) = z ∙ sym (not-in y q (λ m. let u = h q .1 m in omega arith))
     at q (inr m) = m ∙ sym (h q .0 m)
-
-pub no-members : (x : ℕ) → ((q : ℕ) → In x q → ⊥) → x ≡ 0
-no-members x h = digits-zero x (λ q. not-in x q (h q))
 
 pub empty-in : (q : ℕ) → In 0 q → ⊥
 empty-in q m = let z = digit-of-zero q in omega arith
@@ -265,9 +261,6 @@ ones-zero =
 in-low : (x : ℕ) → In x 0 → x % 2 ≡ 1
 in-low x m = sym (digit-zero x) ∙ m
 
-low-in : (x : ℕ) → x % 2 ≡ 1 → In x 0
-low-in x e = digit-zero x ∙ e
-
 -- the lowest digits and the halves of a set and of one that holds it
 low-le : (x y : ℕ) → ((q : ℕ) → In x q → In y q) → x % 2 ≤ y % 2
 low-le x y h = at (digit-cases x 0)
@@ -407,9 +400,6 @@ pub ones-count : (w x : ℕ) → x < 2 ^ w → ones x ≡ count w (λ q. has x q
 ones-count w x h = sym (count-ones x w ∙ ap ones (mod-eq-of-lt h))
 
 -- The lowest member
-
-pub lowest-of-zero : (w : ℕ) → trailingZeros w 0 ≡ w
-lowest-of-zero w = trailing-of-zero w
 
 -- nothing below it is a member
 pub lowest-least : (w x q : ℕ) → q < trailingZeros w x → digit x q ≡ 0
@@ -602,24 +592,10 @@ module _ (x q : ℕ) (hx : x < 2 ^ width) where
             members = λ p. (λ m. (m, λ (e : p ≡ q). let l = in-lt {w = width} {x = x} {q = p} hx m in omega arith), λ k. k .0);
           })
 
-  pub added-size : q < width → (In x q → ⊥) → ones (added x q) ≡ suc (ones x)
-  added-size h f = ap ones (added-state x q h) ∙ ones-add x q f
-
   pub removed-size : In x q → suc (ones (removed x q)) ≡ ones x
   removed-size m =
       let h = in-lt {w = width} {x = x} {q = q} hx m in
       ap (λ n. suc (ones n)) (removed-state x q h) ∙ ones-remove width x q hx m
-
--- the set of one state: that state added to the empty set
-pub single-is : (x q r : ℕ) → x ≡ 0 → r ≡ added x q → SetIs r (added 0 q) (λ p. (p ≡ q) × (p < width))
-single-is x q r e v = moved (v ∙ ap (λ (n : ℕ). added n q) e) alone
-  where
-    to : (p : ℕ) → In 0 p ⊎ ((p ≡ q) × (p < width)) → (p ≡ q) × (p < width)
-    to p (inl m) = absurd (empty-in p m)
-    to p (inr k) = k
-
-    alone : SetIs (added 0 q) (added 0 q) (λ p. (p ≡ q) × (p < width))
-    alone = let a = added-is 0 q (omega arith) in record { value = refl; fits = a .fits; members = λ p. (λ m. to p (a .members p .0 m), λ k. a .members p .1 (inr k)) }
 
 pub below-is : (n : ℕ) → SetIs (below n) (below n) (λ p. (p < n) × (p < width))
 unfolding below

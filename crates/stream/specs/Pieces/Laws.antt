@@ -6,7 +6,6 @@
 -- after-one, prints-one   == one byte behind a piece
 -- end-none, end-line      == what the end prints
 -- full-after, full-prints, full-end == after the last word nothing is kept anew and nothing printed
--- few-words               == never more than mostWords words
 -- prints-length           == a piece of n bytes prints at most 16 × n
 -- end-length, opening-length == at most 16 and at most 19 bytes
 -- opening-good, opening-bad == the opening of a sheet without fault and of one with a fault
@@ -24,7 +23,7 @@ use lib.ListN.{length, take, length-append}
 use lib.Seq.{take-all, length-take-le}
 use lib.Dec.{eqb}
 use borrow.Author.Tests.{lt-ltb, le-ltb, eq-eqb, ne-eqb}
-use Rattle.graphs.specs.Search.Loops.{first, second}
+use Rattle.basics.specs.Search.Loops.{first, second}
 use Rattle.fsbm.specs.Accepted.{accepted}
 use Rattle.fsbm.specs.declared.machine.Machine.{Machine}
 use Rattle.lines.specs.declared.Answer.{Answer}
@@ -122,16 +121,6 @@ module _ (m : Machine) (list : List ℕ) where
   pub end-line : (p : Pending) → p .words < mostWords → (length (p .bytes) ≡ 0 → ⊥) → endPrints m list p ≡ wordLine m list (p .words + 1) (p .bytes)
   unfolding endPrints
   end-line p h e = sym (first _ (lt-ltb _ _ h) (second _ (ne-eqb _ _ e) refl))
-
-pub few-words : (p : Pending) (x : List ℕ) → p .words ≤ mostWords → afterPiece p x .words ≤ mostWords
-unfolding afterPiece
-few-words p [] h = h
-few-words p (b ∷ x) h = few-words (afterByte p b) x (at (decLt (p .words) mostWords) (ℕ-discrete b 10))
-  where
-    at : Dec (p .words < mostWords) → Dec (b ≡ 10) → afterByte p b .words ≤ mostWords
-    at (no n) d = let e = ap (λ (q : Pending). q .words) (after-full p b (omega arith)) in omega arith
-    at (yes l) (yes e) = let f = ap (λ (q : Pending). q .words) (after-end p b l e) in omega arith
-    at (yes l) (no e) = let f = ap (λ (q : Pending). q .words) (after-more p b l e) in omega arith
 
 -- lengths
 

@@ -1,6 +1,5 @@
 use native.Mathlib.Omega.{arith}
 use Rattle.blocks.specs.Settling.Laws.{begin-not, begin-is}
-use borrow.Author.Needs.{needs}
 use Rattle.blocks.proofs.block.begin.Statement.{statement}
 use Rattle.blocks.proofs.block.begin.Tie as tie
 use Rattle.blocks.proofs.block.begin.Reads as reads

@@ -1,5 +1,4 @@
 use native.Mathlib.Omega.{arith}
-use borrow.Author.Needs.{needs}
 use Rattle.blocks.proofs.block.block.Statement.{statement}
 use Rattle.blocks.proofs.block.block.Tie as tie
 use Rattle.blocks.proofs.block.block.Reads as reads

@@ -1,5 +1,5 @@
 use native.Mathlib.Omega.{arith}
-use mathlib.Core.Path.{_≡_, _∙_}
+use mathlib.Core.Path.{_∙_}
 use Rattle.blocks.specs.Numbers.Laws.{sized-after}
 use Rattle.blocks.specs.Works.Laws.{ready-states}
 use Rattle.blocks.specs.Settling.Laws.{block-done}

@@ -1,8 +1,5 @@
 use native.Mathlib.Omega.{arith}
 use borrow.Author.Needs.{needs}
-use mathlib.Core.Path.{_≡_, subst, sym, ap, _∙_}
-use Prim.Native.Nat.{ℕ, _+_, _*_, _≤_}
-use lib.ListN.{length, getD}
 use Rattle.blocks.specs.Gathered.Laws.{far-none, far-reach}
 use Rattle.blocks.proofs.gather.far.Statement.{statement}
 use Rattle.blocks.proofs.gather.far.Tie as tie

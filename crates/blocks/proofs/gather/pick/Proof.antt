@@ -1,7 +1,6 @@
 use borrow.Author.Tests.{not-true, not-false}
 use native.Mathlib.Omega.{arith}
-use Prim.Native.Nat.{_<_}
-use mathlib.Core.Path.{_≡_, sym, _∙_}
+use mathlib.Core.Path.{sym, _∙_}
 use Rattle.stateset.specs.Set.{width}
 use Rattle.stateset.specs.Set.Laws.{in-lt, has-in}
 use Rattle.blocks.specs.Gathered.Laws.{pick-shut, pick-keeps, pick-lowers, pick-adds}

@@ -1,10 +1,7 @@
 use native.Mathlib.Omega.{arith}
-use Prim.Native.Nat.{_≤_, _<_, _-_, _+_, _*_, _^_}
+use Prim.Native.Nat.{_≤_, _-_, _+_, _*_}
 use mathlib.Core.Path.{_≡_, refl, _∙_}
 use mathlib.Core.Logic.{_⊎_, inl, inr}
-use borrow.Author.Needs.{needs}
-use lib.ListN.{length}
-use Rattle.stateset.specs.Set.{width}
 use Rattle.blocks.specs.Gathered.{Adding, Reach}
 use Rattle.blocks.specs.Gathered.Laws.{reach-none, reach-more, reach-past}
 use Rattle.blocks.proofs.gather.reach.Statement.{statement}

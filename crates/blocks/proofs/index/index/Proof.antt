@@ -1,5 +1,5 @@
 use native.Mathlib.Omega.{arith}
-use Prim.Native.Nat.{ℕ, _≤_, _<_, _-_, _+_, _*_}
+use Prim.Native.Nat.{_-_, _+_}
 use Rattle.fsbm.specs.Rules.{rules}
 use Rattle.blocks.specs.Stretches.Laws.{Built, keys-fit, built-start, built-turn, built-end}
 use Rattle.blocks.proofs.index.index.Statement.{statement}

@@ -1,6 +1,6 @@
 use lib.ListN.{getD}
 use native.Mathlib.Omega.{arith}
-use Prim.Native.Nat.{ℕ, _+_, _*_}
+use Prim.Native.Nat.{_+_, _*_}
 use Rattle.blocks.specs.Stretches.Laws.{product-fits}
 use borrow.Author.Needs.{needs}
 use Rattle.blocks.proofs.index.key.Statement.{statement}

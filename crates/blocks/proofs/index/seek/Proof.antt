@@ -1,5 +1,5 @@
 use native.Mathlib.Omega.{arith}
-use Prim.Native.Nat.{ℕ, _≤_, _<_, _-_, _+_, _*_}
+use Prim.Native.Nat.{ℕ, _≤_, _<_, _-_}
 use Rattle.blocks.specs.Stretches.{keyOf}
 use Rattle.blocks.specs.Stretches.Laws.{found-here, found-none, found-on}
 use Rattle.blocks.proofs.index.seek.Statement.{statement}

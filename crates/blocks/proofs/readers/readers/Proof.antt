@@ -1,6 +1,5 @@
 use native.Mathlib.Omega.{arith}
 use Prim.Native.Nat.{ℕ, _-_}
-use mathlib.Core.Path.{_≡_, refl}
 use lib.ListN.{length-replicate}
 use Rattle.fsbm.specs.Rules.{rules}
 use Rattle.adjacency.specs.Index.Laws.{zeros-at}

@@ -1,6 +1,5 @@
 use native.Mathlib.Omega.{arith}
-use Prim.Native.Nat.{ℕ, _+_, _*_, _≤_}
-use mathlib.Core.Path.{_≡_, sym, _∙_}
+use mathlib.Core.Path.{_∙_}
 use Rattle.blocks.specs.Works.Laws.{ready-stride, ready-from, ready-state, so-start}
 use Rattle.blocks.specs.Readers.Laws.{readers-cover, covers-from}
 use borrow.Author.Needs.{needs}

@@ -1,6 +1,5 @@
 use native.Mathlib.Omega.{arith}
-use Prim.Native.Nat.{ℕ, _+_, _*_, _≤_}
-use mathlib.Core.Path.{_≡_, refl, sym, _∙_}
+use mathlib.Core.Path.{refl, _∙_}
 use borrow.Author.Needs.{needs}
 use Rattle.blocks.specs.Works.Laws.{ready-stride, ready-next, ready-from, ready-state, ready-room, ready-letter, row-fits, group-fits, group-past, so-more}
 use Rattle.blocks.specs.Readers.Laws.{readers-cover}

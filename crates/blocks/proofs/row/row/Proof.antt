@@ -1,6 +1,5 @@
 use native.Mathlib.Omega.{arith}
-use Prim.Native.Nat.{ℕ, _+_, _*_, _≤_, _-_}
-use mathlib.Core.Path.{_≡_, refl, sym, _∙_}
+use Prim.Native.Nat.{_-_}
 use Rattle.blocks.specs.Numbers.Laws.{sized-after}
 use Rattle.blocks.specs.Works.Laws.{ready-stride, row-fits, row-leaves, row-done}
 use borrow.Author.Needs.{needs}

@@ -1,4 +1,4 @@
-use mathlib.Core.Path.{_≡_, sym, _∙_}
+use mathlib.Core.Path.{sym, _∙_}
 use Rattle.blocks.specs.Works.Laws.{storable-held, storable-free}
 use borrow.Author.Needs.{needs}
 use Rattle.blocks.proofs.row.storable.Statement.{statement}

@@ -1,5 +1,5 @@
 use Rattle.decide.proofs.SquareCases.{last-down}
-use Rattle.graphs.specs.Search.Laws.{not-both}
+use Rattle.basics.specs.Search.Laws.{not-both}
 use Rattle.decide.specs.Squares.{Ends}
 use Rattle.decide.specs.Reach.{Matches}
 use lib.ListN.{length}

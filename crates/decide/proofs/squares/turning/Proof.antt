@@ -1,4 +1,4 @@
-use Rattle.graphs.specs.Search.Laws.{not-both}
+use Rattle.basics.specs.Search.Laws.{not-both}
 use Rattle.images.proofs.SetCases.{members-is}
 use Rattle.decide.proofs.SquareCases.{turning-none, turning-some, turning-apart}
 use borrow.Author.Needs.{needs}

@@ -1,4 +1,4 @@
-use mathlib.Core.Path.{_≡_, refl, sym, ap, _∙_}
+use mathlib.Core.Path.{ap}
 use Rattle.exports.specs.Products.{joinedOf}
 use borrow.Author.Needs.{needs}
 use Rattle.exports.proofs.products.zagvirk_join.Statement.{statement}

@@ -1,4 +1,4 @@
-use mathlib.Core.Path.{_≡_, refl, sym, ap, _∙_}
+use mathlib.Core.Path.{sym, ap, _∙_}
 use Rattle.copies.specs.Copies.{copiedValues}
 use Rattle.copies.specs.declared.Copied.{Copied}
 use Rattle.exports.specs.Products.{copyListRecord}

@@ -1,6 +1,6 @@
 use mathlib.Core.Path.{refl}
 use borrow.Author.Tests.{eq-eqb, ne-eqb}
-use Rattle.graphs.specs.Search.Loops.{first, second}
+use Rattle.basics.specs.Search.Loops.{first, second}
 use Rattle.exports.proofs.run.mode_of.Statement.{statement}
 use Rattle.exports.proofs.run.mode_of.Tie as tie
 use Rattle.exports.proofs.run.mode_of.Reads as reads

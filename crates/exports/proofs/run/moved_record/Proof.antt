@@ -1,6 +1,6 @@
 use mathlib.Core.Path.{refl, ap}
 use borrow.Author.Tests.{lt-ltb, le-ltb}
-use Rattle.graphs.specs.Search.Loops.{first, second}
+use Rattle.basics.specs.Search.Loops.{first, second}
 use Rattle.exports.specs.declared.run.ConfigRecord.{ConfigRecord}
 use Rattle.exports.specs.declared.run.SteppedRecord.{SteppedRecord}
 use borrow.Author.Needs.{needs}

@@ -1,4 +1,4 @@
-use mathlib.Core.Path.{_≡_, refl, sym, ap, _∙_}
+use mathlib.Core.Path.{sym, ap, _∙_}
 use Rattle.fsbm.specs.Answers.{checkedValues}
 use Rattle.fsbm.specs.declared.answer.Checked.{Checked}
 use Rattle.exports.specs.Run.{checkedRecord}

@@ -1,7 +1,7 @@
-use mathlib.Core.Path.{_≡_, refl, sym, ap, _∙_}
+use mathlib.Core.Path.{sym, ap, _∙_}
 use Rattle.fsbm.specs.declared.config.Config.{Config}
 use Rattle.fsbm.specs.declared.answer.Stepped.{Stepped}
-use Rattle.fsbm.specs.Answers.{SteppedValues, steppedValues, stepValues}
+use Rattle.fsbm.specs.Answers.{steppedValues, stepValues}
 use Rattle.exports.specs.Run.{steppedRecord}
 use borrow.Author.Needs.{needs}
 use Rattle.exports.proofs.run.zagvirk_step.Statement.{statement}

@@ -1,6 +1,6 @@
 use mathlib.Core.Path.{refl}
 use borrow.Author.Tests.{le-leb, lt-leb}
-use Rattle.graphs.specs.Search.Loops.{pass, stop}
+use Rattle.basics.specs.Search.Loops.{pass, stop}
 use Rattle.fsbm.proofs.answer.good_letter.Statement.{statement}
 use Rattle.fsbm.proofs.answer.good_letter.Tie as tie
 use Rattle.fsbm.proofs.answer.good_letter.Reads as reads

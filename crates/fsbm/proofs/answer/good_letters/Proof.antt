@@ -4,8 +4,8 @@ use native.Mathlib.Omega.{arith}
 use lib.ListN.{length, drop}
 use borrow.Author.Needs.{needs}
 use borrow.Author.Tests.{not-true, not-false}
-use Rattle.graphs.specs.Search.{allIn}
-use Rattle.graphs.specs.Search.Loops.{in-fails, in-goes-on, in-done}
+use Rattle.basics.specs.Search.{allIn}
+use Rattle.basics.specs.Search.Loops.{in-fails, in-goes-on, in-done}
 use Rattle.fsbm.specs.Answers.{goodLetter}
 use Rattle.fsbm.proofs.answer.good_letters.Statement.{statement}
 use Rattle.fsbm.proofs.answer.good_letters.Tie as tie

@@ -1,4 +1,3 @@
-use native.Mathlib.Omega.{arith}
 use Rattle.fsbm.proofs.ConfigCases.{advanced-epsilon, advanced-letter}
 use Rattle.fsbm.proofs.config.advance.Statement.{statement}
 use Rattle.fsbm.proofs.config.advance.Tie as tie

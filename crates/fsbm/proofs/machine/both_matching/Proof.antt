@@ -1,6 +1,5 @@
-use Rattle.graphs.specs.Search.Loops.{pass, stop}
-use mathlib.Core.Path.{_≡_, sym, _∙_, ap}
-use mathlib.Core.Bool.{Bool, _&&_}
+use Rattle.basics.specs.Search.Loops.{pass, stop}
+use mathlib.Core.Path.{sym, _∙_}
 use Rattle.fsbm.specs.Machine.{matching}
 use borrow.Author.Needs.{needs}
 use Rattle.fsbm.proofs.machine.both_matching.Statement.{statement}

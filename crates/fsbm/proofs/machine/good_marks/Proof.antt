@@ -1,12 +1,12 @@
 use Prim.Native.Nat.{_≤_, _-_}
-use mathlib.Core.Path.{_≡_, refl, sym, _∙_}
+use mathlib.Core.Path.{_≡_, refl, _∙_}
 use mathlib.Core.Bool.{_&&_}
 use native.Mathlib.Omega.{arith}
 use lib.ListN.{getD}
 use lib.Dec.{leb}
 use borrow.Author.Needs.{needs}
-use Rattle.graphs.specs.Search.{allBelow}
-use Rattle.fsbm.specs.Machine.{goodMark, maxStates}
+use Rattle.basics.specs.Search.{allBelow}
+use Rattle.fsbm.specs.Machine.{goodMark}
 use Rattle.fsbm.proofs.MachineCases.{marked, marked-by, marks-none, marks-next, marks-large, marks-end, states-few}
 use Rattle.fsbm.proofs.machine.good_marks.Statement.{statement}
 use Rattle.fsbm.proofs.machine.good_marks.Tie as tie

@@ -1,10 +1,10 @@
 use Prim.Native.Nat.{ℕ, _+_, _≤_, _-_}
-use mathlib.Core.Path.{_≡_, refl, sym, ap, _∙_}
+use mathlib.Core.Path.{_≡_, refl, ap, _∙_}
 use mathlib.Core.Bool.{true}
 use native.Mathlib.Omega.{arith}
 use borrow.Author.Needs.{needs}
 use borrow.Author.Tests.{not-true, not-false}
-use Rattle.graphs.specs.Search.{allBelow}
+use Rattle.basics.specs.Search.{allBelow}
 use Rattle.fsbm.specs.Machine.{goodTransition}
 use Rattle.fsbm.proofs.MachineCases.{leastAt, least-next, transitions-unnamed, transitions-fall, transitions-next, transitions-none, transitions-done, rank-small}
 use Rattle.fsbm.proofs.machine.good_transitions.Statement.{statement}

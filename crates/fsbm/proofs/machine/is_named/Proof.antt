@@ -1,5 +1,4 @@
 use Rattle.fsbm.proofs.MachineCases.{named-from, named-letter, named-to}
-use borrow.Author.Tests.{lt-ltb, le-ltb, le-leb, lt-leb}
 use borrow.Author.Needs.{needs}
 use Rattle.fsbm.proofs.machine.is_named.Statement.{statement}
 use Rattle.fsbm.proofs.machine.is_named.Tie as tie

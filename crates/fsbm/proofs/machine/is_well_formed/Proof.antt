@@ -1,8 +1,8 @@
 use native.Mathlib.Omega.{arith}
-use mathlib.Core.Path.{_≡_, refl, sym, _∙_}
+use mathlib.Core.Path.{refl, sym, _∙_}
 use borrow.Author.Tests.{le-leb, lt-leb, not-true, not-false}
 use Rattle.fsbm.specs.Machine.{wellFormed}
-use Rattle.graphs.specs.Search.Loops.{pass, stop}
+use Rattle.basics.specs.Search.Loops.{pass, stop}
 use borrow.Author.Needs.{needs}
 use Rattle.fsbm.proofs.machine.is_well_formed.Statement.{statement}
 use Rattle.fsbm.proofs.machine.is_well_formed.Tie as tie

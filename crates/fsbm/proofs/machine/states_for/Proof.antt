@@ -1,6 +1,6 @@
 use mathlib.Core.Path.{refl}
 use borrow.Author.Tests.{eq-eqb, ne-eqb}
-use Rattle.graphs.specs.Search.Loops.{first, second}
+use Rattle.basics.specs.Search.Loops.{first, second}
 use borrow.Author.Needs.{needs}
 use Rattle.fsbm.proofs.machine.states_for.Statement.{statement}
 use Rattle.fsbm.proofs.machine.states_for.Tie as tie

@@ -1,6 +1,4 @@
 use Rattle.fsbm.proofs.MachineCases.{transition-past}
-use lib.ListN.{List·getD-eq-default}
-use native.Mathlib.Omega.{arith}
 use borrow.Author.Needs.{needs}
 use Rattle.fsbm.proofs.machine.transition_at.Statement.{statement}
 use Rattle.fsbm.proofs.machine.transition_at.Tie as tie

@@ -1,7 +1,7 @@
 use Rattle.fsbm.proofs.ConfigCases.{run-none, run-first, start-well-placed}
 use Rattle.fsbm.specs.Moves.{wellPlaced, acceptingFrom}
 use Rattle.fsbm.specs.declared.config.Config.{Config}
-use Rattle.graphs.specs.Search.Loops.{pass, stop}
+use Rattle.basics.specs.Search.Loops.{pass, stop}
 use borrow.Author.Tests.{lt-ltb, le-ltb, not-true, not-false}
 use lib.ListN.{length, take, drop}
 use mathlib.Core.Path.{sym, _∙_, ap}

@@ -1,7 +1,6 @@
 use Rattle.blocks.specs.Works.Laws.{ready-stride, ready-end, row-fits}
 use native.Mathlib.Omega.{arith}
-use Prim.Native.Nat.{ℕ, _+_, _*_, _≤_}
-use mathlib.Core.Path.{_≡_, refl, sym, _∙_}
+use mathlib.Core.Path.{sym, _∙_}
 use Rattle.pieces.specs.Blocks.Laws.{cost-inside}
 use Rattle.least.specs.Falls.Laws.{normal-none, normal-buffers, normal-past, normal-steps}
 use borrow.Author.Needs.{needs}

@@ -1,4 +1,4 @@
-use mathlib.Core.Path.{_≡_, sym, _∙_}
+use mathlib.Core.Path.{sym, _∙_}
 use Rattle.least.specs.Turns.Laws.{first-yes, first-no}
 use borrow.Author.Needs.{needs}
 use Rattle.least.proofs.turns.first.Statement.{statement}

@@ -1,8 +1,7 @@
-use Prim.Native.Nat.{ℕ, _≤_, _<_, _-_, _+_, _*_}
-use mathlib.Core.Path.{_≡_, refl, sym, ap, _∙_}
+use Prim.Native.Nat.{_≤_, _-_}
 use native.Mathlib.Omega.{arith}
 use native.Mathlib.Nat.{mul-le-mul}
-use lib.ListN.{length, getD}
+use lib.ListN.{getD}
 use Rattle.fsbm.specs.Rules.{rules}
 use Rattle.product.proofs.FaultCases.{letter-few, count-is}
 use borrow.Author.Needs.{needs}

@@ -1,11 +1,11 @@
 use Prim.Native.Nat.{_<_, _≤_}
 use Prim.Native.Nat.{ℕ}
-use mathlib.Core.Path.{_≡_, refl, sym, ap, _∙_}
+use mathlib.Core.Path.{_≡_, refl, sym, _∙_}
 use native.Mathlib.Omega.{arith}
 use native.Mathlib.Nat.{mul-le-mul}
 use borrow.Author.Tests.{not-true, not-false, eq-eqb, ne-eqb, le-leb, lt-leb}
 use Rattle.fsbm.specs.Rules.{rules}
-use Rattle.graphs.specs.Search.Loops.{first, second}
+use Rattle.basics.specs.Search.Loops.{first, second}
 use Rattle.product.specs.Product.{joinedCount, joinFault}
 use borrow.Author.Needs.{needs}
 use Rattle.product.proofs.fault.first_fault.Statement.{statement}

@@ -1,6 +1,6 @@
-use mathlib.Core.Path.{_≡_, refl, sym, ap, _∙_}
+use mathlib.Core.Path.{sym, _∙_}
 use borrow.Author.Tests.{not-true, not-false}
-use Rattle.graphs.specs.Search.Loops.{pass, stop}
+use Rattle.basics.specs.Search.Loops.{pass, stop}
 use Rattle.product.specs.Product.{plain}
 use borrow.Author.Needs.{needs}
 use Rattle.product.proofs.fault.is_plain.Statement.{statement}

@@ -1,6 +1,6 @@
-use mathlib.Core.Path.{_≡_, refl, sym, ap, _∙_}
-use mathlib.Core.Bool.{Bool, not}
-use Rattle.graphs.specs.Search.Loops.{pass, stop}
+use mathlib.Core.Path.{sym, ap, _∙_}
+use mathlib.Core.Bool.{not}
+use Rattle.basics.specs.Search.Loops.{pass, stop}
 use borrow.Author.Needs.{needs}
 use Rattle.product.proofs.fault.plain_state.Statement.{statement}
 use Rattle.product.proofs.fault.plain_state.Tie as tie

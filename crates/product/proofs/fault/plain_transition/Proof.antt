@@ -1,6 +1,5 @@
-use Prim.Native.Nat.{ℕ}
-use mathlib.Core.Path.{_≡_, refl, sym, ap, _∙_}
-use mathlib.Core.Bool.{Bool, not}
+use mathlib.Core.Path.{ap}
+use mathlib.Core.Bool.{not}
 use lib.Dec.{eqb}
 use Rattle.fsbm.specs.declared.machine.Transition.{Transition}
 use borrow.Author.Needs.{needs}

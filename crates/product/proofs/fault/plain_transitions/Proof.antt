@@ -1,9 +1,9 @@
-use mathlib.Core.Path.{_≡_, refl, sym, ap, _∙_}
+use mathlib.Core.Path.{_≡_, refl}
 use native.Mathlib.Omega.{arith}
 use borrow.Author.Needs.{needs}
 use borrow.Author.Tests.{not-true, not-false}
-use Rattle.graphs.specs.Search.{allBelow}
-use Rattle.graphs.specs.Search.Loops.{all-fails, all-goes-on, all-done}
+use Rattle.basics.specs.Search.{allBelow}
+use Rattle.basics.specs.Search.Loops.{all-fails, all-goes-on, all-done}
 use Rattle.product.specs.Product.{plainTransition}
 use Rattle.product.proofs.fault.plain_transitions.Statement.{statement}
 use Rattle.product.proofs.fault.plain_transitions.Tie as tie

@@ -1,8 +1,7 @@
-use Prim.Native.Nat.{ℕ, suc, _≤_, _<_, _-_, _+_, _*_}
-use mathlib.Core.Path.{_≡_, refl, sym, ap, _∙_}
+use Prim.Native.Nat.{suc, _≤_, _-_, _+_, _*_}
+use mathlib.Core.Path.{_≡_}
 use native.Mathlib.Omega.{arith}
-use lib.ListN.{length, getD}
-use borrow.Author.Needs.{needs}
+use lib.ListN.{getD}
 use Rattle.product.specs.Each.{sumOver}
 use Rattle.product.proofs.FaultCases.{product-small, products-start, products-next, products-end}
 use Rattle.product.proofs.fault.sum_products.Statement.{statement}

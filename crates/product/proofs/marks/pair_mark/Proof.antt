@@ -1,5 +1,5 @@
 use Prim.Native.Nat.{ℕ}
-use mathlib.Core.Path.{_≡_, refl, sym, ap, _∙_}
+use mathlib.Core.Path.{ap, _∙_}
 use mathlib.Core.Bool.{Bool, cond, _&&_}
 use Rattle.product.proofs.FaultCases.{pair-mark-is}
 use borrow.Author.Needs.{needs}

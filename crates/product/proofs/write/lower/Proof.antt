@@ -1,9 +1,8 @@
-use Prim.Native.Nat.{ℕ, _≤_, _<_, _-_, _+_}
-use mathlib.Core.Path.{_≡_, refl, sym, ap, _∙_}
+use Prim.Native.Nat.{ℕ, _≤_, _<_, _-_}
 use native.Mathlib.Omega.{arith}
 use borrow.Author.Needs.{needs}
 use borrow.Author.Count.{below-more}
-use Rattle.product.specs.Order.{letterKey, Lower}
+use Rattle.product.specs.Order.{letterKey}
 use Rattle.product.proofs.write.lower.Statement.{statement}
 use Rattle.product.proofs.write.lower.Tie as tie
 use Rattle.product.proofs.write.lower.Reads as reads

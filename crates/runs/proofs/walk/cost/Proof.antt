@@ -1,4 +1,3 @@
-use mathlib.Core.Path.{_≡_, refl, sym, ap, _∙_}
 use native.Mathlib.Omega.{arith}
 use Rattle.fsbm.specs.Rules.{placed}
 use Rattle.runs.specs.Walk.Laws.{best-normal, best-begun, best-past, best-buffering, best-emptying}

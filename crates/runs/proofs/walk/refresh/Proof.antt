@@ -2,9 +2,8 @@ use Rattle.runs.proofs.WalkCases.{refresh-kept, refresh-buffering, refr
 use Rattle.tables.specs.Tables.Laws.{empty-start}
 use Rattle.tables.specs.Tables.{EmptyRow}
 use native.Mathlib.Omega.{arith}
-use mathlib.Core.Path.{_≡_, refl, sym, ap, _∙_, subst}
-use Prim.Native.Nat.{ℕ, _≤_, _<_, _-_, _+_, _*_}
-use borrow.Author.Needs.{needs}
+use mathlib.Core.Path.{sym, subst}
+use Prim.Native.Nat.{_-_, _+_}
 use Rattle.runs.proofs.walk.refresh.Statement.{statement}
 use Rattle.runs.proofs.walk.refresh.Tie as tie
 use Rattle.runs.proofs.walk.refresh.Reads as reads

@@ -2,9 +2,8 @@ use Rattle.runs.proofs.WalkCases.{Passed, scan-start, scan-found, scan-
 use Rattle.fsbm.specs.Rules.{rules, placed}
 use borrow.Author.Needs.{needs}
 use native.Mathlib.Omega.{arith}
-use lib.ListN.{getD}
-use mathlib.Core.Path.{_≡_, refl, sym, ap, _∙_, subst}
-use Prim.Native.Nat.{ℕ, _≤_, _<_, _-_, _+_}
+use mathlib.Core.Path.{sym, subst}
+use Prim.Native.Nat.{_≤_, _-_, _+_}
 use Rattle.runs.proofs.walk.scan.Statement.{statement}
 use Rattle.runs.proofs.walk.scan.Tie as tie
 use Rattle.runs.proofs.walk.scan.Reads as reads

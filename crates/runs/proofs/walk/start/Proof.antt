@@ -1,4 +1,4 @@
-use Prim.Native.Nat.{ℕ, _≤_, _<_, _-_, _+_}
+use Prim.Native.Nat.{_≤_, _-_}
 use native.Mathlib.Omega.{arith}
 use Rattle.runs.specs.Walk.{Started}
 use Rattle.runs.proofs.WalkCases.{start-begin, start-end}

@@ -5,8 +5,8 @@ use Rattle.fsbm.specs.declared.config.Move.{Move}
 use lib.ListN.{length, length-set}
 use borrow.Author.Needs.{needs}
 use native.Mathlib.Omega.{arith}
-use mathlib.Core.Path.{_≡_, refl, sym, ap, _∙_, subst}
-use Prim.Native.Nat.{ℕ, _≤_, _<_, _-_, _+_, _*_}
+use mathlib.Core.Path.{_≡_, refl, ap, _∙_}
+use Prim.Native.Nat.{_-_}
 use Rattle.runs.proofs.walk.walk.Statement.{statement}
 use Rattle.runs.proofs.walk.walk.Tie as tie
 use Rattle.runs.proofs.walk.walk.Reads as reads

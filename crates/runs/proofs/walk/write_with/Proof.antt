@@ -2,7 +2,6 @@ use Rattle.runs.specs.Walk.Laws.{begun}
 use Rattle.fsbm.specs.Rules.{rules}
 use lib.ListN.{length}
 use native.Mathlib.Omega.{arith}
-use mathlib.Core.Path.{_≡_, refl, sym, ap, _∙_, subst}
 use borrow.Author.Needs.{needs}
 use Rattle.runs.proofs.walk.write_with.Statement.{statement}
 use Rattle.runs.proofs.walk.write_with.Tie as tie

@@ -1,6 +1,6 @@
 use Prim.Native.Nat.{_+_}
 use native.Mathlib.Omega.{arith}
-use mathlib.Core.Path.{_≡_, refl, sym, _∙_}
+use mathlib.Core.Path.{sym}
 use lib.Seq.{length-take-le}
 use Rattle.search.proofs.AnswerCases.{says-none, says-word, says-first, says-second, says-found, length-fits, entries-fit, writable}
 use borrow.Author.Needs.{needs}

@@ -1,7 +1,7 @@
-use Prim.Native.Nat.{_≤_, _<_, _+_, _-_, _*_}
-use mathlib.Core.Path.{_≡_, refl, sym, ap, _∙_}
+use Prim.Native.Nat.{_≤_, _-_}
+use mathlib.Core.Path.{_≡_, refl, sym, _∙_}
 use native.Mathlib.Omega.{arith}
-use lib.ListN.{length, getD, set, length-set}
+use lib.ListN.{length, set, length-set}
 use borrow.Author.Needs.{needs}
 use Rattle.sheet.proofs.FaultCases.{Held, held-none, held-next, line-short, line-column, line-end, line-good, header-line, header-counts, from-zero}
 use Rattle.sheet.proofs.faults.header_fault.Statement.{statement}

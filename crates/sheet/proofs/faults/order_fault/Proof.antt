@@ -1,9 +1,6 @@
 use Rattle.sheet.proofs.FaultCases.{order-falls}
-use mathlib.Core.Path.{refl, ap, _≡_}
-use mathlib.Core.Bool.{Bool}
 use borrow.Author.Tests.{not-true, not-false}
-use Rattle.sheet.specs.Reading.{asTransition, unless}
-use mathlib.Core.Path.{sym}
+use Rattle.sheet.specs.Reading.{asTransition}
 use Rattle.sheet.proofs.FaultCases.{order-unnamed, order-first, order-rises}
 use borrow.Author.Needs.{needs}
 use Rattle.sheet.proofs.faults.order_fault.Statement.{statement}

@@ -1,9 +1,8 @@
 use Rattle.sheet.proofs.ReadCases.{mark-there, mark-small, marks-none, marks-more, marks-done, states-few}
 use Rattle.sheet.specs.Reading.{marksOf, columnAt}
-use lib.ListN.{length}
 use native.Mathlib.Omega.{arith}
-use mathlib.Core.Path.{_≡_, refl, sym, ap, _∙_}
-use Prim.Native.Nat.{_≤_, _<_, _+_, _-_, _*_}
+use mathlib.Core.Path.{_≡_, refl}
+use Prim.Native.Nat.{_≤_, _+_, _-_, _*_}
 use Rattle.sheet.proofs.read.read_marks.Statement.{statement}
 use Rattle.sheet.proofs.read.read_marks.Tie as tie
 use Rattle.sheet.proofs.read.read_marks.Reads as reads

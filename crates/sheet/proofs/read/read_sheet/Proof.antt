@@ -1,8 +1,7 @@
 use Rattle.sheet.proofs.ReadCases.{header-there, header-short, transitions-few, refusal-fault, refusal-short, refusal-none, answer-refused, list-kept, answer-read, list-read}
 use lib.ListN.{length}
 use native.Mathlib.Omega.{arith}
-use mathlib.Core.Path.{_≡_, refl, sym, ap, _∙_}
-use Prim.Native.Nat.{ℕ}
+use mathlib.Core.Path.{_≡_, refl, sym, _∙_}
 use borrow.Author.Needs.{needs}
 use Rattle.sheet.proofs.read.read_sheet.Statement.{statement}
 use Rattle.sheet.proofs.read.read_sheet.Tie as tie

@@ -4,9 +4,9 @@ use Rattle.sheet.specs.Series.{eachBelow}
 use Rattle.columns.specs.Column.{put}
 use lib.ListN.{length, length-set}
 use native.Mathlib.Omega.{arith}
-use mathlib.Core.Path.{_≡_, refl, sym, ap, _∙_}
+use mathlib.Core.Path.{_≡_, refl}
 use Rattle.sheet.specs.Reading.{columnAt}
-use Prim.Native.Nat.{_≤_, _<_, _+_, _-_, _*_}
+use Prim.Native.Nat.{_≤_, _+_, _-_, _*_}
 use Rattle.sheet.proofs.read.read_transitions.Statement.{statement}
 use Rattle.sheet.proofs.read.read_transitions.Tie as tie
 use Rattle.sheet.proofs.read.read_transitions.Reads as reads

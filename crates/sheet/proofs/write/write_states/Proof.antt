@@ -5,8 +5,8 @@ use Rattle.columns.specs.Column.{put}
 use borrow.Author.Needs.{needs}
 use lib.ListN.{length}
 use native.Mathlib.Omega.{arith}
-use mathlib.Core.Path.{_≡_, refl, sym, ap, _∙_}
-use Prim.Native.Nat.{_≤_, _<_, _+_, _-_, _*_}
+use mathlib.Core.Path.{_≡_, refl, _∙_}
+use Prim.Native.Nat.{_≤_, _+_, _-_, _*_}
 use Rattle.sheet.proofs.write.write_states.Statement.{statement}
 use Rattle.sheet.proofs.write.write_states.Tie as tie
 use Rattle.sheet.proofs.write.write_states.Reads as reads

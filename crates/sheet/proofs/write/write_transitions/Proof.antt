@@ -2,11 +2,10 @@ use Rattle.sheet.proofs.WriteCases.{each-none, each-more, transition-pi
 use Rattle.sheet.specs.Format.{transitionLine}
 use Rattle.sheet.specs.Series.{eachBelow}
 use Rattle.columns.specs.Column.{put}
-use borrow.Author.Needs.{needs}
 use lib.ListN.{length}
 use native.Mathlib.Omega.{arith}
-use mathlib.Core.Path.{_≡_, refl, sym, ap, _∙_}
-use Prim.Native.Nat.{_≤_, _<_, _+_, _-_, _*_}
+use mathlib.Core.Path.{_≡_, refl, _∙_}
+use Prim.Native.Nat.{_≤_, _+_, _-_, _*_}
 use Rattle.sheet.proofs.write.write_transitions.Statement.{statement}
 use Rattle.sheet.proofs.write.write_transitions.Tie as tie
 use Rattle.sheet.proofs.write.write_transitions.Reads as reads

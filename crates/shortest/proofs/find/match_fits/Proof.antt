@@ -3,7 +3,7 @@ use mathlib.Core.Path.{sym, ap, _∙_}
 use native.Mathlib.Omega.{arith}
 use lib.Dec.{eqb}
 use borrow.Author.Tests.{eq-eqb, ne-eqb, not-true, not-false}
-use Rattle.graphs.specs.Search.Loops.{pass, stop}
+use Rattle.basics.specs.Search.Loops.{pass, stop}
 use Rattle.fsbm.specs.declared.machine.Transition.{Transition}
 use Rattle.shortest.proofs.FindCases.{match-is}
 use borrow.Author.Needs.{needs}

@@ -4,7 +4,7 @@ use mathlib.Core.Bool.{not}
 use native.Mathlib.Omega.{arith}
 use lib.Dec.{eqb}
 use borrow.Author.Tests.{eq-eqb, ne-eqb}
-use Rattle.graphs.specs.Search.Loops.{pass, stop}
+use Rattle.basics.specs.Search.Loops.{pass, stop}
 use Rattle.fsbm.specs.declared.machine.Transition.{Transition}
 use Rattle.shortest.proofs.FindCases.{store-is}
 use borrow.Author.Needs.{needs}

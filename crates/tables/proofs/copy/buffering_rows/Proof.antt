@@ -2,8 +2,8 @@ use Rattle.tables.proofs.CopyCases.{Buffered, buffer-rows-start, buffer
 use Rattle.fsbm.specs.Rules.{rules}
 use lib.ListN.{length}
 use native.Mathlib.Omega.{arith}
-use mathlib.Core.Path.{_≡_, refl, sym, ap, _∙_, subst}
-use Prim.Native.Nat.{ℕ, _≤_, _<_, _-_, _+_, _/_}
+use mathlib.Core.Path.{refl}
+use Prim.Native.Nat.{_-_, _+_}
 use borrow.Author.Needs.{needs}
 use Rattle.tables.proofs.copy.buffering_rows.Statement.{statement}
 use Rattle.tables.proofs.copy.buffering_rows.Tie as tie

@@ -2,7 +2,6 @@ use Rattle.tables.proofs.CopyCases.{change-unmatched, change-ended}
 use Rattle.fsbm.specs.Rules.{rules}
 use Prim.Native.Nat.{_+_}
 use native.Mathlib.Omega.{arith}
-use mathlib.Core.Path.{_≡_, refl, sym, ap, _∙_, subst}
 use borrow.Author.Needs.{needs}
 use Rattle.tables.proofs.copy.change_row.Statement.{statement}
 use Rattle.tables.proofs.copy.change_row.Tie as tie

@@ -1,8 +1,8 @@
 use lib.ListN.{length, length-set}
 use Rattle.tables.proofs.CopyCases.{Emptied, empty-rows-start, empty-rows-next, empty-rows-end}
 use native.Mathlib.Omega.{arith}
-use mathlib.Core.Path.{_≡_, refl, sym, ap, _∙_}
-use Prim.Native.Nat.{ℕ, _≤_, _<_, _-_, _+_}
+use mathlib.Core.Path.{refl, ap}
+use Prim.Native.Nat.{_-_, _+_}
 use borrow.Author.Needs.{needs}
 use Rattle.tables.proofs.copy.emptying_rows.Statement.{statement}
 use Rattle.tables.proofs.copy.emptying_rows.Tie as tie

@@ -2,7 +2,7 @@ use Rattle.tables.proofs.CopyCases.{ended-blank}
 use Rattle.tables.specs.Tables.Laws.{empty-start}
 use Rattle.tables.specs.Tables.{EmptyRow}
 use native.Mathlib.Omega.{arith}
-use mathlib.Core.Path.{_≡_, refl, sym, ap, _∙_, subst}
+use mathlib.Core.Path.{sym, subst}
 use borrow.Author.Needs.{needs}
 use Rattle.tables.proofs.copy.ended_row.Statement.{statement}
 use Rattle.tables.proofs.copy.ended_row.Tie as tie

@@ -5,7 +5,7 @@ use Rattle.fsbm.specs.Rules.{rules}
 use borrow.Author.Tests.{not-true, not-false}
 use Prim.Native.Nat.{_+_}
 use native.Mathlib.Omega.{arith}
-use mathlib.Core.Path.{_≡_, refl, sym, ap, _∙_, subst}
+use mathlib.Core.Path.{refl, sym, subst}
 use borrow.Author.Needs.{needs}
 use Rattle.tables.proofs.copy.fresh_change.Statement.{statement}
 use Rattle.tables.proofs.copy.fresh_change.Tie as tie

@@ -2,7 +2,6 @@ use Rattle.tables.proofs.CopyCases.{idle-unequal, idle-blank}
 use Prim.Native.Nat.{_+_}
 use native.Mathlib.Omega.{arith}
 use mathlib.Core.Bool.{false≢true}
-use mathlib.Core.Path.{_≡_, refl, sym, ap, _∙_}
 use borrow.Author.Needs.{needs}
 use Rattle.tables.proofs.copy.is_idle.Statement.{statement}
 use Rattle.tables.proofs.copy.is_idle.Tie as tie

@@ -1,5 +1,4 @@
-use native.Mathlib.Omega.{arith}
-use mathlib.Core.Path.{_≡_, refl, sym, ap, _∙_}
+use mathlib.Core.Path.{refl}
 use Rattle.tables.proofs.CopyCases.{keep-live, keep-dead}
 use borrow.Author.Needs.{needs}
 use Rattle.tables.proofs.copy.keep.Statement.{statement}

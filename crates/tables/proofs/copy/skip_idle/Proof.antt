@@ -1,12 +1,11 @@
 use Rattle.tables.proofs.CopyCases.{skip-start, skip-more}
 use Rattle.tables.specs.Tables.{Skipped}
 use Rattle.tables.specs.Halves.{SharedFrom}
-use borrow.Author.Tests.{not-true, not-false}
+use borrow.Author.Tests.{not-false}
 use lib.ListN.{length}
 use native.Mathlib.Omega.{arith}
 use mathlib.Core.List.{List}
-use mathlib.Core.Path.{_≡_, refl, sym, ap, _∙_}
-use Prim.Native.Nat.{ℕ, _≤_, _<_, _-_, _+_}
+use Prim.Native.Nat.{ℕ, _≤_, _-_, _+_}
 use Rattle.tables.proofs.copy.skip_idle.Statement.{statement}
 use Rattle.tables.proofs.copy.skip_idle.Tie as tie
 use Rattle.tables.proofs.copy.skip_idle.Reads as reads

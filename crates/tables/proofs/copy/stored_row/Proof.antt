@@ -1,8 +1,6 @@
 use borrow.Author.Tests.{not-true}
 use Rattle.fsbm.specs.Rules.{rules}
-use Rattle.tables.specs.declared.copy.Layer.{Layer}
 use Rattle.tables.proofs.CopyCases.{stored-both, stored-none}
-use borrow.Author.Needs.{needs}
 use Rattle.tables.proofs.copy.stored_row.Statement.{statement}
 use Rattle.tables.proofs.copy.stored_row.Tie as tie
 use Rattle.tables.proofs.copy.stored_row.Reads as reads

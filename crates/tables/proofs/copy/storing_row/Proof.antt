@@ -1,10 +1,10 @@
 use Rattle.tables.proofs.CopyCases.{Storing, storing-start, storing-skip, storing-next, storing-end}
 use Rattle.fsbm.specs.Rules.{rules}
-use borrow.Author.Tests.{not-true, not-false}
+use borrow.Author.Tests.{not-true}
 use lib.ListN.{length}
 use native.Mathlib.Omega.{arith}
-use mathlib.Core.Path.{_≡_, refl, sym, ap, _∙_, subst}
-use Prim.Native.Nat.{ℕ, _≤_, _<_, _-_, _+_, _/_}
+use mathlib.Core.Path.{_≡_, refl, _∙_}
+use Prim.Native.Nat.{_-_, _+_}
 use borrow.Author.Needs.{needs}
 use Rattle.tables.proofs.copy.storing_row.Statement.{statement}
 use Rattle.tables.proofs.copy.storing_row.Tie as tie

@@ -1,9 +1,9 @@
 use Rattle.tables.proofs.CopyCases.{Winding, wound-next, wound-dead, wound-whole}
 use Rattle.fsbm.specs.Rules.{rules}
-use borrow.Author.Tests.{not-true, not-false}
+use borrow.Author.Tests.{not-true}
 use Prim.Native.Nat.{_+_, _-_}
 use native.Mathlib.Omega.{arith}
-use mathlib.Core.Path.{_≡_, refl, sym, ap, _∙_}
+use mathlib.Core.Path.{refl}
 use borrow.Author.Needs.{needs}
 use Rattle.tables.proofs.copy.wind.Statement.{statement}
 use Rattle.tables.proofs.copy.wind.Tie as tie

@@ -1,8 +1,8 @@
 use borrow.Author.Needs.{needs}
 use Rattle.tables.proofs.HalvesCases.{Counted, counted-start, counted-next, counted-room, counted-end}
 use native.Mathlib.Omega.{arith}
-use mathlib.Core.Path.{_≡_, refl, sym, ap, _∙_}
-use Prim.Native.Nat.{ℕ, _≤_, _<_, _-_, _+_}
+use mathlib.Core.Path.{refl}
+use Prim.Native.Nat.{_-_}
 use Rattle.tables.proofs.halves.count_shared.Statement.{statement}
 use Rattle.tables.proofs.halves.count_shared.Tie as tie
 use Rattle.tables.proofs.halves.count_shared.Reads as reads

@@ -1,6 +1,5 @@
 use Rattle.tables.specs.Halves.Laws.{shared-more, shared-none}
 use native.Mathlib.Omega.{arith}
-use mathlib.Core.Path.{_≡_, refl, sym, ap, _∙_}
 use borrow.Author.Needs.{needs}
 use Rattle.tables.proofs.halves.longer.Statement.{statement}
 use Rattle.tables.proofs.halves.longer.Tie as tie

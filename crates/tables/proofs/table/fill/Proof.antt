@@ -3,8 +3,8 @@ use Rattle.tables.specs.Halves.Laws.{shared-end}
 use Rattle.tables.specs.Tables.{Filling}
 use lib.ListN.{length}
 use native.Mathlib.Omega.{arith}
-use mathlib.Core.Path.{_≡_, refl, sym, ap, _∙_, subst}
-use Prim.Native.Nat.{ℕ, _+_, _-_, _≤_}
+use mathlib.Core.Path.{_≡_, refl, _∙_}
+use Prim.Native.Nat.{_-_, _≤_}
 use Rattle.tables.proofs.table.fill.Statement.{statement}
 use Rattle.tables.proofs.table.fill.Tie as tie
 use Rattle.tables.proofs.table.fill.Reads as reads

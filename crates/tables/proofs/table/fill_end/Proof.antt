@@ -4,7 +4,7 @@ use Rattle.fsbm.specs.Rules.{rules}
 use lib.ListN.{length}
 use Prim.Native.Nat.{ℕ, _+_, _≤_}
 use native.Mathlib.Omega.{arith}
-use mathlib.Core.Path.{_≡_, refl, sym, ap, _∙_}
+use mathlib.Core.Path.{refl}
 use borrow.Author.Needs.{needs}
 use Rattle.tables.proofs.table.fill_end.Statement.{statement}
 use Rattle.tables.proofs.table.fill_end.Tie as tie

@@ -1,12 +1,10 @@
-use Rattle.layers.specs.Layers.{blankRow}
-use Rattle.layers.specs.declared.layer.Place.{Place}
 use Rattle.tables.proofs.FillCases.{filling-placed, blank-best, onward-best, begins-some, unreached-best, unreached-none}
 use Rattle.tables.specs.Tables.Laws.{place-before}
 use Rattle.fsbm.specs.Rules.{rules}
 use native.Mathlib.Omega.{arith}
-use mathlib.Core.Bool.{false, false≢true}
-use mathlib.Core.Path.{_≡_, refl, sym, ap, _∙_, subst}
-use Prim.Native.Nat.{ℕ, _+_, _≤_}
+use mathlib.Core.Bool.{false≢true}
+use mathlib.Core.Path.{refl}
+use Prim.Native.Nat.{_+_}
 use borrow.Author.Needs.{needs}
 use Rattle.tables.proofs.table.fill_place.Statement.{statement}
 use Rattle.tables.proofs.table.fill_place.Tie as tie

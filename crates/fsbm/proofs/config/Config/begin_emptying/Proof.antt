@@ -1,8 +1,8 @@
-use mathlib.Core.Path.{_≡_, refl, sym, ap, _∙_}
+use mathlib.Core.Path.{sym, _∙_}
 use borrow.Author.Tests.{eq-eqb, ne-eqb, not-true, not-false}
 use Rattle.fsbm.specs.Moves.{changes}
 use Rattle.fsbm.proofs.ConfigCases.{goes-not, goes-yes}
-use Rattle.graphs.specs.Search.Loops.{pass, stop}
+use Rattle.basics.specs.Search.Loops.{pass, stop}
 use borrow.Author.Needs.{needs}
 use Rattle.fsbm.proofs.config.Config.begin_emptying.Statement.{statement}
 use Rattle.fsbm.proofs.config.Config.begin_emptying.Tie as tie

@@ -1,5 +1,4 @@
-use mathlib.Core.Path.{_≡_, sym, ap}
-use mathlib.Core.Bool.{Bool}
+use mathlib.Core.Path.{sym, ap}
 use Rattle.fsbm.specs.declared.config.Mode.{Mode}
 use Rattle.fsbm.specs.Moves.{bufferFits}
 use borrow.Author.Needs.{needs}

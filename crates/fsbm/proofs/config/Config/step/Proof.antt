@@ -1,6 +1,6 @@
-use mathlib.Core.Path.{_≡_, refl, sym, _∙_, ap}
+use mathlib.Core.Path.{refl, _∙_}
 use Rattle.fsbm.proofs.AnswerCases.{step-refused, step-moved, step-says}
-use Rattle.graphs.specs.Search.Loops.{first, second}
+use Rattle.basics.specs.Search.Loops.{first, second}
 use borrow.Author.Needs.{needs}
 use Rattle.fsbm.proofs.config.Config.step.Statement.{statement}
 use Rattle.fsbm.proofs.config.Config.step.Tie as tie

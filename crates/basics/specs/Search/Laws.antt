@@ -1,4 +1,4 @@
--- The laws of specs/Search.antt, each test both ways: what `≡ true` says and what `≡ false` says. Assumes nothing.
+-- The laws of specs/Search.antt: what `≡ true` and `≡ false` say of each test. Assumes nothing.
 --
 -- or-true, or-false, and-true, and-false          == what a Bool `||`, `&&` that is true, false says of its parts
 -- or-true-left, or-true-right, or-both-false,
@@ -8,8 +8,8 @@
 -- anyBelow-true, anyBelow-false                   == some k < n has p; every k < n fails p
 -- allBelow-true, allBelow-false                   == every k < n has p; some k < n fails p
 -- anyIn-true, anyIn-false, allIn-true, allIn-false == the same for the elements of a list (List·Memᴰ)
--- AllBelow-head, AllBelow-tail, AllBelow-mem      == the parts of AllBelow; each element is below
--- existsList-true, existsList-false               == some such list has p; every such list fails p
+-- AllBelow-head, AllBelow-tail                    == the parts of AllBelow
+-- existsList-true                                 == some such list has p
 use mathlib.Core.Path.{_≡_, refl, sym, _∙_}
 use mathlib.Core.Logic.{_↔_, _⊎_, inl, inr}
 use mathlib.Core.Bool.{Bool, true, false, _||_, _&&_, false≢true, true≢false}
@@ -18,7 +18,7 @@ use Prim.Native.Nat.{ℕ, zero, suc, _<_, _≤_}
 use native.Mathlib.Omega.{arith}
 use native.Mathlib.Decide.{ℕ-discrete}
 use lib.ListN.{length}
-use Rattle.graphs.specs.Search.{anyBelow, allBelow, anyIn, allIn, AllBelow, none, more, existsList}
+use Rattle.basics.specs.Search.{anyBelow, allBelow, anyIn, allIn, AllBelow, none, more, existsList}
 
 -- Bools
 
@@ -221,10 +221,6 @@ AllBelow-head (more h b) = h
 pub AllBelow-tail : {n x : ℕ} {l : List ℕ} → AllBelow n (x ∷ l) → AllBelow n l
 AllBelow-tail (more h b) = b
 
-pub AllBelow-mem : {n k : ℕ} {l : List ℕ} → AllBelow n l → List·Memᴰ k l → k < n
-AllBelow-mem b (List·Memᴰ·head d) = let h = AllBelow-head b in omega arith
-AllBelow-mem b (List·Memᴰ·tail m) = AllBelow-mem (AllBelow-tail b) m
-
 module _ (n : ℕ) where
   existsList-to : (len : ℕ) (p : List ℕ → Bool) → existsList n len p ≡ true → (l : List ℕ) × (length l ≤ len) × AllBelow n l × (p l ≡ true)
   unfolding existsList
@@ -252,17 +248,3 @@ module _ (n : ℕ) where
 
   pub existsList-true : (len : ℕ) (p : List ℕ → Bool) → (existsList n len p ≡ true) ↔ ((l : List ℕ) × (length l ≤ len) × AllBelow n l × (p l ≡ true))
   existsList-true len p = (existsList-to len p, λ s. existsList-of len p (s .0) (s .1) (s .2) (s .3))
-
-  pub existsList-false : (len : ℕ) (p : List ℕ → Bool) → (existsList n len p ≡ false) ↔ ((l : List ℕ) → length l ≤ len → AllBelow n l → p l ≡ false)
-  existsList-false len p = (each, λ h. back h (true-or-false (existsList n len p)))
-    where
-      each : existsList n len p ≡ false → (l : List ℕ) → length l ≤ len → AllBelow n l → p l ≡ false
-      each e l s b = at (true-or-false (p l))
-        where
-          at : (p l ≡ true) ⊎ (p l ≡ false) → p l ≡ false
-          at (inl t) = absurd (not-both (existsList-of len p l s b t) e)
-          at (inr f) = f
-
-      back : ((l : List ℕ) → length l ≤ len → AllBelow n l → p l ≡ false) → (existsList n len p ≡ true) ⊎ (existsList n len p ≡ false) → existsList n len p ≡ false
-      back h (inl t) = let (l, s, b, pl) = existsList-to len p t in absurd (not-both pl (h l s b))
-      back h (inr f) = f

@@ -7,14 +7,14 @@
 -- in-fails, in-goes-on, in-done == a loop that goes up through a list: it meets an element that fails, goes on, ends
 -- allIn-from      == the test of a list from place i on is the test at i and the test from i + 1 on
 use Prim.Native.Nat.{ℕ, zero, suc, _+_, _-_, _<_, _≤_}
-use mathlib.Core.Path.{_≡_, refl, sym, ap, _∙_}
+use mathlib.Core.Path.{_≡_, sym, ap, _∙_}
 use mathlib.Core.Bool.{Bool, true, false, cond, _&&_}
-use mathlib.Core.List.{List, [], _∷_}
+use mathlib.Core.List.{List}
 use native.Mathlib.Numerals.{add-one, sub-one}
 use native.Mathlib.Omega.{arith}
 use lib.ListN.{length, getD, drop, drop-of-length-le}
 use lib.Seq.{drop-cons}
-use Rattle.graphs.specs.Search.{allBelow, allIn}
+use Rattle.basics.specs.Search.{allBelow, allIn}
 
 pub pass : {a b c : Bool} → a ≡ true → c ≡ b → c ≡ (a && b)
 pass {a} {b} h e = e ∙ ap (λ (z : Bool). z && b) (sym h)

@@ -8,7 +8,7 @@
 use mathlib.Core.Path.{_≡_, refl, sym}
 use mathlib.Core.Logic.{_↔_}
 use mathlib.Core.Bool.{Bool, true, false, cond, not, _&&_, false≢true}
-use Rattle.graphs.specs.Search.Laws.{and-true, and-both-true, not-both}
+use Rattle.basics.specs.Search.Laws.{and-true, and-both-true, not-both}
 
 pub cond-elim : {A : Type 0} (P : A → Type 0) (b : Bool) (x y : A) → (b ≡ true → P x) → (b ≡ false → P y) → P (cond b x y)
 cond-elim P true x y t f = t refl

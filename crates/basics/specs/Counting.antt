@@ -11,8 +11,8 @@ use Prim.Native.Nat.{ℕ, zero, suc, _<_, _≤_}
 use native.Mathlib.Omega.{arith}
 use native.Mathlib.Decide.{ℕ-discrete}
 use lib.ListN.{length}
-use Rattle.graphs.specs.Search.{AllBelow, none, more}
-use Rattle.graphs.specs.Search.Laws.{AllBelow-head, AllBelow-tail}
+use Rattle.basics.specs.Search.{AllBelow, none, more}
+use Rattle.basics.specs.Search.Laws.{AllBelow-head, AllBelow-tail}
 
 pub data Distinct : List ℕ → Type 0 where
   empty : Distinct []

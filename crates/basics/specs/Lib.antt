@@ -1,0 +1,4 @@
+pub mod Bools
+pub mod Lists
+pub mod Search
+pub mod Counting
