@@ -2,7 +2,6 @@
 --
 -- goes-not, goes-yes == a move whose test fails, and one whose test holds
 -- reads-epsilon, reads-past, reads-outside, reads-here == the ways through a test of the next letter
--- takes-parts        == a transition taken, from its parts
 -- after-normal, after-buffering, after-emptying == the configuration after it
 -- ranges             == the numbers of a configuration that a move is allowed from
 -- move-unplaced, move-change, move-not-taken, move-taken == the ways through one entry
@@ -27,10 +26,9 @@ use Rattle.fsbm.specs.declared.machine.Transition.{Transition}
 use Rattle.fsbm.specs.Machine.{bothMatching, buffering}
 use Rattle.fsbm.specs.declared.machine.Machine.{Machine}
 use Rattle.fsbm.specs.Machine.{initial, transitionAt, wellFormed}
-use Rattle.fsbm.specs.Moves.{wellPlaced, readsLetter, advanced, goes, takes, changes, move, startAt, accepts, acceptingFrom, accepting}
+use Rattle.fsbm.specs.Moves.{wellPlaced, readsLetter, advanced, mayTake, after, goes, changes, move, startAt, accepts, acceptingFrom, accepting}
 use Rattle.fsbm.specs.Moves.Laws.{start-placed, move-placed}
 use Rattle.fsbm.specs.Rules.{placed, unplaced}
-use Rattle.fsbm.specs.Taken.{passes, readsStored, mayTake, after}
 use Rattle.basics.specs.Search.Loops.{pass, stop, first, second}
 
 pub goes-not : {ok : Bool} (next : Config) {c : Config} {r : Move} → r ≡ goes false c c → false ≡ ok → r ≡ goes ok next c
@@ -61,31 +59,6 @@ advanced-epsilon p x h = simp (eq-eqb _ _ h)
 
 pub advanced-letter : (p x : ℕ) → (x ≡ 0 → ⊥) → p + 1 ≡ advanced p x
 advanced-letter p x h = simp (ne-eqb _ _ h)
-
--- a test in the order of its parts
-regroup : (a b r : Bool) → (a && (b && r)) ≡ ((a && b) && (r && true))
-regroup true true true = refl
-regroup true true false = refl
-regroup true false r = refl
-regroup false b r = refl
-
-after-test : (b ok : Bool) (next c : Config) → goes (b && ok) next c ≡ cond b (goes ok next c) (goes false c c)
-after-test true ok next c = refl
-after-test false ok next c = refl
-
-module _ (marks w : List ℕ) (c : Config) (t : Transition) where
-  abbrev parts : Mode → Bool
-  parts mode = passes marks t mode && (readsLetter w (c .position) (length w) (t .letter) && readsStored w c t mode)
-
-  takes-parts : (mode : Mode) → goes (parts mode) (after c t mode) c ≡ takes marks w c t mode
-  unfolding takes passes readsStored after
-  takes-parts Normal =
-      sym (ap (λ (b : Bool). goes b (after c t Normal) c)
-      (regroup (not (bothMatching marks t)) (not (buffering marks (t .from))) (readsLetter w (c .position) (length w) (t .letter))))
-  takes-parts Buffering =
-      sym (ap (λ (b : Bool). goes b (after c t Buffering) c)
-      (regroup (not (bothMatching marks t)) (not (buffering marks (t .to))) (readsLetter w (c .position) (length w) (t .letter))))
-  takes-parts Emptying = refl
 
 -- the configuration after a transition: p, s and e are the position, the start and the end of the buffer as the code computes them
 module _ (c : Config) (t : Transition) (p : ℕ) (at-p : p ≡ advanced (c .position) (t .letter)) where
@@ -126,14 +99,11 @@ module _ (m : Machine) (states transitions : ℕ) (marks : List ℕ) (same-state
       (second _ (ap (λ (z : ℕ). ltb e z) same-transitions ∙ le-ltb e transitions l) (ap (λ (z : List ℕ). changes z c e (c .mode)) (sym same-marks)))
 
   move-parts : wellPlaced states (length w) c ≡ true → e < transitions → (t : Transition) → t ≡ transitionAt list e → goes (mayTake marks w c t) (after c t (c .mode)) c ≡ move m list w c e
-  unfolding move mayTake
+  unfolding move
   move-parts h l t at-t =
       first _ (at-states true h)
       (first _ (ap (λ (z : ℕ). ltb e z) same-transitions ∙ lt-ltb e transitions l)
-      (after-test (eqb (t .from) (c .state)) (parts marks w c t (c .mode)) (after c t (c .mode)) c
-      ∙ (ap (λ (z : Move). cond (eqb (t .from) (c .state)) z (goes false c c)) (takes-parts marks w c t (c .mode))
-      ∙ (ap (λ (z : List ℕ). cond (eqb (t .from) (c .state)) (takes z w c t (c .mode)) (goes false c c)) (sym same-marks)
-      ∙ ap (λ (z : Transition). cond (eqb (z .from) (c .state)) (takes (m .marks) w c z (c .mode)) (goes false c c)) at-t))))
+      (ap (λ (z : List ℕ). goes (mayTake z w c t) (after c t (c .mode)) c) (sym same-marks) ∙ ap (λ (z : Transition). goes (mayTake (m .marks) w c z) (after c z (c .mode)) c) at-t))
 
   pub move-not-taken : wellPlaced states (length w) c ≡ true → e < transitions → (t : Transition) → t ≡ transitionAt list e → mayTake marks w c t ≡ false → goes false c c ≡ move m list w c e
   move-not-taken h l t at-t f = ap (λ (b : Bool). goes b (after c t (c .mode)) c) (sym f) ∙ move-parts h l t at-t

@@ -5,4 +5,3 @@ pub mod Machine
 pub mod Moves
 pub mod Published
 pub mod Rules
-pub mod Taken

@@ -4,6 +4,10 @@
 -- wellPlaced states n c   == c is a configuration that a move is allowed from, on a word of n letters
 -- readsLetter w p e x    == x is epsilon, or the letter of w at p, with p before e
 -- advanced p x           == the position after p once x is read
+-- mayTake marks w c t    == transition t leaves the state of c and may be taken there
+-- after c t mode         == the configuration after it
+-- mayChange marks c e mode == entry e changes the mode, and may do so
+-- changed c mode         == the configuration after that
 -- move m list w c e      == the configuration after entry e, or c and "not allowed"
 -- acceptingFrom m list w c es == the entries es lead from c to an accepting configuration
 -- accepting m list w run == the written run accepts the word w
@@ -50,50 +54,54 @@ readsLetter w p e x = eqb x 0 || (ltb p e && eqb (getD w p 0) x)
 abbrev pub advanced : ℕ → ℕ → ℕ
 advanced p x = cond (eqb x 0) p (p + 1)
 
+-- the marks at its ends let a transition be taken in a mode
+unfoldable pub passes : List ℕ → Transition → Mode → Bool
+passes marks t Normal = not (bothMatching marks t) && not (buffering marks (t .from))
+passes marks t Buffering = not (bothMatching marks t) && not (buffering marks (t .to))
+passes marks t Emptying = bothMatching marks t
+
+-- while matching, its letter is also the next one of the buffer
+unfoldable pub readsStored : List ℕ → Config → Transition → Mode → Bool
+readsStored w c t Normal = true
+readsStored w c t Buffering = true
+readsStored w c t Emptying = readsLetter w (c .start) (c .end) (t .letter)
+
+unfoldable pub mayTake : List ℕ → List ℕ → Config → Transition → Bool
+mayTake marks w c t =
+    eqb (t .from) (c .state)
+    && (passes marks t (c .mode) && (readsLetter w (c .position) (length w) (t .letter) && readsStored w c t (c .mode)))
+
+-- storing appends the letter to the buffer, matching takes it from the front
+unfoldable pub after : Config → Transition → Mode → Config
+after c t Normal = record { position = advanced (c .position) (t .letter); state = t .to; mode = Normal; start = c .start; end = c .end }
+after c t Buffering = record { position = advanced (c .position) (t .letter); state = t .to; mode = Buffering; start = c .start; end = advanced (c .end) (t .letter) }
+after c t Emptying = record { position = advanced (c .position) (t .letter); state = t .to; mode = Emptying; start = advanced (c .start) (t .letter); end = c .end }
+
+-- the changes of mode, each at a state of its kind: normal begins storing with an empty buffer at the position, storing begins
+-- matching, matching with an empty buffer goes back to normal
+abbrev pub mayChange : List ℕ → Config → ℕ → Mode → Bool
+mayChange marks c e Normal = eqb e beginBuffering && (buffering marks (c .state) && eqb (c .start) (c .end))
+mayChange marks c e Buffering = eqb e beginEmptying && matching marks (c .state)
+mayChange marks c e Emptying = eqb e backToNormal && (matching marks (c .state) && eqb (c .start) (c .end))
+
+abbrev pub changed : Config → Mode → Config
+changed c Normal = record { position = c .position; state = c .state; mode = Buffering; start = c .position; end = c .position }
+changed c Buffering = record { position = c .position; state = c .state; mode = Emptying; start = c .start; end = c .end }
+changed c Emptying = record { position = c .position; state = c .state; mode = Normal; start = c .start; end = c .end }
+
 -- the next configuration where the test holds, else the old one and "not allowed"
 abbrev pub goes : Bool → Config → Config → Move
 goes ok next old = record { allowed = ok; config = cond ok next old }
 
--- the three ways to take a transition from the configuration's state, by the mode
-unfoldable pub takes : List ℕ → List ℕ → Config → Transition → Mode → Move
-takes marks w c t Normal =
-    goes
-    (not (bothMatching marks t) && (not (buffering marks (t .from)) && readsLetter w (c .position) (length w) (t .letter)))
-    (record { position = advanced (c .position) (t .letter); state = t .to; mode = Normal; start = c .start; end = c .end })
-    c
-takes marks w c t Buffering =
-    goes
-    (not (bothMatching marks t) && (not (buffering marks (t .to)) && readsLetter w (c .position) (length w) (t .letter)))
-    (record { position = advanced (c .position) (t .letter); state = t .to; mode = Buffering; start = c .start; end = advanced (c .end) (t .letter) })
-    c
-takes marks w c t Emptying =
-    goes
-    (bothMatching marks t && (readsLetter w (c .position) (length w) (t .letter) && readsLetter w (c .start) (c .end) (t .letter)))
-    (record { position = advanced (c .position) (t .letter); state = t .to; mode = Emptying; start = advanced (c .start) (t .letter); end = c .end })
-    c
-
--- the changes of mode, each at a state of its kind: normal begins storing with an empty buffer at the position, storing begins
--- matching, matching with an empty buffer goes back to normal
 unfoldable pub changes : List ℕ → Config → ℕ → Mode → Move
-changes marks c e Normal =
-    goes (eqb e beginBuffering && (buffering marks (c .state) && eqb (c .start) (c .end)))
-    (record { position = c .position; state = c .state; mode = Buffering; start = c .position; end = c .position })
-    c
-changes marks c e Buffering =
-    goes (eqb e beginEmptying && matching marks (c .state))
-    (record { position = c .position; state = c .state; mode = Emptying; start = c .start; end = c .end })
-    c
-changes marks c e Emptying =
-    goes (eqb e backToNormal && (matching marks (c .state) && eqb (c .start) (c .end)))
-    (record { position = c .position; state = c .state; mode = Normal; start = c .start; end = c .end })
-    c
+changes marks c e t = goes (mayChange marks c e t) (changed c t) c
 
--- one entry: a transition number whose transition leaves the configuration's state, or a change of mode
+-- one entry: the number of a transition, or a change of mode
 unfoldable pub move : Machine → List ℕ → List ℕ → Config → ℕ → Move
 move m list w c e =
     cond (wellPlaced (m .states) (length w) c)
     (cond (ltb e (m .transitions))
-    (cond (eqb (transitionAt list e .from) (c .state)) (takes (m .marks) w c (transitionAt list e) (c .mode)) (goes false c c))
+    (goes (mayTake (m .marks) w c (transitionAt list e)) (after c (transitionAt list e) (c .mode)) c)
     (changes (m .marks) c e (c .mode)))
     (goes false c c)
 

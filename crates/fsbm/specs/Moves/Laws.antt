@@ -4,21 +4,24 @@
 -- advanced-suc         == a letter that is read moves the position on by one
 -- advanced-fits        == the position after the letter: not before the old one, nor past the end
 -- start-placed         == a run starts at a configuration that a move is allowed from
+-- Took                 == what mayTake says of a transition, part by part
+-- move-elim            == an allowed move takes a transition or changes the mode: what holds after both holds after it
+-- move-takes, move-changes == the move by the number of a transition, and by any other entry
 -- move-stays           == an allowed move of a machine that obeys the rules leads to a configuration that a move is allowed from
 -- move-placed          == the same, with the tests
 use Prim.Native.Nat.{ℕ, zero, suc, _≤_, _<_}
 use mathlib.Core.Path.{_≡_, refl, ap}
-use mathlib.Core.Bool.{Bool, true, false, cond, not, _&&_, false≢true}
+use mathlib.Core.Bool.{Bool, true, false, cond, _&&_, false≢true}
 use mathlib.Core.List.{List}
 use native.Mathlib.Omega.{arith}
 use native.Mathlib.Numerals.{add-one}
 use lib.ListN.{length, getD}
 use lib.Dec.{ltb, eqb, eqb·suc-zero}
-use borrow.Author.Tests.{ltb-true, eqb-true, eq-eqb}
-use Rattle.basics.specs.Search.Laws.{and-true}
+use borrow.Author.Tests.{ltb-true, ltb-false, lt-ltb, le-ltb, eqb-true, eq-eqb}
+use Rattle.basics.specs.Search.Laws.{and-true, and-both-true}
 use Rattle.basics.specs.Bools.{cond-elim}
-use Rattle.fsbm.specs.Machine.{wellFormed, transitionAt, buffering, matching, bothMatching}
-use Rattle.fsbm.specs.Moves.{wellPlaced, readsLetter, advanced, goes, takes, changes, move, startAt, beginBuffering, beginEmptying, backToNormal}
+use Rattle.fsbm.specs.Machine.{wellFormed, transitionAt, matching}
+use Rattle.fsbm.specs.Moves.{wellPlaced, readsLetter, advanced, passes, readsStored, mayTake, after, mayChange, changed, goes, changes, move, startAt, backToNormal}
 use Rattle.fsbm.specs.Rules.{Rules, rules, Placed, placed, unplaced}
 use Rattle.fsbm.specs.declared.machine.Machine.{Machine}
 use Rattle.fsbm.specs.declared.machine.Transition.{Transition}
@@ -47,84 +50,101 @@ module _ (m : Machine) (w : List ℕ) where
   pub start-placed : (q : ℕ) → q < m .states → Placed m w (startAt q) Normal
   start-placed q lt = record { in-word = omega arith; state-below = lt; forward = omega arith; behind = omega arith; fits = refl }
 
-  -- the configuration that a move goes to where its test holds
-  goes-stays : (c : Config) (ok : Bool) (next : Config) → (ok ≡ true → Placed m w next (next .mode)) → ok ≡ true → Placed m w (cond ok next c) (cond ok next c .mode)
-  goes-stays c true next h e = h e
-  goes-stays c false next h e = absurd (false≢true e)
+  after-stays : (c : Config) (tr : Transition) (t : Mode) → Placed m w c t → tr .to < m .states → readsLetter w (c .position) (length w) (tr .letter) ≡ true
+      → readsStored w c tr t ≡ true → Placed m w (after c tr t) (after c tr t .mode)
+  unfolding after readsStored
+  after-stays c tr Normal p to reads stored =
+      let (on, inside) = advanced-fits w (c .position) (length w) (tr .letter) (p .in-word) reads in
+      record { in-word = inside; state-below = to; forward = p .forward; behind = omega (arith, p .behind); fits = p .fits }
+  after-stays c tr Buffering p to reads stored =
+      let (on, inside) = advanced-fits w (c .position) (length w) (tr .letter) (p .in-word) reads in
+      let ends : c .end ≡ c .position = eqb-true (c .end) (c .position) (p .fits) in
+      let next : advanced (c .end) (tr .letter) ≡ advanced (c .position) (tr .letter) = ap (λ (n : ℕ). advanced n (tr .letter)) ends in
+      record {
+        in-word = inside;
+        state-below = to;
+        forward = omega (arith, p .forward);
+        behind = omega arith;
+        fits = eq-eqb (advanced (c .end) (tr .letter)) (advanced (c .position) (tr .letter)) next;
+      }
+  after-stays c tr Emptying p to reads stored =
+      let (on, inside) = advanced-fits w (c .position) (length w) (tr .letter) (p .in-word) reads in
+      let (on₂, inside₂) = advanced-fits w (c .start) (c .end) (tr .letter) (p .forward) stored in
+      record { in-word = inside; state-below = to; forward = inside₂; behind = omega (arith, p .behind); fits = refl }
 
-  takes-stays : (c : Config) (tr : Transition) (t : Mode) → Placed m w c t → tr .to < m .states → takes (m .marks) w c tr t .allowed ≡ true
-      → Placed m w (takes (m .marks) w c tr t .config) (takes (m .marks) w c tr t .config .mode)
-  unfolding takes
-  takes-stays c tr Normal p to = goes-stays c _ _ stays
-    where
-      stays : (not (bothMatching (m .marks) tr) && (not (buffering (m .marks) (tr .from)) && readsLetter w (c .position) (length w) (tr .letter))) ≡ true
-          → Placed m w (record { position = advanced (c .position) (tr .letter); state = tr .to; mode = Normal; start = c .start; end = c .end }) Normal
-      stays h =
-          let r = and-true (not (bothMatching (m .marks) tr)) (not (buffering (m .marks) (tr .from)) && readsLetter w (c .position) (length w) (tr .letter)) h .1 in
-          let reads = and-true (not (buffering (m .marks) (tr .from))) (readsLetter w (c .position) (length w) (tr .letter)) r .1 in
-          let (on, inside) = advanced-fits w (c .position) (length w) (tr .letter) (p .in-word) reads in
-          record { in-word = inside; state-below = to; forward = p .forward; behind = omega (arith, p .behind); fits = p .fits }
-  takes-stays c tr Buffering p to = goes-stays c _ _ stays
-    where
-      stays : (not (bothMatching (m .marks) tr) && (not (buffering (m .marks) (tr .to)) && readsLetter w (c .position) (length w) (tr .letter))) ≡ true
-          → Placed m w (record { position = advanced (c .position) (tr .letter); state = tr .to; mode = Buffering; start = c .start; end = advanced (c .end) (tr .letter) }) Buffering
-      stays h =
-          let r = and-true (not (bothMatching (m .marks) tr)) (not (buffering (m .marks) (tr .to)) && readsLetter w (c .position) (length w) (tr .letter)) h .1 in
-          let reads = and-true (not (buffering (m .marks) (tr .to))) (readsLetter w (c .position) (length w) (tr .letter)) r .1 in
-          let (on, inside) = advanced-fits w (c .position) (length w) (tr .letter) (p .in-word) reads in
-          let ends : c .end ≡ c .position = eqb-true (c .end) (c .position) (p .fits) in
-          let next : advanced (c .end) (tr .letter) ≡ advanced (c .position) (tr .letter) = ap (λ (n : ℕ). advanced n (tr .letter)) ends in
-          record {
-            in-word = inside;
-            state-below = to;
-            forward = omega (arith, p .forward);
-            behind = omega arith;
-            fits = eq-eqb (advanced (c .end) (tr .letter)) (advanced (c .position) (tr .letter)) next;
-          }
-  takes-stays c tr Emptying p to = goes-stays c _ _ stays
-    where
-      stays : (bothMatching (m .marks) tr && (readsLetter w (c .position) (length w) (tr .letter) && readsLetter w (c .start) (c .end) (tr .letter))) ≡ true
-          → Placed m w (record { position = advanced (c .position) (tr .letter); state = tr .to; mode = Emptying; start = advanced (c .start) (tr .letter); end = c .end }) Emptying
-      stays h =
-          let r = and-true (bothMatching (m .marks) tr) (readsLetter w (c .position) (length w) (tr .letter) && readsLetter w (c .start) (c .end) (tr .letter)) h .1 in
-          let (reads, matches) = and-true (readsLetter w (c .position) (length w) (tr .letter)) (readsLetter w (c .start) (c .end) (tr .letter)) r in
-          let (on, inside) = advanced-fits w (c .position) (length w) (tr .letter) (p .in-word) reads in
-          let (on₂, inside₂) = advanced-fits w (c .start) (c .end) (tr .letter) (p .forward) matches in
-          record { in-word = inside; state-below = to; forward = inside₂; behind = omega (arith, p .behind); fits = refl }
-
-  changes-stays : (c : Config) (e : ℕ) (t : Mode) → Placed m w c t → changes (m .marks) c e t .allowed ≡ true
-      → Placed m w (changes (m .marks) c e t .config) (changes (m .marks) c e t .config .mode)
-  unfolding changes
-  changes-stays c e Normal p =
-      goes-stays c (eqb e beginBuffering && (buffering (m .marks) (c .state) && eqb (c .start) (c .end)))
-      (record { position = c .position; state = c .state; mode = Buffering; start = c .position; end = c .position })
-      (λ h. record { in-word = p .in-word; state-below = p .state-below; forward = omega arith; behind = omega arith; fits = eq-eqb (c .position) (c .position) refl })
-  changes-stays c e Buffering p =
-      goes-stays c (eqb e beginEmptying && matching (m .marks) (c .state))
-      (record { position = c .position; state = c .state; mode = Emptying; start = c .start; end = c .end })
-      (λ h. record { in-word = p .in-word; state-below = p .state-below; forward = p .forward; behind = p .behind; fits = refl })
-  changes-stays c e Emptying p =
-      goes-stays c (eqb e backToNormal && (matching (m .marks) (c .state) && eqb (c .start) (c .end)))
-      (record { position = c .position; state = c .state; mode = Normal; start = c .start; end = c .end })
-      (λ h.
+  changed-stays : (c : Config) (e : ℕ) (t : Mode) → Placed m w c t → mayChange (m .marks) c e t ≡ true → Placed m w (changed c t) (changed c t .mode)
+  changed-stays c e Normal p h =
+      record { in-word = p .in-word; state-below = p .state-below; forward = omega arith; behind = omega arith; fits = eq-eqb (c .position) (c .position) refl }
+  changed-stays c e Buffering p h = record { in-word = p .in-word; state-below = p .state-below; forward = p .forward; behind = p .behind; fits = refl }
+  changed-stays c e Emptying p h =
       let r = and-true (eqb e backToNormal) (matching (m .marks) (c .state) && eqb (c .start) (c .end)) h .1 in
       let equal = and-true (matching (m .marks) (c .state)) (eqb (c .start) (c .end)) r .1 in
-      record { in-word = p .in-word; state-below = p .state-below; forward = p .forward; behind = p .behind; fits = equal })
+      record { in-word = p .in-word; state-below = p .state-below; forward = p .forward; behind = p .behind; fits = equal }
 
-module _ (m : Machine) (list w : List ℕ) where
-  pub move-stays : Rules m list → (c : Config) (e : ℕ) → move m list w c e .allowed ≡ true → Placed m w (move m list w c e .config) (move m list w c e .config .mode)
-  unfolding move
-  move-stays r c e =
+-- A transition that is taken
+
+pub record Took (marks w : List ℕ) (c : Config) (tr : Transition) (t : Mode) : Type 0 where
+  pub leaves : tr .from ≡ c .state
+  pub passed : passes marks tr t ≡ true
+  pub reads : readsLetter w (c .position) (length w) (tr .letter) ≡ true
+  pub stored : readsStored w c tr t ≡ true
+
+module _ (marks w : List ℕ) (c : Config) (tr : Transition) where
+  pub may-take-says : mayTake marks w c tr ≡ true → Took marks w c tr (c .mode)
+  unfolding mayTake
+  may-take-says h =
+      let (same, r) = and-true (eqb (tr .from) (c .state)) _ h in
+      let (passed, r₂) = and-true (passes marks tr (c .mode)) _ r in
+      let (reads, stored) = and-true (readsLetter w (c .position) (length w) (tr .letter)) (readsStored w c tr (c .mode)) r₂ in
+      record { leaves = eqb-true (tr .from) (c .state) same; passed = passed; reads = reads; stored = stored }
+
+  pub says-may-take : Took marks w c tr (c .mode) → mayTake marks w c tr ≡ true
+  unfolding mayTake
+  says-may-take t =
+      and-both-true (eqb (tr .from) (c .state)) _ (eq-eqb (tr .from) (c .state) (t .leaves))
+      (and-both-true (passes marks tr (c .mode)) _ (t .passed) (and-both-true (readsLetter w (c .position) (length w) (tr .letter)) (readsStored w c tr (c .mode)) (t .reads) (t .stored)))
+
+-- The two ways of an allowed move, and the way back
+
+module _ (m : Machine) (list w : List ℕ) (c : Config) (e : ℕ) where
+  goes-elim : (P : Config → Type 0) (ok : Bool) (next : Config) → (ok ≡ true → P next) → ok ≡ true → P (cond ok next c)
+  goes-elim P true next h t = h t
+  goes-elim P false next h t = absurd (false≢true t)
+
+  pub move-elim : (P : Config → Type 0)
+      → (Placed m w c (c .mode) → e < m .transitions → Took (m .marks) w c (transitionAt list e) (c .mode) → P (after c (transitionAt list e) (c .mode)))
+      → (Placed m w c (c .mode) → m .transitions ≤ e → mayChange (m .marks) c e (c .mode) ≡ true → P (changed c (c .mode))) → move m list w c e .allowed ≡ true → P (move m list w c e .config)
+  unfolding move changes
+  move-elim P takes changes =
       cond-elim Good (wellPlaced (m .states) (length w) c) _ (goes false c c)
-      (λ p. cond-elim Good (ltb e (m .transitions)) _ (changes (m .marks) c e (c .mode))
-      (λ lt. cond-elim Good (eqb (transitionAt list e .from) (c .state)) (takes (m .marks) w c (transitionAt list e) (c .mode)) (goes false c c)
-      (λ same. takes-stays m w c (transitionAt list e) (c .mode) (placed m w c p) (r .to-below e (ltb-true e (m .transitions) lt)))
-      (λ f h. absurd (false≢true h)))
-      (λ ge. changes-stays m w c e (c .mode) (placed m w c p)))
+      (λ p. cond-elim Good (ltb e (m .transitions)) _ _
+      (λ lt. goes-elim P _ _ (λ h. takes (placed m w c p) (ltb-true e (m .transitions) lt) (may-take-says (m .marks) w c (transitionAt list e) h)))
+      (λ ge. goes-elim P _ _ (changes (placed m w c p) (ltb-false e (m .transitions) ge))))
       (λ f h. absurd (false≢true h))
     where
       Good : Move → Type 0
-      Good v = v .allowed ≡ true → Placed m w (v .config) (v .config .mode)
+      Good v = v .allowed ≡ true → P (v .config)
+
+  pub move-takes : Placed m w c (c .mode) → e < m .transitions → move m list w c e ≡ goes (mayTake (m .marks) w c (transitionAt list e)) (after c (transitionAt list e) (c .mode)) c
+  unfolding move
+  move-takes p lt =
+      let in-place = unplaced m w c p in
+      let lower = lt-ltb e (m .transitions) lt in
+      rw (in-place, lower)
+
+  pub move-changes : Placed m w c (c .mode) → m .transitions ≤ e → move m list w c e ≡ goes (mayChange (m .marks) c e (c .mode)) (changed c (c .mode)) c
+  unfolding move changes
+  move-changes p ge =
+      let in-place = unplaced m w c p in
+      let above = le-ltb e (m .transitions) ge in
+      rw (in-place, above)
+
+module _ (m : Machine) (list w : List ℕ) where
+  pub move-stays : Rules m list → (c : Config) (e : ℕ) → move m list w c e .allowed ≡ true → Placed m w (move m list w c e .config) (move m list w c e .config .mode)
+  move-stays r c e =
+      move-elim m list w c e (λ d. Placed m w d (d .mode))
+      (λ p lt t. after-stays m w c (transitionAt list e) (c .mode) p (r .to-below e lt) (t .reads) (t .stored))
+      (λ p ge h. changed-stays m w c e (c .mode) p h)
 
   pub move-placed : wellFormed m list ≡ true → (c : Config) (e : ℕ) → move m list w c e .allowed ≡ true → wellPlaced (m .states) (length w) (move m list w c e .config) ≡ true
   move-placed good c e h = unplaced m w (move m list w c e .config) (move-stays (rules m list good) c e h)

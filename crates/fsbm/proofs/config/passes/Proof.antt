@@ -1,4 +1,4 @@
-use Rattle.fsbm.specs.Taken.{passes}
+use Rattle.fsbm.specs.Moves.{passes}
 use Rattle.fsbm.specs.declared.config.Mode.{Mode}
 use Rattle.fsbm.specs.Machine.{buffering}
 use mathlib.Core.Bool.{Bool, not, _&&_}

@@ -1,5 +1,5 @@
 use Rattle.fsbm.proofs.ConfigCases.{after-normal, after-buffering, after-emptying}
-use Rattle.fsbm.specs.Taken.{after}
+use Rattle.fsbm.specs.Moves.{after}
 use Rattle.fsbm.specs.declared.config.Mode.{Mode}
 use mathlib.Core.Path.{sym, _∙_, ap}
 use borrow.Author.Needs.{needs}

@@ -1,4 +1,4 @@
-use Rattle.fsbm.specs.Taken.{mayTake}
+use Rattle.fsbm.specs.Moves.{mayTake}
 use Rattle.basics.specs.Search.Loops.{pass, stop}
 use borrow.Author.Tests.{not-true, not-false, eq-eqb, ne-eqb}
 use mathlib.Core.Path.{sym, _∙_}

@@ -1,4 +1,4 @@
-use Rattle.fsbm.specs.Taken.{readsStored}
+use Rattle.fsbm.specs.Moves.{readsStored}
 use Rattle.fsbm.specs.declared.config.Mode.{Mode}
 use mathlib.Core.Path.{sym, _∙_, ap}
 use borrow.Author.Needs.{needs}
