@@ -17,7 +17,7 @@ use lib.ListN.{length, getD}
 use lib.Dec.{ltb, eqb}
 use Rattle.basics.specs.Search.{anyBelow, allBelow}
 use Rattle.fsbm.specs.Machine.{wellFormed}
-use Rattle.fsbm.specs.Moves.{wellPlaced, readsLetter, takes, changes, move, accepts, acceptingFrom, accepting}
+use Rattle.fsbm.specs.Moves.{wellPlaced, readsLetter, passes, readsStored, mayTake, after, changes, move, accepts, acceptingFrom, accepting}
 use Rattle.fsbm.specs.Accepted.{runBound}
 use Rattle.fsbm.specs.declared.machine.Machine.{Machine}
 use Rattle.language.specs.Examples.{machine, doubling, doublingList}
@@ -92,7 +92,7 @@ module _ (m₁ : Machine) (l₁ : List ℕ) (m₂ : Machine) (l₂ : List ℕ) w
   hasNone m list = joins m₁ l₁ m₂ l₂ (m .states) list && (sameMachine m (joinedMachine m₁ l₁ m₂ l₂) && noCopyWord m list)
 
   unfoldable pub hasShortest : List ℕ → List ℕ → List ℕ → ℕ → Bool
-  unfolding joinFault wellFormed allBelow plain joinedCount letterCount sumOver accepting acceptingFrom accepts move wellPlaced takes changes readsLetter noneShorter decided
+  unfolding joinFault wellFormed allBelow plain joinedCount letterCount sumOver accepting acceptingFrom accepts move wellPlaced passes readsStored mayTake after changes readsLetter noneShorter decided
   hasShortest w run₁ run₂ short =
       eqb (joinFault m₁ l₁ m₂ l₂) 0
       && (accepting m₁ l₁ w run₁

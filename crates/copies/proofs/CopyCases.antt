@@ -28,12 +28,12 @@ use Rattle.fsbm.specs.Answers.{tableAndWord, refusal}
 use Rattle.fsbm.specs.declared.machine.Machine.{Machine}
 use Rattle.fsbm.specs.declared.config.Config.{Config}
 use Rattle.fsbm.specs.declared.config.Move.{Move}
-use Rattle.fsbm.specs.Rules.{placed}
+use Rattle.fsbm.specs.Moves.Laws.{move-from}
 use Rattle.fsbm.specs.declared.answer.Refusal.{Refusal}
 use Rattle.copies.specs.declared.Copied.{Copied}
 use Rattle.copies.specs.declared.Copied.the-variants.{Refused, Listed}
 use Rattle.copies.specs.Copies.{Copy, copyAt, copiesFrom, copiesOf, pairs, totalStored, longestCopied, copiesNeed, copiesRefusal, copiesAnswer, copiesAfter, copiedValues, copiesValues}
-use Rattle.copies.specs.Copies.Laws.{move-from, total-fits}
+use Rattle.copies.specs.Copies.Laws.{total-fits}
 
 pub marksIn : List ℕ → ℕ
 marksIn [] = 0
@@ -229,7 +229,7 @@ module _ (m : Machine) (list w run : List ℕ) where
 
         pub copy-room : CopyRoom
         copy-room =
-            let p = placed m w c (move-from m list w c (getD run i 0) (goes-on .0)) in
+            let p = move-from m list w c (getD run i 0) (goes-on .0) in
             let size : length (pairs (copiesOf m list w run)) - k ≡ suc (suc (length (pairs (copiesFrom m list w (v .config) (drop (i + 1) run)))))
             = sym (length-drop k (pairs (copiesOf m list w run))) ∙ ap length left-now in
             let whole = total-fits m list w run (r .good) (r .accepts) in

@@ -28,8 +28,8 @@ use Rattle.basics.specs.Search.{AllBelow, none, more}
 use Rattle.basics.specs.Search.Laws.{and-true, and-both-true}
 use Rattle.graphs.specs.Paths.{Path, here, step}
 use Rattle.fsbm.specs.Machine.{wellFormed, transitionAt, initial, final, buffering, matching, bothMatching}
-use Rattle.fsbm.specs.Moves.{wellPlaced, readsLetter, advanced, goes, takes, changes, move, startAt, isNormal, accepts, acceptingFrom, accepting, beginBuffering, beginEmptying, backToNormal}
-use Rattle.fsbm.specs.Moves.Laws.{start-placed, move-stays}
+use Rattle.fsbm.specs.Moves.{wellPlaced, readsLetter, readsStored, after, mayChange, changed, goes, move, startAt, isNormal, accepts, acceptingFrom, accepting, beginBuffering, beginEmptying, backToNormal}
+use Rattle.fsbm.specs.Moves.Laws.{start-placed, passes-normal, passes-buffering, passes-emptying, listed-normal, listed-buffering, listed-emptying, Took, says-may-take, move-elim, move-takes, move-changes, move-stays}
 use Rattle.fsbm.specs.Published.{Listed, fsbmOf, Configuration, config, symbol, Yields, normal, buffer, empty, begin-buffering, begin-emptying, back-to-normal, Run, done, InLanguage}
 use Rattle.fsbm.specs.Entries.{entryOf, entriesOf, WrittenRun}
 use Rattle.fsbm.specs.declared.machine.Machine.{Machine}
@@ -38,7 +38,6 @@ use Rattle.fsbm.specs.declared.config.Config.{Config}
 use Rattle.fsbm.specs.declared.config.Move.{Move}
 use Rattle.fsbm.specs.declared.config.Mode.{Mode}
 use Rattle.fsbm.specs.declared.config.Mode.the-variants.{Normal, Buffering, Emptying}
-use Rattle.basics.specs.Bools.{cond-elim, not-says, says-not, not-and-says, says-not-and}
 use Rattle.fsbm.specs.Rules.{Rules, rules, Placed, placed, unplaced}
 use Rattle.language.specs.Strings.{reads-slice, slice-reads, reads-drop, drop-reads, slice-grows, slice-none}
 
@@ -58,95 +57,53 @@ abbrev Step : Machine → List ℕ → List ℕ → Config → Mode → ℕ → 
 Step m list w c t e c′ = Named m list e (config (drop (c .position) w) (c .state) (slice (c .start) (c .end) w) t) (published w c′)
 
 module _ (m : Machine) (list w : List ℕ) where
-  goes-step : (c : Config) (t : Mode) (e : ℕ) (ok : Bool) (next : Config) → (ok ≡ true → Step m list w c t e next) → ok ≡ true → Step m list w c t e (cond ok next c)
-  goes-step c t e true next h z = h z
-  goes-step c t e false next h z = absurd (false≢true z)
+  after-step : (c : Config) (tr : Transition) (t : Mode) → Placed m w c t → (δ : Listed list (m .transitions) (tr .from) (tr .letter) (tr .to)) → Took (m .marks) w c tr t
+      → Step m list w c t (δ .number) (after c tr t)
+  unfolding readsStored after entryOf
+  after-step c tr Normal p δ took =
+      let (apart, not-from) = passes-normal (m .marks) tr .0 (took .passed) in
+      let none : slice (c .start) (c .end) w ≡ [] = ap (λ (n : ℕ). slice n (c .end) w) (eqb-true (c .start) (c .end) (p .fits)) ∙ slice-empty (c .end) w in
+      subst₂ (Named m list (δ .number))
+      (same-config (sym (reads-drop w (c .position) (tr .letter) (took .reads))) (took .leaves) (sym none) refl)
+      (same-config refl refl (sym none) refl)
+      (normal δ apart not-from, refl)
+  after-step c tr Buffering p δ took =
+      let (apart, not-to) = passes-buffering (m .marks) tr .0 (took .passed) in
+      let ends : c .end ≡ c .position = eqb-true (c .end) (c .position) (p .fits) in
+      let reads-end : readsLetter w (c .end) (length w) (tr .letter) ≡ true = subst (λ (n : ℕ). readsLetter w n (length w) (tr .letter) ≡ true) (sym ends) (took .reads) in
+      subst₂ (Named m list (δ .number))
+      (same-config (sym (reads-drop w (c .position) (tr .letter) (took .reads))) (took .leaves) refl refl)
+      (same-config refl refl (sym (slice-grows w (c .start) (c .end) (tr .letter) (p .forward) reads-end)) refl)
+      (buffer δ apart not-to, refl)
+  after-step c tr Emptying p δ took =
+      let (from, to) = passes-emptying (m .marks) tr .0 (took .passed) in
+      subst₂ (Named m list (δ .number))
+      (same-config (sym (reads-drop w (c .position) (tr .letter) (took .reads))) (took .leaves)
+      (sym (reads-slice w (c .start) (c .end) (tr .letter) (omega (arith, p .behind, p .in-word)) (took .stored))) refl)
+      refl
+      (empty δ from to, refl)
 
-  takes-step : (c : Config) (tr : Transition) (t : Mode) → Placed m w c t → (δ : Listed list (m .transitions) (tr .from) (tr .letter) (tr .to)) → tr .from ≡ c .state
-      → takes (m .marks) w c tr t .allowed ≡ true → Step m list w c t (δ .number) (takes (m .marks) w c tr t .config)
-  unfolding takes entryOf
-  takes-step c tr Normal p δ same = goes-step c Normal (δ .number) _ _ step
-    where
-      step : (not (bothMatching (m .marks) tr) && (not (buffering (m .marks) (tr .from)) && readsLetter w (c .position) (length w) (tr .letter))) ≡ true
-          → Step m list w c Normal (δ .number) (record { position = advanced (c .position) (tr .letter); state = tr .to; mode = Normal; start = c .start; end = c .end })
-      step h =
-          let (apart, r) = and-true (not (bothMatching (m .marks) tr)) (not (buffering (m .marks) (tr .from)) && readsLetter w (c .position) (length w) (tr .letter)) h in
-          let (not-from, reads) = and-true (not (buffering (m .marks) (tr .from))) (readsLetter w (c .position) (length w) (tr .letter)) r in
-          let none : slice (c .start) (c .end) w ≡ [] = ap (λ (n : ℕ). slice n (c .end) w) (eqb-true (c .start) (c .end) (p .fits)) ∙ slice-empty (c .end) w in
-          subst₂ (Named m list (δ .number))
-          (same-config (sym (reads-drop w (c .position) (tr .letter) reads)) same (sym none) refl)
-          (same-config refl refl (sym none) refl)
-          (normal δ (not-and-says (matching (m .marks) (tr .from)) (matching (m .marks) (tr .to)) apart) (not-says (buffering (m .marks) (tr .from)) not-from), refl)
-  takes-step c tr Buffering p δ same = goes-step c Buffering (δ .number) _ _ step
-    where
-      step : (not (bothMatching (m .marks) tr) && (not (buffering (m .marks) (tr .to)) && readsLetter w (c .position) (length w) (tr .letter))) ≡ true
-          → Step m list w c Buffering (δ .number) (record { position = advanced (c .position) (tr .letter); state = tr .to; mode = Buffering; start = c .start; end = advanced (c .end) (tr .letter) })
-      step h =
-          let (apart, r) = and-true (not (bothMatching (m .marks) tr)) (not (buffering (m .marks) (tr .to)) && readsLetter w (c .position) (length w) (tr .letter)) h in
-          let (not-to, reads) = and-true (not (buffering (m .marks) (tr .to))) (readsLetter w (c .position) (length w) (tr .letter)) r in
-          let ends : c .end ≡ c .position = eqb-true (c .end) (c .position) (p .fits) in
-          let reads-end : readsLetter w (c .end) (length w) (tr .letter) ≡ true = subst (λ (n : ℕ). readsLetter w n (length w) (tr .letter) ≡ true) (sym ends) reads in
-          subst₂ (Named m list (δ .number))
-          (same-config (sym (reads-drop w (c .position) (tr .letter) reads)) same refl refl)
-          (same-config refl refl (sym (slice-grows w (c .start) (c .end) (tr .letter) (p .forward) reads-end)) refl)
-          (buffer δ (not-and-says (matching (m .marks) (tr .from)) (matching (m .marks) (tr .to)) apart) (not-says (buffering (m .marks) (tr .to)) not-to), refl)
-  takes-step c tr Emptying p δ same = goes-step c Emptying (δ .number) _ _ step
-    where
-      step : (bothMatching (m .marks) tr && (readsLetter w (c .position) (length w) (tr .letter) && readsLetter w (c .start) (c .end) (tr .letter))) ≡ true
-          → Step m list w c Emptying (δ .number) (record { position = advanced (c .position) (tr .letter); state = tr .to; mode = Emptying; start = advanced (c .start) (tr .letter); end = c .end })
-      step h =
-          let (both, r) = and-true (bothMatching (m .marks) tr) (readsLetter w (c .position) (length w) (tr .letter) && readsLetter w (c .start) (c .end) (tr .letter)) h in
-          let (reads, matches) = and-true (readsLetter w (c .position) (length w) (tr .letter)) (readsLetter w (c .start) (c .end) (tr .letter)) r in
-          let (from, to) = and-true (matching (m .marks) (tr .from)) (matching (m .marks) (tr .to)) both in
-          subst₂ (Named m list (δ .number))
-          (same-config (sym (reads-drop w (c .position) (tr .letter) reads)) same
-          (sym (reads-slice w (c .start) (c .end) (tr .letter) (omega (arith, p .behind, p .in-word)) matches)) refl)
-          refl
-          (empty δ from to, refl)
-
-  changes-step : (c : Config) (e : ℕ) (t : Mode) → changes (m .marks) c e t .allowed ≡ true → Step m list w c t e (changes (m .marks) c e t .config)
-  unfolding changes entryOf
-  changes-step c e Normal = goes-step c Normal e _ _ step
-    where
-      step : (eqb e beginBuffering && (buffering (m .marks) (c .state) && eqb (c .start) (c .end))) ≡ true
-          → Step m list w c Normal e (record { position = c .position; state = c .state; mode = Buffering; start = c .position; end = c .position })
-      step h =
-          let (entry, r) = and-true (eqb e beginBuffering) (buffering (m .marks) (c .state) && eqb (c .start) (c .end)) h in
-          let (is, equal) = and-true (buffering (m .marks) (c .state)) (eqb (c .start) (c .end)) r in
-          let none : slice (c .start) (c .end) w ≡ [] = ap (λ (n : ℕ). slice n (c .end) w) (eqb-true (c .start) (c .end) equal) ∙ slice-empty (c .end) w in
-          subst₂ (Named m list e) (same-config refl refl (sym none) refl) (same-config refl refl (sym (slice-empty (c .position) w)) refl) (begin-buffering is, sym (eqb-true e beginBuffering entry))
-  changes-step c e Buffering = goes-step c Buffering e _ _ step
-    where
-      step : (eqb e beginEmptying && matching (m .marks) (c .state)) ≡ true
-          → Step m list w c Buffering e (record { position = c .position; state = c .state; mode = Emptying; start = c .start; end = c .end })
-      step h =
-          let (entry, is) = and-true (eqb e beginEmptying) (matching (m .marks) (c .state)) h in
-          (begin-emptying is, sym (eqb-true e beginEmptying entry))
-  changes-step c e Emptying = goes-step c Emptying e _ _ step
-    where
-      step : (eqb e backToNormal && (matching (m .marks) (c .state) && eqb (c .start) (c .end))) ≡ true
-          → Step m list w c Emptying e (record { position = c .position; state = c .state; mode = Normal; start = c .start; end = c .end })
-      step h =
-          let (entry, r) = and-true (eqb e backToNormal) (matching (m .marks) (c .state) && eqb (c .start) (c .end)) h in
-          let (is, equal) = and-true (matching (m .marks) (c .state)) (eqb (c .start) (c .end)) r in
-          let none : slice (c .start) (c .end) w ≡ [] = ap (λ (n : ℕ). slice n (c .end) w) (eqb-true (c .start) (c .end) equal) ∙ slice-empty (c .end) w in
-          subst₂ (Named m list e) (same-config refl refl (sym none) refl) (same-config refl refl (sym none) refl) (back-to-normal is, sym (eqb-true e backToNormal entry))
+  changed-step : (c : Config) (e : ℕ) (t : Mode) → mayChange (m .marks) c e t ≡ true → Step m list w c t e (changed c t)
+  unfolding entryOf
+  changed-step c e Normal h =
+      let (entry, r) = and-true (eqb e beginBuffering) (buffering (m .marks) (c .state) && eqb (c .start) (c .end)) h in
+      let (is, equal) = and-true (buffering (m .marks) (c .state)) (eqb (c .start) (c .end)) r in
+      let none : slice (c .start) (c .end) w ≡ [] = ap (λ (n : ℕ). slice n (c .end) w) (eqb-true (c .start) (c .end) equal) ∙ slice-empty (c .end) w in
+      subst₂ (Named m list e) (same-config refl refl (sym none) refl) (same-config refl refl (sym (slice-empty (c .position) w)) refl) (begin-buffering is, sym (eqb-true e beginBuffering entry))
+  changed-step c e Buffering h =
+      let (entry, is) = and-true (eqb e beginEmptying) (matching (m .marks) (c .state)) h in
+      (begin-emptying is, sym (eqb-true e beginEmptying entry))
+  changed-step c e Emptying h =
+      let (entry, r) = and-true (eqb e backToNormal) (matching (m .marks) (c .state) && eqb (c .start) (c .end)) h in
+      let (is, equal) = and-true (matching (m .marks) (c .state)) (eqb (c .start) (c .end)) r in
+      let none : slice (c .start) (c .end) w ≡ [] = ap (λ (n : ℕ). slice n (c .end) w) (eqb-true (c .start) (c .end) equal) ∙ slice-empty (c .end) w in
+      subst₂ (Named m list e) (same-config refl refl (sym none) refl) (same-config refl refl (sym none) refl) (back-to-normal is, sym (eqb-true e backToNormal entry))
 
   pub move-yields : (c : Config) (e : ℕ) → move m list w c e .allowed ≡ true → Named m list e (published w c) (published w (move m list w c e .config))
-  unfolding move
   move-yields c e =
-      cond-elim Good (wellPlaced (m .states) (length w) c) _ (goes false c c)
-      (λ p. cond-elim Good (ltb e (m .transitions)) _ (changes (m .marks) c e (c .mode))
-      (λ lt. cond-elim Good (eqb (transitionAt list e .from) (c .state)) (takes (m .marks) w c (transitionAt list e) (c .mode)) (goes false c c)
-      (λ same. takes-step c (transitionAt list e) (c .mode) (placed m w c p)
-      (record { number = e; listed = ltb-true e (m .transitions) lt; from = refl; letter = refl; to = refl })
-      (eqb-true (transitionAt list e .from) (c .state) same))
-      (λ f h. absurd (false≢true h)))
-      (λ ge. changes-step c e (c .mode)))
-      (λ f h. absurd (false≢true h))
-    where
-      Good : Move → Type 0
-      Good v = v .allowed ≡ true → Step m list w c (c .mode) e (v .config)
+      move-elim m list w c e (Step m list w c (c .mode) e)
+      (λ p lt took. after-step c (transitionAt list e) (c .mode) p (record { number = e; listed = lt; from = refl; letter = refl; to = refl }) took)
+      (λ p ge h. changed-step c e (c .mode) h)
 
 -- From the published definition to moves
 
@@ -155,20 +112,6 @@ pub record MovesBy (m : Machine) (list w : List ℕ) (c : Config) (e : ℕ) (D :
   pub lands : published w (move m list w c e .config) ≡ D
 
 module _ (m : Machine) (list w : List ℕ) where
-  move-takes : (c : Config) (k : ℕ) → wellPlaced (m .states) (length w) c ≡ true → k < m .transitions → transitionAt list k .from ≡ c .state
-      → move m list w c k ≡ takes (m .marks) w c (transitionAt list k) (c .mode)
-  unfolding move
-  move-takes c k p lt same =
-      let lower = lt-ltb k (m .transitions) lt in
-      let equal = eq-eqb (transitionAt list k .from) (c .state) same in
-      rw (p, lower, equal)
-
-  move-changes : (c : Config) (e : ℕ) → wellPlaced (m .states) (length w) c ≡ true → m .transitions ≤ e → move m list w c e ≡ changes (m .marks) c e (c .mode)
-  unfolding move
-  move-changes c e p ge =
-      let above = le-ltb e (m .transitions) ge in
-      rw (p, above)
-
   moves-by : (c : Config) (e : ℕ) (ok : Bool) (next : Config) {D : Configuration} → move m list w c e ≡ goes ok next c → ok ≡ true → published w next ≡ D
       → MovesBy m list w c e D
   moves-by c e ok next is t lands =
@@ -182,20 +125,35 @@ module _ (m : Machine) (list w : List ℕ) where
     at-end : {y z : ℕ} → y ≡ z → (test : List ℕ → ℕ → Bool) → test (m .marks) z ≡ true → test (m .marks) y ≡ true
     at-end e test h = subst (λ (n : ℕ). test (m .marks) n ≡ true) (sym e) h
 
+    -- a transition that is taken in the mode t
+    taken-by : (c : Config) (k : ℕ) (t : Mode) {D : Configuration} → Placed m w c (c .mode) → k < m .transitions → c .mode ≡ t → Took (m .marks) w c (transitionAt list k) t
+        → published w (after c (transitionAt list k) t) ≡ D → MovesBy m list w c k D
+    taken-by c k t {D = D} pl lt mode took lands =
+        moves-by c k _ _ (move-takes m list w c k pl lt) (says-may-take (m .marks) w c (transitionAt list k) (subst (Took (m .marks) w c (transitionAt list k)) (sym mode) took))
+        (subst (λ (t : Mode). published w (after c (transitionAt list k) t) ≡ D) (sym mode) lands)
+
+    -- a change of the mode t
+    changed-by : (c : Config) (e : ℕ) (t : Mode) {D : Configuration} → Placed m w c (c .mode) → m .transitions ≤ e → c .mode ≡ t → mayChange (m .marks) c e t ≡ true
+        → published w (changed c t) ≡ D → MovesBy m list w c e D
+    changed-by c e t {D = D} pl ge mode may lands =
+        moves-by c e _ _ (move-changes m list w c e pl ge) (subst (λ (t : Mode). mayChange (m .marks) c e t ≡ true) (sym mode) may)
+        (subst (λ (t : Mode). published w (changed c t) ≡ D) (sym mode) lands)
+
     yields-moves : {D D′ : Configuration} (y : Yields (fsbmOf m list) D D′) (c : Config) → Placed m w c (c .mode) → published w c ≡ D → MovesBy m list w c (entryOf m list y) D′
-    unfolding takes changes entryOf
+    unfolding readsStored after entryOf
     yields-moves (normal {p = p} {x = x} {q = q} {u = u} δ apart not-from) c pl e =
         let tr = transitionAt list (δ .number) in
         let mode : c .mode ≡ Normal = ap (λ (D : Configuration). D .mode) e in
         let state : tr .from ≡ c .state = δ .from ∙ sym (ap (λ (D : Configuration). D .state) e) in
         let input : drop (c .position) w ≡ symbol (tr .letter) ++ u = ap (λ (D : Configuration). D .input) e ∙ ap (λ (y : ℕ). symbol y ++ u) (sym (δ .letter)) in
         let (reads, rest) = drop-reads w (c .position) (tr .letter) u input in
-        moves-by c (δ .number) _ _
-        (move-takes c (δ .number) (unplaced m w c pl) (δ .listed) state ∙ ap (takes (m .marks) w c tr) mode)
-        (and-both-true (not (bothMatching (m .marks) tr)) (not (buffering (m .marks) (tr .from)) && readsLetter w (c .position) (length w) (tr .letter))
-        (says-not-and (matching (m .marks) (tr .from)) (matching (m .marks) (tr .to)) (λ z. apart (at-end (sym (δ .from)) matching (z .0), at-end (sym (δ .to)) matching (z .1))))
-        (and-both-true (not (buffering (m .marks) (tr .from))) (readsLetter w (c .position) (length w) (tr .letter))
-        (says-not (buffering (m .marks) (tr .from)) (λ z. not-from (at-end (sym (δ .from)) buffering z))) reads))
+        taken-by c (δ .number) Normal pl (δ .listed) mode
+        (record {
+          leaves = state;
+          passed = listed-normal (m .marks) list δ apart not-from;
+          reads = reads;
+          stored = refl;
+        })
         (same-config rest (δ .to) (ap (λ (D : Configuration). D .buffer) e) refl)
     yields-moves (buffer {p = p} {x = x} {q = q} {u = u} {v = v} δ apart not-to) c pl e =
         let tr = transitionAt list (δ .number) in
@@ -206,12 +164,13 @@ module _ (m : Machine) (list w : List ℕ) where
         let pb : Placed m w c Buffering = subst (Placed m w c) mode pl in
         let ends : c .end ≡ c .position = eqb-true (c .end) (c .position) (pb .fits) in
         let reads-end : readsLetter w (c .end) (length w) (tr .letter) ≡ true = subst (λ (n : ℕ). readsLetter w n (length w) (tr .letter) ≡ true) (sym ends) reads in
-        moves-by c (δ .number) _ _
-        (move-takes c (δ .number) (unplaced m w c pl) (δ .listed) state ∙ ap (takes (m .marks) w c tr) mode)
-        (and-both-true (not (bothMatching (m .marks) tr)) (not (buffering (m .marks) (tr .to)) && readsLetter w (c .position) (length w) (tr .letter))
-        (says-not-and (matching (m .marks) (tr .from)) (matching (m .marks) (tr .to)) (λ z. apart (at-end (sym (δ .from)) matching (z .0), at-end (sym (δ .to)) matching (z .1))))
-        (and-both-true (not (buffering (m .marks) (tr .to))) (readsLetter w (c .position) (length w) (tr .letter))
-        (says-not (buffering (m .marks) (tr .to)) (λ z. not-to (at-end (sym (δ .to)) buffering z))) reads))
+        taken-by c (δ .number) Buffering pl (δ .listed) mode
+        (record {
+          leaves = state;
+          passed = listed-buffering (m .marks) list δ apart not-to;
+          reads = reads;
+          stored = refl;
+        })
         (same-config rest (δ .to)
         (slice-grows w (c .start) (c .end) (tr .letter) (pl .forward) reads-end ∙ ap (λ (y : List ℕ). y ++ symbol (tr .letter)) (ap (λ (D : Configuration). D .buffer) e) ∙ ap (λ (y : ℕ). v ++ symbol y) (δ .letter))
         refl)
@@ -223,33 +182,31 @@ module _ (m : Machine) (list w : List ℕ) where
         let stored : slice (c .start) (c .end) w ≡ symbol (tr .letter) ++ v = ap (λ (D : Configuration). D .buffer) e ∙ ap (λ (y : ℕ). symbol y ++ v) (sym (δ .letter)) in
         let (reads, rest) = drop-reads w (c .position) (tr .letter) u input in
         let (matches, left) = slice-reads w (c .start) (c .end) (tr .letter) v (omega (arith, pl .behind, pl .in-word)) stored in
-        moves-by c (δ .number) _ _
-        (move-takes c (δ .number) (unplaced m w c pl) (δ .listed) state ∙ ap (takes (m .marks) w c tr) mode)
-        (and-both-true (bothMatching (m .marks) tr) (readsLetter w (c .position) (length w) (tr .letter) && readsLetter w (c .start) (c .end) (tr .letter))
-        (and-both-true (matching (m .marks) (tr .from)) (matching (m .marks) (tr .to)) (at-end (δ .from) matching from) (at-end (δ .to) matching to))
-        (and-both-true (readsLetter w (c .position) (length w) (tr .letter)) (readsLetter w (c .start) (c .end) (tr .letter)) reads matches))
+        taken-by c (δ .number) Emptying pl (δ .listed) mode
+        (record {
+          leaves = state;
+          passed = listed-emptying (m .marks) list δ from to;
+          reads = reads;
+          stored = matches;
+        })
         (same-config rest (δ .to) left refl)
     yields-moves (begin-buffering {q = q} {u = u} is) c pl e =
         let mode : c .mode ≡ Normal = ap (λ (D : Configuration). D .mode) e in
         let state : c .state ≡ q = ap (λ (D : Configuration). D .state) e in
         let equal : c .start ≡ c .end = slice-none w (c .start) (c .end) (pl .forward) (omega (arith, pl .behind, pl .in-word)) (ap (λ (D : Configuration). D .buffer) e) in
-        moves-by c beginBuffering _ _
-        (move-changes c beginBuffering (unplaced m w c pl) (omega (arith, r .transitions-fit)) ∙ ap (changes (m .marks) c beginBuffering) mode)
+        changed-by c beginBuffering Normal pl (omega (arith, r .transitions-fit)) mode
         (and-both-true (buffering (m .marks) (c .state)) (eqb (c .start) (c .end)) (at-end state buffering is) (eq-eqb (c .start) (c .end) equal))
         (same-config (ap (λ (D : Configuration). D .input) e) state (slice-empty (c .position) w) refl)
     yields-moves (begin-emptying {q = q} {u = u} {v = v} is) c pl e =
         let mode : c .mode ≡ Buffering = ap (λ (D : Configuration). D .mode) e in
         let state : c .state ≡ q = ap (λ (D : Configuration). D .state) e in
-        moves-by c beginEmptying _ _
-        (move-changes c beginEmptying (unplaced m w c pl) (omega (arith, r .transitions-fit)) ∙ ap (changes (m .marks) c beginEmptying) mode)
-        (at-end state matching is)
+        changed-by c beginEmptying Buffering pl (omega (arith, r .transitions-fit)) mode (at-end state matching is)
         (same-config (ap (λ (D : Configuration). D .input) e) state (ap (λ (D : Configuration). D .buffer) e) refl)
     yields-moves (back-to-normal {q = q} {u = u} is) c pl e =
         let mode : c .mode ≡ Emptying = ap (λ (D : Configuration). D .mode) e in
         let state : c .state ≡ q = ap (λ (D : Configuration). D .state) e in
         let equal : c .start ≡ c .end = slice-none w (c .start) (c .end) (pl .forward) (omega (arith, pl .behind, pl .in-word)) (ap (λ (D : Configuration). D .buffer) e) in
-        moves-by c backToNormal _ _
-        (move-changes c backToNormal (unplaced m w c pl) (omega (arith, r .transitions-fit)) ∙ ap (changes (m .marks) c backToNormal) mode)
+        changed-by c backToNormal Emptying pl (omega (arith, r .transitions-fit)) mode
         (and-both-true (matching (m .marks) (c .state)) (eqb (c .start) (c .end)) (at-end state matching is) (eq-eqb (c .start) (c .end) equal))
         (same-config (ap (λ (D : Configuration). D .input) e) state (ap (λ (D : Configuration). D .buffer) e) refl)
 

@@ -15,7 +15,7 @@ use lib.ListN.{length, replicate}
 use lib.Dec.{ltb}
 use Rattle.basics.specs.Search.{allBelow, allIn}
 use Rattle.fsbm.specs.Machine.{maxStates, wellFormed}
-use Rattle.fsbm.specs.Moves.{wellPlaced, readsLetter, takes, changes, move, accepts, acceptingFrom, accepting, beginBuffering}
+use Rattle.fsbm.specs.Moves.{wellPlaced, readsLetter, passes, readsStored, mayTake, after, changes, move, accepts, acceptingFrom, accepting, beginBuffering}
 use Rattle.fsbm.specs.Accepted.{accepted}
 use Rattle.fsbm.specs.declared.machine.Machine.{Machine}
 use Rattle.language.specs.NoWord.{noWord}
@@ -73,7 +73,7 @@ Meaning (saysNo m list w) = (wellFormed m list ≡ true) × (accepted m list w �
 Meaning (noWordAtAll m list) = (wellFormed m list ≡ true) × ((w : List ℕ) → accepted m list w ≡ false)
 
 unfoldable pub holds : Row → Bool
-unfolding wellFormed allBelow allIn accepting acceptingFrom accepts move wellPlaced takes changes readsLetter decided noWord
+unfolding wellFormed allBelow allIn accepting acceptingFrom accepts move wellPlaced passes readsStored mayTake after changes readsLetter decided noWord
 holds (runAccepts m list w run) = wellFormed m list && accepting m list w run
 holds (runAcceptsPlainly m list w run) = wellFormed m list && (accepting m list w run && allIn (λ e. ltb e beginBuffering) run)
 holds (runDoesNot m list w run) = wellFormed m list && not (accepting m list w run)

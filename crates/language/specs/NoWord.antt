@@ -12,10 +12,9 @@ use mathlib.Core.Bool.{Bool, cond, not, _&&_}
 use lib.Dec.{eqb}
 use Rattle.basics.specs.Search.{allIn}
 use Rattle.graphs.specs.Reach.{reach, isClosed}
-use Rattle.fsbm.specs.Machine.{initial, final, buffering, matching, bothMatching, transitionAt}
-use Rattle.fsbm.specs.Moves.{isNormal}
+use Rattle.fsbm.specs.Machine.{initial, final, buffering, matching, transitionAt}
+use Rattle.fsbm.specs.Moves.{passes, isNormal}
 use Rattle.fsbm.specs.declared.machine.Machine.{Machine}
-use Rattle.fsbm.specs.declared.machine.Transition.{Transition}
 use Rattle.fsbm.specs.declared.config.Mode.{Mode}
 use Rattle.fsbm.specs.declared.config.Mode.the-variants.{Normal, Buffering, Emptying}
 use Rattle.language.specs.Chosen.{numbers, chosen}
@@ -32,12 +31,6 @@ control q t = record { state = q; mode = t }
 unfoldable pub sameControl : Control → Control → Bool
 sameControl s t = eqb (s .state) (t .state) && sameMode (s .mode) (t .mode)
 
--- the marks let a transition be taken in a mode
-abbrev pub passable : List ℕ → Transition → Mode → Bool
-passable marks t Normal = not (bothMatching marks t) && not (buffering marks (t .from))
-passable marks t Buffering = not (bothMatching marks t) && not (buffering marks (t .to))
-passable marks t Emptying = bothMatching marks t
-
 -- the marks let the mode change at a state, and what it changes to
 abbrev pub changeable : List ℕ → ℕ → Mode → Bool
 changeable marks q Normal = buffering marks q
@@ -51,9 +44,9 @@ nextMode Emptying = Normal
 
 -- by the transitions from its state
 unfoldable pub crossings : Machine → List ℕ → Control → List Control
-unfolding chosen numbers
+unfolding chosen numbers passes
 crossings m list s =
-    chosen (λ k. eqb (transitionAt list k .from) (s .state) && passable (m .marks) (transitionAt list k) (s .mode))
+    chosen (λ k. eqb (transitionAt list k .from) (s .state) && passes (m .marks) (transitionAt list k) (s .mode))
     (λ k. control (transitionAt list k .to) (s .mode)) (numbers (m .transitions))
 
 unfoldable pub follows : Machine → List ℕ → Control → List Control

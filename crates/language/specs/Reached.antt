@@ -14,7 +14,7 @@ use lib.Dec.{eqb}
 use Rattle.basics.specs.Search.{anyIn}
 use Rattle.graphs.specs.Reach.{reach}
 use Rattle.fsbm.specs.Machine.{initial}
-use Rattle.fsbm.specs.Moves.{wellPlaced, readsLetter, takes, changes, move, startAt, accepts, beginBuffering, beginEmptying, backToNormal}
+use Rattle.fsbm.specs.Moves.{wellPlaced, readsLetter, passes, readsStored, mayTake, after, changes, move, startAt, accepts, beginBuffering, beginEmptying, backToNormal}
 use Rattle.fsbm.specs.Accepted.{runBound}
 use Rattle.fsbm.specs.declared.machine.Machine.{Machine}
 use Rattle.fsbm.specs.declared.config.Config.{Config}
@@ -44,7 +44,7 @@ unfolding numbers
 entries n = beginBuffering ∷ beginEmptying ∷ backToNormal ∷ numbers n
 
 unfoldable pub successors : Machine → List ℕ → List ℕ → Config → List Config
-unfolding chosen entries move wellPlaced takes changes readsLetter
+unfolding chosen entries move wellPlaced passes readsStored mayTake after changes readsLetter
 successors m list w c = chosen (λ e. move m list w c e .allowed) (λ e. move m list w c e .config) (entries (m .transitions))
 
 unfoldable pub starts : Machine → List Config

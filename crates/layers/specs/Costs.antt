@@ -21,11 +21,11 @@ use lib.ListN.{length, getD}
 use Rattle.stateset.specs.Set.{In}
 use Rattle.graphs.specs.Paths.{Path}
 use Rattle.fsbm.specs.Machine.{transitionAt}
+use Rattle.fsbm.specs.Moves.{passes}
 use Rattle.fsbm.specs.Published.{fsbmOf, Configuration, config, Yields}
 use Rattle.fsbm.specs.declared.machine.Machine.{Machine}
 use Rattle.fsbm.specs.declared.config.Mode.{Mode}
 use Rattle.fsbm.specs.declared.config.Mode.the-variants.{Normal}
-use Rattle.language.specs.NoWord.{passable}
 pub mod Laws
 
 abbrev pub none : ℕ
@@ -60,7 +60,7 @@ RowBest m list N u v t row = (q : ℕ) → q < m .states → Best m list N (conf
 pub record Leads (m : Machine) (list : List ℕ) (t : Mode) (x k : ℕ) : Type 0 where
   pub listed : k < m .transitions
   pub letter : transitionAt list k .letter ≡ x
-  pub passes : passable (m .marks) (transitionAt list k) t ≡ true
+  pub allowed : passes (m .marks) (transitionAt list k) t ≡ true
 
 abbrev pub Bounded : Machine → List ℕ → (ℕ → Type 0) → Mode → ℕ → List ℕ → List ℕ → Type 0
 Bounded m list S t x row next =

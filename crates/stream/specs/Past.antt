@@ -13,7 +13,7 @@ use lib.Dec.{ltb, eqb}
 use borrow.Author.Tests.{ltb-true}
 use Rattle.basics.specs.Bools.{same-truth}
 use Rattle.fsbm.specs.Machine.{transitionAt}
-use Rattle.fsbm.specs.Moves.{takes, changes, goes, wellPlaced, move, acceptingFrom, accepting, startAt}
+use Rattle.fsbm.specs.Moves.{mayTake, after, changes, goes, wellPlaced, move, acceptingFrom, accepting, startAt}
 use Rattle.fsbm.specs.Accepted.{accepted}
 use Rattle.fsbm.specs.Accepted.Laws.{accepted-true}
 use Rattle.fsbm.specs.Machine.{initial}
@@ -37,7 +37,7 @@ module _ (m : Machine) (list more : List ℕ) (long : m .transitions * 3 ≤ len
   module _ (w : List ℕ) where
     -- an entry that is a transition's number, for any transition
     by : Config → ℕ → Transition → Move
-    by c e t = cond (eqb (t .from) (c .state)) (takes (m .marks) w c t (c .mode)) (goes false c c)
+    by c e t = goes (mayTake (m .marks) w c t) (after c t (c .mode)) c
 
     same-move : (c : Config) (e : ℕ) → move m (list ++ more) w c e ≡ move m list w c e
     unfolding move by

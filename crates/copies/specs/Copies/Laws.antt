@@ -3,7 +3,6 @@
 -- owed c t, held c t      == the buffered letters of c still to match in emptying mode, and those stored in buffering mode
 -- storedAt e c            == the letters of the copy that entry e completes in c
 -- Balance c t n next      == from c in mode t to next: letters read in normal mode and twice the n stored ones account for the positions
--- move-from               == a move that is allowed starts at a configuration that moves are allowed from
 -- move-balance            == every allowed move keeps the balance
 -- plain-and-copies        == letters read in normal mode and twice the letters stored make the word's length
 -- total-fits              == the total is at most the word's length
@@ -17,7 +16,7 @@ use lib.Dec.{ltb, eqb, eqb·suc-zero}
 use borrow.Author.Tests.{ltb-true, eqb-true, ne-eqb}
 use Rattle.basics.specs.Search.Laws.{and-true}
 use Rattle.fsbm.specs.Machine.{wellFormed, transitionAt, initial, buffering, matching, bothMatching, final}
-use Rattle.fsbm.specs.Moves.{wellPlaced, readsLetter, advanced, goes, takes, changes, move, startAt, isNormal, accepts, acceptingFrom, accepting, beginBuffering, beginEmptying, backToNormal}
+use Rattle.fsbm.specs.Moves.{wellPlaced, readsLetter, advanced, readsStored, after, mayChange, changed, move, startAt, isNormal, accepts, acceptingFrom, accepting, beginBuffering, beginEmptying, backToNormal}
 use Rattle.fsbm.specs.declared.machine.Machine.{Machine}
 use Rattle.fsbm.specs.declared.machine.Transition.{Transition}
 use Rattle.fsbm.specs.declared.config.Config.{Config}
@@ -26,7 +25,7 @@ use Rattle.fsbm.specs.declared.config.Mode.{Mode}
 use Rattle.fsbm.specs.declared.config.Mode.the-variants.{Normal, Buffering, Emptying}
 use Rattle.basics.specs.Bools.{cond-elim}
 use Rattle.fsbm.specs.Rules.{rules, Placed, placed}
-use Rattle.fsbm.specs.Moves.Laws.{advanced-fits}
+use Rattle.fsbm.specs.Moves.Laws.{advanced-fits, move-elim}
 use Rattle.copies.specs.Copies.{copyAt, copiesFrom, copiesOf, totalStored, plainFrom, plainLetters}
 
 abbrev owed : Config → Mode → ℕ
@@ -51,86 +50,43 @@ advanced-by p zero = omega arith
 advanced-by p (suc x) = rw eqb·suc-zero refl
 
 module _ (m : Machine) (list w : List ℕ) where
-  goes-balance : (c : Config) (t : Mode) (n : ℕ) (ok : Bool) (next : Config) → (ok ≡ true → Balance c t n next) → ok ≡ true → Balance c t n (cond ok next c)
-  goes-balance c t n true next h e = h e
-  goes-balance c t n false next h e = absurd (false≢true e)
-
-  takes-balance : (c : Config) (tr : Transition) (t : Mode) → Placed m w c t → takes (m .marks) w c tr t .allowed ≡ true → Balance c t 0 (takes (m .marks) w c tr t .config)
-  unfolding takes
-  takes-balance c tr Normal p = goes-balance c Normal 0 _ _ step
-    where
-      step : (not (bothMatching (m .marks) tr) && (not (buffering (m .marks) (tr .from)) && readsLetter w (c .position) (length w) (tr .letter))) ≡ true
-          → Balance c Normal 0 (record { position = advanced (c .position) (tr .letter); state = tr .to; mode = Normal; start = c .start; end = c .end })
-      step h = let by = advanced-by (c .position) (tr .letter) in omega arith
-  takes-balance c tr Buffering p = goes-balance c Buffering 0 _ _ step
-    where
-      step : (not (bothMatching (m .marks) tr) && (not (buffering (m .marks) (tr .to)) && readsLetter w (c .position) (length w) (tr .letter))) ≡ true
-          → Balance c Buffering 0 (record { position = advanced (c .position) (tr .letter); state = tr .to; mode = Buffering; start = c .start; end = advanced (c .end) (tr .letter) })
-      step h =
-          let by = advanced-by (c .position) (tr .letter) in
-          let by-end = advanced-by (c .end) (tr .letter) in
-          let ends : c .end ≡ c .position = eqb-true (c .end) (c .position) (p .fits) in
-          omega (arith, p .forward)
-  takes-balance c tr Emptying p = goes-balance c Emptying 0 _ _ step
-    where
-      step : (bothMatching (m .marks) tr && (readsLetter w (c .position) (length w) (tr .letter) && readsLetter w (c .start) (c .end) (tr .letter))) ≡ true
-          → Balance c Emptying 0 (record { position = advanced (c .position) (tr .letter); state = tr .to; mode = Emptying; start = advanced (c .start) (tr .letter); end = c .end })
-      step h =
-          let (both, r) = and-true (bothMatching (m .marks) tr) (readsLetter w (c .position) (length w) (tr .letter) && readsLetter w (c .start) (c .end) (tr .letter)) h in
-          let (reads, matches) = and-true (readsLetter w (c .position) (length w) (tr .letter)) (readsLetter w (c .start) (c .end) (tr .letter)) r in
-          let (on, inside) = advanced-fits w (c .start) (c .end) (tr .letter) (p .forward) matches in
-          let by = advanced-by (c .position) (tr .letter) in
-          let by-start = advanced-by (c .start) (tr .letter) in
-          omega (arith, p .forward)
+  after-balance : (c : Config) (tr : Transition) (t : Mode) → Placed m w c t → readsStored w c tr t ≡ true → Balance c t 0 (after c tr t)
+  unfolding readsStored after
+  after-balance c tr Normal p stored = let by = advanced-by (c .position) (tr .letter) in omega arith
+  after-balance c tr Buffering p stored =
+      let by = advanced-by (c .position) (tr .letter) in
+      let by-end = advanced-by (c .end) (tr .letter) in
+      let ends : c .end ≡ c .position = eqb-true (c .end) (c .position) (p .fits) in
+      omega (arith, p .forward)
+  after-balance c tr Emptying p stored =
+      let (on, inside) = advanced-fits w (c .start) (c .end) (tr .letter) (p .forward) stored in
+      let by = advanced-by (c .position) (tr .letter) in
+      let by-start = advanced-by (c .start) (tr .letter) in
+      omega (arith, p .forward)
 
   -- the number of letters that an entry stores, once it is known which entry it is
   stored-is : (c : Config) (e k : ℕ) → eqb e k ≡ true → (t : Mode) (next : Config) → Balance c t (storedAt k c) next → Balance c t (storedAt e c) next
   stored-is c e k h t next b = subst (λ (z : ℕ). Balance c t (storedAt z c) next) (sym (eqb-true e k h)) b
 
-  changes-balance : (c : Config) (e : ℕ) (t : Mode) → Placed m w c t → changes (m .marks) c e t .allowed ≡ true → Balance c t (storedAt e c) (changes (m .marks) c e t .config)
-  unfolding changes
-  changes-balance c e Normal p = goes-balance c Normal (storedAt e c) _ _ step
-    where
-      step : (eqb e beginBuffering && (buffering (m .marks) (c .state) && eqb (c .start) (c .end))) ≡ true
-          → Balance c Normal (storedAt e c) (record { position = c .position; state = c .state; mode = Buffering; start = c .position; end = c .position })
-      step h =
-          let (entry, r) = and-true (eqb e beginBuffering) (buffering (m .marks) (c .state) && eqb (c .start) (c .end)) h in
-          stored-is c e beginBuffering entry Normal (record { position = c .position; state = c .state; mode = Buffering; start = c .position; end = c .position }) (omega arith)
-  changes-balance c e Buffering p = goes-balance c Buffering (storedAt e c) _ _ step
-    where
-      step : (eqb e beginEmptying && matching (m .marks) (c .state)) ≡ true
-          → Balance c Buffering (storedAt e c) (record { position = c .position; state = c .state; mode = Emptying; start = c .start; end = c .end })
-      step h =
-          let (entry, r) = and-true (eqb e beginEmptying) (matching (m .marks) (c .state)) h in
-          stored-is c e beginEmptying entry Buffering (record { position = c .position; state = c .state; mode = Emptying; start = c .start; end = c .end }) (omega arith)
-  changes-balance c e Emptying p = goes-balance c Emptying (storedAt e c) _ _ step
-    where
-      step : (eqb e backToNormal && (matching (m .marks) (c .state) && eqb (c .start) (c .end))) ≡ true
-          → Balance c Emptying (storedAt e c) (record { position = c .position; state = c .state; mode = Normal; start = c .start; end = c .end })
-      step h =
-          let (entry, r) = and-true (eqb e backToNormal) (matching (m .marks) (c .state) && eqb (c .start) (c .end)) h in
-          let (is, equal) = and-true (matching (m .marks) (c .state)) (eqb (c .start) (c .end)) r in
-          let same = eqb-true (c .start) (c .end) equal in
-          stored-is c e backToNormal entry Emptying (record { position = c .position; state = c .state; mode = Normal; start = c .start; end = c .end }) (omega arith)
-
-  pub move-from : (c : Config) (e : ℕ) → move m list w c e .allowed ≡ true → wellPlaced (m .states) (length w) c ≡ true
-  unfolding move
-  move-from c e = cond-elim (λ (v : Move). v .allowed ≡ true → wellPlaced (m .states) (length w) c ≡ true) (wellPlaced (m .states) (length w) c) _ (goes false c c) (λ p h. p) (λ f h. absurd (false≢true h))
+  changed-balance : (c : Config) (e : ℕ) (t : Mode) → mayChange (m .marks) c e t ≡ true → Balance c t (storedAt e c) (changed c t)
+  changed-balance c e Normal h =
+      let (entry, r) = and-true (eqb e beginBuffering) (buffering (m .marks) (c .state) && eqb (c .start) (c .end)) h in
+      stored-is c e beginBuffering entry Normal (changed c Normal) (omega arith)
+  changed-balance c e Buffering h =
+      let (entry, r) = and-true (eqb e beginEmptying) (matching (m .marks) (c .state)) h in
+      stored-is c e beginEmptying entry Buffering (changed c Buffering) (omega arith)
+  changed-balance c e Emptying h =
+      let (entry, r) = and-true (eqb e backToNormal) (matching (m .marks) (c .state) && eqb (c .start) (c .end)) h in
+      let (is, equal) = and-true (matching (m .marks) (c .state)) (eqb (c .start) (c .end)) r in
+      let same = eqb-true (c .start) (c .end) equal in
+      stored-is c e backToNormal entry Emptying (changed c Emptying) (omega arith)
 
   pub move-balance : wellFormed m list ≡ true → (c : Config) (e : ℕ) → move m list w c e .allowed ≡ true → Balance c (c .mode) (storedAt e c) (move m list w c e .config)
-  unfolding move
   move-balance good c e =
-      cond-elim Good (wellPlaced (m .states) (length w) c) _ (goes false c c)
-      (λ p. cond-elim Good (ltb e (m .transitions)) _ (changes (m .marks) c e (c .mode))
-      (λ lt. cond-elim Good (eqb (transitionAt list e .from) (c .state)) (takes (m .marks) w c (transitionAt list e) (c .mode)) (goes false c c)
-      (λ same h. listed (ltb-true e (m .transitions) lt) (takes (m .marks) w c (transitionAt list e) (c .mode) .config) (takes-balance c (transitionAt list e) (c .mode) (placed m w c p) h))
-      (λ f h. absurd (false≢true h)))
-      (λ ge. changes-balance c e (c .mode) (placed m w c p)))
-      (λ f h. absurd (false≢true h))
+      move-elim m list w c e (Balance c (c .mode) (storedAt e c))
+      (λ p lt t. listed lt (after c (transitionAt list e) (c .mode)) (after-balance c (transitionAt list e) (c .mode) p (t .stored)))
+      (λ p ge h. changed-balance c e (c .mode) h)
     where
-      Good : Move → Type 0
-      Good v = v .allowed ≡ true → Balance c (c .mode) (storedAt e c) (v .config)
-
       listed : e < m .transitions → (next : Config) → Balance c (c .mode) 0 next → Balance c (c .mode) (storedAt e c) next
       listed lt next b =
           let few = rules m list good .transitions-fit in

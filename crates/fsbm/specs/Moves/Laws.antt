@@ -4,14 +4,18 @@
 -- advanced-suc         == a letter that is read moves the position on by one
 -- advanced-fits        == the position after the letter: not before the old one, nor past the end
 -- start-placed         == a run starts at a configuration that a move is allowed from
+-- passes-normal, passes-buffering, passes-emptying == what the marks at its ends say of a transition, in each mode
+-- listed-normal, listed-buffering, listed-emptying == a listed transition that the published definition lets be taken passes
 -- Took                 == what mayTake says of a transition, part by part
 -- move-elim            == an allowed move takes a transition or changes the mode: what holds after both holds after it
+-- move-from            == an allowed move starts at a configuration that a move is allowed from
 -- move-takes, move-changes == the move by the number of a transition, and by any other entry
 -- move-stays           == an allowed move of a machine that obeys the rules leads to a configuration that a move is allowed from
 -- move-placed          == the same, with the tests
 use Prim.Native.Nat.{ℕ, zero, suc, _≤_, _<_}
-use mathlib.Core.Path.{_≡_, refl, ap}
-use mathlib.Core.Bool.{Bool, true, false, cond, _&&_, false≢true}
+use mathlib.Core.Path.{_≡_, refl, sym, ap, subst}
+use mathlib.Core.Logic.{_↔_}
+use mathlib.Core.Bool.{Bool, true, false, cond, not, _&&_, false≢true}
 use mathlib.Core.List.{List}
 use native.Mathlib.Omega.{arith}
 use native.Mathlib.Numerals.{add-one}
@@ -19,9 +23,10 @@ use lib.ListN.{length, getD}
 use lib.Dec.{ltb, eqb, eqb·suc-zero}
 use borrow.Author.Tests.{ltb-true, ltb-false, lt-ltb, le-ltb, eqb-true, eq-eqb}
 use Rattle.basics.specs.Search.Laws.{and-true, and-both-true}
-use Rattle.basics.specs.Bools.{cond-elim}
-use Rattle.fsbm.specs.Machine.{wellFormed, transitionAt, matching}
+use Rattle.basics.specs.Bools.{cond-elim, not-says, says-not, not-and-says, says-not-and}
+use Rattle.fsbm.specs.Machine.{wellFormed, transitionAt, buffering, matching, bothMatching}
 use Rattle.fsbm.specs.Moves.{wellPlaced, readsLetter, advanced, passes, readsStored, mayTake, after, mayChange, changed, goes, changes, move, startAt, backToNormal}
+use Rattle.fsbm.specs.Published.{Listed}
 use Rattle.fsbm.specs.Rules.{Rules, rules, Placed, placed, unplaced}
 use Rattle.fsbm.specs.declared.machine.Machine.{Machine}
 use Rattle.fsbm.specs.declared.machine.Transition.{Transition}
@@ -81,6 +86,49 @@ module _ (m : Machine) (w : List ℕ) where
       let equal = and-true (matching (m .marks) (c .state)) (eqb (c .start) (c .end)) r .1 in
       record { in-word = p .in-word; state-below = p .state-below; forward = p .forward; behind = p .behind; fits = equal }
 
+-- What the marks at its ends say of a transition, in each mode
+
+module _ (marks : List ℕ) (t : Transition) where
+  pub passes-normal : (passes marks t Normal ≡ true) ↔ (((matching marks (t .from) ≡ true) × (matching marks (t .to) ≡ true) → ⊥) × (buffering marks (t .from) ≡ true → ⊥))
+  unfolding passes
+  passes-normal = (
+    λ h.
+    let (apart, free) = and-true (not (bothMatching marks t)) (not (buffering marks (t .from))) h in
+    (not-and-says (matching marks (t .from)) (matching marks (t .to)) apart, not-says (buffering marks (t .from)) free),
+    λ z.
+    and-both-true (not (bothMatching marks t)) (not (buffering marks (t .from))) (says-not-and (matching marks (t .from)) (matching marks (t .to)) (z .0)) (says-not (buffering marks (t .from)) (z .1)),
+  )
+
+  pub passes-buffering : (passes marks t Buffering ≡ true) ↔ (((matching marks (t .from) ≡ true) × (matching marks (t .to) ≡ true) → ⊥) × (buffering marks (t .to) ≡ true → ⊥))
+  unfolding passes
+  passes-buffering = (
+    λ h.
+    let (apart, free) = and-true (not (bothMatching marks t)) (not (buffering marks (t .to))) h in
+    (not-and-says (matching marks (t .from)) (matching marks (t .to)) apart, not-says (buffering marks (t .to)) free),
+    λ z.
+    and-both-true (not (bothMatching marks t)) (not (buffering marks (t .to))) (says-not-and (matching marks (t .from)) (matching marks (t .to)) (z .0)) (says-not (buffering marks (t .to)) (z .1)),
+  )
+
+  pub passes-emptying : (passes marks t Emptying ≡ true) ↔ ((matching marks (t .from) ≡ true) × (matching marks (t .to) ≡ true))
+  unfolding passes
+  passes-emptying = (and-true (matching marks (t .from)) (matching marks (t .to)), λ z. and-both-true (matching marks (t .from)) (matching marks (t .to)) (z .0) (z .1))
+
+-- the same of a listed transition and the states that it is listed with
+module _ (marks list : List ℕ) {n p x q : ℕ} (δ : Listed list n p x q) where
+  named : {y z : ℕ} → y ≡ z → (test : List ℕ → ℕ → Bool) → test marks y ≡ true → test marks z ≡ true
+  named e test h = subst (λ (k : ℕ). test marks k ≡ true) e h
+
+  pub listed-normal : ((matching marks p ≡ true) × (matching marks q ≡ true) → ⊥) → (buffering marks p ≡ true → ⊥) → passes marks (transitionAt list (δ .number)) Normal ≡ true
+  listed-normal apart free =
+      passes-normal marks (transitionAt list (δ .number)) .1 (λ z. apart (named (δ .from) matching (z .0), named (δ .to) matching (z .1)), λ z. free (named (δ .from) buffering z))
+
+  pub listed-buffering : ((matching marks p ≡ true) × (matching marks q ≡ true) → ⊥) → (buffering marks q ≡ true → ⊥) → passes marks (transitionAt list (δ .number)) Buffering ≡ true
+  listed-buffering apart free =
+      passes-buffering marks (transitionAt list (δ .number)) .1 (λ z. apart (named (δ .from) matching (z .0), named (δ .to) matching (z .1)), λ z. free (named (δ .to) buffering z))
+
+  pub listed-emptying : matching marks p ≡ true → matching marks q ≡ true → passes marks (transitionAt list (δ .number)) Emptying ≡ true
+  listed-emptying from to = passes-emptying marks (transitionAt list (δ .number)) .1 (named (sym (δ .from)) matching from, named (sym (δ .to)) matching to)
+
 -- A transition that is taken
 
 pub record Took (marks w : List ℕ) (c : Config) (tr : Transition) (t : Mode) : Type 0 where
@@ -124,6 +172,9 @@ module _ (m : Machine) (list w : List ℕ) (c : Config) (e : ℕ) where
     where
       Good : Move → Type 0
       Good v = v .allowed ≡ true → P (v .config)
+
+  pub move-from : move m list w c e .allowed ≡ true → Placed m w c (c .mode)
+  move-from = move-elim (λ d. Placed m w c (c .mode)) (λ p lt t. p) (λ p ge h. p)
 
   pub move-takes : Placed m w c (c .mode) → e < m .transitions → move m list w c e ≡ goes (mayTake (m .marks) w c (transitionAt list e)) (after c (transitionAt list e) (c .mode)) c
   unfolding move

@@ -17,8 +17,9 @@ use Rattle.basics.specs.Search.Laws.{and-true, and-both-true, allIn-true}
 use Rattle.graphs.specs.Paths.{Path, here, step}
 use Rattle.graphs.specs.Reach.{Edges, isClosed}
 use Rattle.graphs.specs.Reach.Laws.{reach-complete, isClosed-all}
-use Rattle.fsbm.specs.Machine.{initial, final, buffering, matching, bothMatching, transitionAt}
-use Rattle.fsbm.specs.Moves.{isNormal}
+use Rattle.fsbm.specs.Machine.{initial, final, transitionAt}
+use Rattle.fsbm.specs.Moves.{passes, isNormal}
+use Rattle.fsbm.specs.Moves.Laws.{listed-normal, listed-buffering, listed-emptying}
 use Rattle.fsbm.specs.Accepted.{accepted}
 use Rattle.fsbm.specs.Accepted.Laws.{accepted-true}
 use Rattle.fsbm.specs.Published.{Listed, fsbmOf, Configuration, Yields, normal, buffer, empty, begin-buffering, begin-emptying, back-to-normal, Run, done, InLanguage}
@@ -26,9 +27,9 @@ use Rattle.fsbm.specs.declared.machine.Machine.{Machine}
 use Rattle.fsbm.specs.declared.config.Mode.{Mode}
 use Rattle.fsbm.specs.declared.config.Mode.the-variants.{Normal, Buffering, Emptying}
 use Rattle.language.specs.Agreement.{accepting-published}
-use Rattle.basics.specs.Bools.{false-iff, not-says, says-not, says-not-and}
+use Rattle.basics.specs.Bools.{false-iff, not-says, says-not}
 use Rattle.language.specs.Chosen.{numbers, numbers-of, chosen, chosen-of}
-use Rattle.language.specs.NoWord.{Control, control, sameControl, passable, changeable, nextMode, crossings, follows, controls, noWord}
+use Rattle.language.specs.NoWord.{Control, control, sameControl, changeable, nextMode, crossings, follows, controls, noWord}
 use Rattle.language.specs.Reached.{sameMode}
 use Rattle.language.specs.Reached.Laws.{sameMode-law}
 
@@ -45,7 +46,7 @@ abbrev pub controlOf : Configuration → Control
 controlOf D = control (D .state) (D .mode)
 
 module _ (m : Machine) (list : List ℕ) where
-  cross : {p x q : ℕ} (t : Mode) (δ : Listed list (m .transitions) p x q) → passable (m .marks) (transitionAt list (δ .number)) t ≡ true → Edges (follows m list) (control p t) (control q t)
+  cross : {p x q : ℕ} (t : Mode) (δ : Listed list (m .transitions) p x q) → passes (m .marks) (transitionAt list (δ .number)) t ≡ true → Edges (follows m list) (control p t) (control q t)
   unfolding follows crossings
   cross {p} {q = q} t δ ok = at (changeable (m .marks) p t)
     where
@@ -54,9 +55,9 @@ module _ (m : Machine) (list : List ℕ) where
           let k = δ .number in
           let tr = transitionAt list k in
           subst (λ (y : ℕ). List·Memᴰ (control y t) (crossings m list (control p t))) (δ .to)
-          (chosen-of (λ k. eqb (transitionAt list k .from) p && passable (m .marks) (transitionAt list k) t) (λ k. control (transitionAt list k .to) t)
+          (chosen-of (λ k. eqb (transitionAt list k .from) p && passes (m .marks) (transitionAt list k) t) (λ k. control (transitionAt list k .to) t)
           (numbers-of (m .transitions) k (δ .listed))
-          (and-both-true (eqb (tr .from) p) (passable (m .marks) tr t) (eq-eqb (tr .from) p (δ .from)) ok))
+          (and-both-true (eqb (tr .from) p) (passes (m .marks) tr t) (eq-eqb (tr .from) p (δ .from)) ok))
 
       at : (b : Bool) → List·Memᴰ (control q t) (cond b (control p (nextMode t) ∷ crossings m list (control p t)) (crossings m list (control p t)))
       at true = List·Memᴰ·tail taken
@@ -66,31 +67,10 @@ module _ (m : Machine) (list : List ℕ) where
   unfolding follows
   change q t h = subst (λ (b : Bool). List·Memᴰ (control q (nextMode t)) (cond b (control q (nextMode t) ∷ crossings m list (control q t)) (crossings m list (control q t)))) (sym h) (List·Memᴰ·head refl)
 
-  -- a test of a mark at the state that a transition names, and at its end
-  named : {y z : ℕ} → y ≡ z → (test : List ℕ → ℕ → Bool) → test (m .marks) y ≡ true → test (m .marks) z ≡ true
-  named e test h = subst (λ (n : ℕ). test (m .marks) n ≡ true) e h
-
-  apart-both : {p x q : ℕ} (δ : Listed list (m .transitions) p x q) → ((matching (m .marks) p ≡ true) × (matching (m .marks) q ≡ true) → ⊥)
-      → not (bothMatching (m .marks) (transitionAt list (δ .number))) ≡ true
-  apart-both δ apart =
-      let tr = transitionAt list (δ .number) in
-      says-not-and (matching (m .marks) (tr .from)) (matching (m .marks) (tr .to)) (λ z. apart (named (δ .from) matching (z .0), named (δ .to) matching (z .1)))
-
   pub yields-follows : {D D′ : Configuration} → Yields (fsbmOf m list) D D′ → Edges (follows m list) (controlOf D) (controlOf D′)
-  yields-follows (normal δ apart not-from) =
-      let tr = transitionAt list (δ .number) in
-      cross Normal δ
-      (and-both-true (not (bothMatching (m .marks) tr)) (not (buffering (m .marks) (tr .from))) (apart-both δ apart)
-      (says-not (buffering (m .marks) (tr .from)) (λ z. not-from (named (δ .from) buffering z))))
-  yields-follows (buffer δ apart not-to) =
-      let tr = transitionAt list (δ .number) in
-      cross Buffering δ
-      (and-both-true (not (bothMatching (m .marks) tr)) (not (buffering (m .marks) (tr .to))) (apart-both δ apart)
-      (says-not (buffering (m .marks) (tr .to)) (λ z. not-to (named (δ .to) buffering z))))
-  yields-follows (empty δ from to) =
-      let tr = transitionAt list (δ .number) in
-      cross Emptying δ
-      (and-both-true (matching (m .marks) (tr .from)) (matching (m .marks) (tr .to)) (named (sym (δ .from)) matching from) (named (sym (δ .to)) matching to))
+  yields-follows (normal δ apart not-from) = cross Normal δ (listed-normal (m .marks) list δ apart not-from)
+  yields-follows (buffer δ apart not-to) = cross Buffering δ (listed-buffering (m .marks) list δ apart not-to)
+  yields-follows (empty δ from to) = cross Emptying δ (listed-emptying (m .marks) list δ from to)
   yields-follows (begin-buffering {q = q} is) = change q Normal is
   yields-follows (begin-emptying {q = q} is) = change q Buffering is
   yields-follows (back-to-normal {q = q} is) = change q Emptying is

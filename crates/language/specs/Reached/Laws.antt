@@ -21,7 +21,8 @@ use Rattle.graphs.specs.Paths.{Path, here, step}
 use Rattle.graphs.specs.Reach.{Edges}
 use Rattle.graphs.specs.Reach.Laws.{reach-sound, reach-complete}
 use Rattle.fsbm.specs.Machine.{wellFormed, initial, buffering, matching}
-use Rattle.fsbm.specs.Moves.{wellPlaced, goes, changes, move, startAt, accepts, acceptingFrom, accepting, beginBuffering, beginEmptying, backToNormal}
+use Rattle.fsbm.specs.Moves.{mayChange, move, startAt, accepts, acceptingFrom, accepting, beginBuffering, beginEmptying, backToNormal}
+use Rattle.fsbm.specs.Moves.Laws.{move-elim}
 use Rattle.fsbm.specs.Accepted.{runBound, accepted}
 use Rattle.fsbm.specs.Accepted.Laws.{accepted-true}
 use Rattle.fsbm.specs.declared.machine.Machine.{Machine}
@@ -84,8 +85,8 @@ sameConfig-law c d = (to, λ e. subst (λ (x : Config). sameConfig c x ≡ true)
 
 module _ (m : Machine) (list w : List ℕ) where
   -- an entry that changes the mode is one of the three
-  change-entry : (c : Config) (e : ℕ) (t : Mode) → changes (m .marks) c e t .allowed ≡ true → List·Memᴰ e (entries (m .transitions))
-  unfolding changes entries
+  change-entry : (c : Config) (e : ℕ) (t : Mode) → mayChange (m .marks) c e t ≡ true → List·Memᴰ e (entries (m .transitions))
+  unfolding entries
   change-entry c e Normal h =
       List·Memᴰ·head (eqb-true e beginBuffering (and-true (eqb e beginBuffering) (buffering (m .marks) (c .state) && eqb (c .start) (c .end)) h .0))
   change-entry c e Buffering h =
@@ -95,16 +96,11 @@ module _ (m : Machine) (list w : List ℕ) where
       (List·Memᴰ·head (eqb-true e backToNormal (and-true (eqb e backToNormal) (matching (m .marks) (c .state) && eqb (c .start) (c .end)) h .0))))
 
   pub move-entry : (c : Config) (e : ℕ) → move m list w c e .allowed ≡ true → List·Memᴰ e (entries (m .transitions))
-  unfolding move entries
+  unfolding entries
   move-entry c e =
-      cond-elim Named (wellPlaced (m .states) (length w) c) _ (goes false c c)
-      (λ p. cond-elim Named (ltb e (m .transitions)) _ (changes (m .marks) c e (c .mode))
-      (λ lt h. List·Memᴰ·tail (List·Memᴰ·tail (List·Memᴰ·tail (numbers-of (m .transitions) e (ltb-true e (m .transitions) lt)))))
-      (λ ge. change-entry c e (c .mode)))
-      (λ f h. absurd (false≢true h))
-    where
-      Named : Move → Type 0
-      Named v = v .allowed ≡ true → List·Memᴰ e (entries (m .transitions))
+      move-elim m list w c e (λ d. List·Memᴰ e (entries (m .transitions)))
+      (λ p lt t. List·Memᴰ·tail (List·Memᴰ·tail (List·Memᴰ·tail (numbers-of (m .transitions) e lt))))
+      (λ p ge h. change-entry c e (c .mode) h)
 
   pub successor-of : (c : Config) (e : ℕ) → move m list w c e .allowed ≡ true → Edges (successors m list w) c (move m list w c e .config)
   unfolding successors

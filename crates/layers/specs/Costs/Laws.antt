@@ -17,14 +17,13 @@ use mathlib.Core.Bool.{Bool, true, not}
 use mathlib.Core.List.{List, [], _∷_, _++_, append-nil}
 use native.Mathlib.Omega.{arith}
 use lib.ListN.{length, length-append}
-use Rattle.basics.specs.Search.Laws.{and-true, and-both-true}
 use Rattle.graphs.specs.Paths.{Path, here, step}
-use Rattle.fsbm.specs.Machine.{transitionAt, buffering, matching, bothMatching}
+use Rattle.fsbm.specs.Machine.{transitionAt, buffering, matching}
+use Rattle.fsbm.specs.Moves.Laws.{passes-normal, passes-buffering, passes-emptying, listed-normal, listed-buffering, listed-emptying}
 use Rattle.fsbm.specs.Published.{Listed, fsbmOf, Configuration, config, Yields, normal, buffer, empty, begin-buffering, begin-emptying, back-to-normal}
 use Rattle.fsbm.specs.declared.machine.Machine.{Machine}
 use Rattle.fsbm.specs.declared.config.Mode.{Mode}
 use Rattle.fsbm.specs.declared.config.Mode.the-variants.{Normal, Buffering, Emptying}
-use Rattle.basics.specs.Bools.{not-says, says-not, not-and-says, says-not-and}
 use Rattle.layers.specs.Costs.{none, Near, Step, Go, Best, Leads}
 
 unfoldable pub Fits : List ℕ → List ℕ → Mode → Type 0
@@ -49,43 +48,18 @@ module _ (m : Machine) (list : List ℕ) where
     to-emptying : D .mode ≡ Buffering → matching (m .marks) (D .state) ≡ true → D′ ≡ config (D .input) (D .state) (D .buffer) Emptying → Cases D D′
     to-normal : D .mode ≡ Emptying → D .buffer ≡ [] → matching (m .marks) (D .state) ≡ true → D′ ≡ config (D .input) (D .state) [] Normal → Cases D D′
 
-  mark-at : {y z : ℕ} → y ≡ z → (test : List ℕ → ℕ → Bool) → test (m .marks) y ≡ true → test (m .marks) z ≡ true
-  mark-at e test h = subst (λ (n : ℕ). test (m .marks) n ≡ true) e h
-
   -- a listed transition that the marks let be taken
   pub normal-leads : {p x q : ℕ} (δ : Listed list (m .transitions) p x q) → ((matching (m .marks) p ≡ true) × (matching (m .marks) q ≡ true) → ⊥) → (buffering (m .marks) p ≡ true → ⊥)
       → Leads m list Normal x (δ .number)
-  normal-leads δ apart not-from =
-      let tr = transitionAt list (δ .number) in
-      record {
-        listed = δ .listed;
-        letter = δ .letter;
-        passes = and-both-true (not (bothMatching (m .marks) tr)) (not (buffering (m .marks) (tr .from)))
-            (says-not-and (matching (m .marks) (tr .from)) (matching (m .marks) (tr .to)) (λ z. apart (mark-at (δ .from) matching (z .0), mark-at (δ .to) matching (z .1))))
-            (says-not (buffering (m .marks) (tr .from)) (λ z. not-from (mark-at (δ .from) buffering z)));
-      }
+  normal-leads δ apart not-from = record { listed = δ .listed; letter = δ .letter; allowed = listed-normal (m .marks) list δ apart not-from }
 
   pub buffer-leads : {p x q : ℕ} (δ : Listed list (m .transitions) p x q) → ((matching (m .marks) p ≡ true) × (matching (m .marks) q ≡ true) → ⊥) → (buffering (m .marks) q ≡ true → ⊥)
       → Leads m list Buffering x (δ .number)
-  buffer-leads δ apart not-to =
-      let tr = transitionAt list (δ .number) in
-      record {
-        listed = δ .listed;
-        letter = δ .letter;
-        passes = and-both-true (not (bothMatching (m .marks) tr)) (not (buffering (m .marks) (tr .to)))
-            (says-not-and (matching (m .marks) (tr .from)) (matching (m .marks) (tr .to)) (λ z. apart (mark-at (δ .from) matching (z .0), mark-at (δ .to) matching (z .1))))
-            (says-not (buffering (m .marks) (tr .to)) (λ z. not-to (mark-at (δ .to) buffering z)));
-      }
+  buffer-leads δ apart not-to = record { listed = δ .listed; letter = δ .letter; allowed = listed-buffering (m .marks) list δ apart not-to }
 
   pub empty-leads : {p x q : ℕ} (δ : Listed list (m .transitions) p x q) → matching (m .marks) p ≡ true → matching (m .marks) q ≡ true
       → Leads m list Emptying x (δ .number)
-  empty-leads δ a b =
-      let tr = transitionAt list (δ .number) in
-      record {
-        listed = δ .listed;
-        letter = δ .letter;
-        passes = and-both-true (matching (m .marks) (tr .from)) (matching (m .marks) (tr .to)) (mark-at (sym (δ .from)) matching a) (mark-at (sym (δ .to)) matching b);
-      }
+  empty-leads δ a b = record { listed = δ .listed; letter = δ .letter; allowed = listed-emptying (m .marks) list δ a b }
 
   same : {u u′ : List ℕ} {q q′ : ℕ} {v v′ : List ℕ} {t : Mode} → u ≡ u′ → q ≡ q′ → v ≡ v′ → config u q v t ≡ config u′ q′ v′ t
   same {t = t} a b c = λ i. record { input = a i; state = b i; buffer = c i; mode = t }
@@ -108,20 +82,14 @@ module _ (m : Machine) (list : List ℕ) where
 
   pub normal-apart : {x k : ℕ} → Leads m list Normal x k
       → ((matching (m .marks) (transitionAt list k .from) ≡ true) × (matching (m .marks) (transitionAt list k .to) ≡ true) → ⊥) × (buffering (m .marks) (transitionAt list k .from) ≡ true → ⊥)
-  normal-apart {k = k} l =
-      let tr = transitionAt list k in
-      let (a, b) = and-true (not (bothMatching (m .marks) tr)) (not (buffering (m .marks) (tr .from))) (l .passes) in
-      (not-and-says (matching (m .marks) (tr .from)) (matching (m .marks) (tr .to)) a, not-says (buffering (m .marks) (tr .from)) b)
+  normal-apart {k = k} l = passes-normal (m .marks) (transitionAt list k) .0 (l .allowed)
 
   pub buffer-apart : {x k : ℕ} → Leads m list Buffering x k
       → ((matching (m .marks) (transitionAt list k .from) ≡ true) × (matching (m .marks) (transitionAt list k .to) ≡ true) → ⊥) × (buffering (m .marks) (transitionAt list k .to) ≡ true → ⊥)
-  buffer-apart {k = k} l =
-      let tr = transitionAt list k in
-      let (a, b) = and-true (not (bothMatching (m .marks) tr)) (not (buffering (m .marks) (tr .to))) (l .passes) in
-      (not-and-says (matching (m .marks) (tr .from)) (matching (m .marks) (tr .to)) a, not-says (buffering (m .marks) (tr .to)) b)
+  buffer-apart {k = k} l = passes-buffering (m .marks) (transitionAt list k) .0 (l .allowed)
 
   pub empty-apart : {x k : ℕ} → Leads m list Emptying x k → (matching (m .marks) (transitionAt list k .from) ≡ true) × (matching (m .marks) (transitionAt list k .to) ≡ true)
-  empty-apart {k = k} l = let tr = transitionAt list k in and-true (matching (m .marks) (tr .from)) (matching (m .marks) (tr .to)) (l .passes)
+  empty-apart {k = k} l = passes-emptying (m .marks) (transitionAt list k) .0 (l .allowed)
 
   pub normal-yields : {x k : ℕ} (u : List ℕ) → Leads m list Normal (suc x) k
       → Yields (fsbmOf m list) (config (suc x ∷ u) (transitionAt list k .from) [] Normal) (config u (transitionAt list k .to) [] Normal)

@@ -26,7 +26,7 @@ use Rattle.stateset.specs.Set.Laws.{in-and, below-is}
 use Rattle.basics.specs.Search.Laws.{and-true, and-both-true, true-or-false}
 use Rattle.graphs.specs.Paths.{Path, here, step}
 use Rattle.fsbm.specs.Machine.{wellFormed, transitionAt, buffering, matching, bothMatching, final, initial}
-use Rattle.fsbm.specs.Moves.{wellPlaced, bufferFits, readsLetter, advanced, goes, takes, changes, move, isNormal, accepts, acceptingFrom, accepting, startAt, beginBuffering, beginEmptying, backToNormal}
+use Rattle.fsbm.specs.Moves.{wellPlaced, bufferFits, readsLetter, advanced, readsStored, after, mayChange, changed, move, isNormal, accepts, acceptingFrom, accepting, startAt, beginBuffering, beginEmptying, backToNormal}
 use Rattle.fsbm.specs.Accepted.{accepted, runBound}
 use Rattle.fsbm.specs.Accepted.Laws.{accepted-true}
 use Rattle.fsbm.specs.Published.{fsbmOf, Configuration, config, Yields, Run, done, more}
@@ -38,7 +38,7 @@ use Rattle.fsbm.specs.declared.config.Mode.{Mode}
 use Rattle.fsbm.specs.declared.config.Mode.the-variants.{Normal, Buffering, Emptying}
 use Rattle.basics.specs.Bools.{cond-elim}
 use Rattle.fsbm.specs.Rules.{Rules, rules, Placed, placed, unplaced}
-use Rattle.fsbm.specs.Moves.Laws.{advanced-fits, move-placed}
+use Rattle.fsbm.specs.Moves.Laws.{advanced-fits, move-elim, move-placed}
 use Rattle.language.specs.Strings.{slice-none}
 use Rattle.fsbm.specs.Entries.{entryOf}
 use Rattle.language.specs.Agreement.{published, move-yields, yields-move}
@@ -125,73 +125,31 @@ pub record Kept (c : Config) (t : Mode) (c′ : Config) : Type 0 where
       × (((c′ .position ≡ c .position) × (c′ .start ≡ c .start)) ⊎ ((c′ .position ≡ c .position + 1) × (c′ .start ≡ c .start + 1) × (c .start < c .end)))
 
 module _ (m : Machine) (list sets w : List ℕ) where
-  goes-kept : (c : Config) (t : Mode) (ok : Bool) (next : Config) → (ok ≡ true → Kept c t next) → ok ≡ true → Kept c t (cond ok next c)
-  goes-kept c t true next h e = h e
-  goes-kept c t false next h e = absurd (false≢true e)
-
-  takes-kept : (c : Config) (tr : Transition) (t : Mode) → c .start ≤ c .end → takes (m .marks) w c tr t .allowed ≡ true → Kept c t (takes (m .marks) w c tr t .config)
-  unfolding takes
-  takes-kept c tr Normal le =
-      goes-kept c Normal _ _ (λ h. record {
+  after-kept : (c : Config) (tr : Transition) (t : Mode) → c .start ≤ c .end → readsStored w c tr t ≡ true → Kept c t (after c tr t)
+  unfolding readsStored after
+  after-kept c tr Normal le stored = record { mode-same = refl; start-same = λ e. refl; second = λ e. let z : _≡_ {A = ℕ} 0 1 = cc in absurd (omega arith) }
+  after-kept c tr Buffering le stored = record { mode-same = refl; start-same = λ e. refl; second = λ e. let z : _≡_ {A = ℕ} 0 1 = cc in absurd (omega arith) }
+  after-kept c tr Emptying le stored =
+      record {
         mode-same = refl;
-        start-same = λ e. refl;
-        second = λ e. let z : _≡_ {A = ℕ} 0 1 = cc in absurd (omega arith);
-      })
-  takes-kept c tr Buffering le =
-      goes-kept c Buffering _ _ (λ h. record {
-        mode-same = refl;
-        start-same = λ e. refl;
-        second = λ e. let z : _≡_ {A = ℕ} 0 1 = cc in absurd (omega arith);
-      })
-  takes-kept c tr Emptying le = goes-kept c Emptying _ _ kept
+        start-same = λ e. let z : _≡_ {A = ℕ} 0 1 = cc in absurd (omega arith);
+        second = λ e. (refl, moved (advanced-fits w (c .start) (c .end) (tr .letter) le stored .1) (advanced-either (c .position) (c .start) (tr .letter)));
+      }
     where
-      kept : (bothMatching (m .marks) tr && (readsLetter w (c .position) (length w) (tr .letter) && readsLetter w (c .start) (c .end) (tr .letter))) ≡ true
-          → Kept c Emptying (record { position = advanced (c .position) (tr .letter); state = tr .to; mode = Emptying; start = advanced (c .start) (tr .letter); end = c .end })
-      kept h =
-          let (both, r) = and-true (bothMatching (m .marks) tr) (readsLetter w (c .position) (length w) (tr .letter) && readsLetter w (c .start) (c .end) (tr .letter)) h in
-          let (reads, matches) = and-true (readsLetter w (c .position) (length w) (tr .letter)) (readsLetter w (c .start) (c .end) (tr .letter)) r in
-          let (on, inside) = advanced-fits w (c .start) (c .end) (tr .letter) le matches in
-          record {
-            mode-same = refl;
-            start-same = λ e. let z : _≡_ {A = ℕ} 0 1 = cc in absurd (omega arith);
-            second = λ e. (refl, moved inside (advanced-either (c .position) (c .start) (tr .letter)));
-          }
-        where
-          moved : advanced (c .start) (tr .letter) ≤ c .end
-              → ((advanced (c .position) (tr .letter) ≡ c .position) × (advanced (c .start) (tr .letter) ≡ c .start)) ⊎ ((advanced (c .position) (tr .letter) ≡ c .position + 1) × (advanced (c .start) (tr .letter) ≡ c .start + 1))
-              → ((advanced (c .position) (tr .letter) ≡ c .position) × (advanced (c .start) (tr .letter) ≡ c .start))
-              ⊎ ((advanced (c .position) (tr .letter) ≡ c .position + 1) × (advanced (c .start) (tr .letter) ≡ c .start + 1) × (c .start < c .end))
-          moved l (inl z) = inl z
-          moved l (inr z) = let s = z .1 in inr (z .0, s, omega arith)
+      moved : advanced (c .start) (tr .letter) ≤ c .end
+          → ((advanced (c .position) (tr .letter) ≡ c .position) × (advanced (c .start) (tr .letter) ≡ c .start)) ⊎ ((advanced (c .position) (tr .letter) ≡ c .position + 1) × (advanced (c .start) (tr .letter) ≡ c .start + 1))
+          → ((advanced (c .position) (tr .letter) ≡ c .position) × (advanced (c .start) (tr .letter) ≡ c .start))
+          ⊎ ((advanced (c .position) (tr .letter) ≡ c .position + 1) × (advanced (c .start) (tr .letter) ≡ c .start + 1) × (c .start < c .end))
+      moved l (inl z) = inl z
+      moved l (inr z) = let s = z .1 in inr (z .0, s, omega arith)
 
   pub move-kept : (c : Config) (k : ℕ) → k < m .transitions → move m list w c k .allowed ≡ true → Kept c (c .mode) (move m list w c k .config)
-  unfolding move
   move-kept c k lt =
-      cond-elim Good (wellPlaced (m .states) (length w) c) _ (goes false c c)
-      (λ p. cond-elim Good (ltb k (m .transitions)) _ (changes (m .marks) c k (c .mode))
-      (λ l. cond-elim Good (eqb (transitionAt list k .from) (c .state)) (takes (m .marks) w c (transitionAt list k) (c .mode)) (goes false c c)
-      (λ same. takes-kept c (transitionAt list k) (c .mode) (placed m w c p .forward))
-      (λ f h. absurd (false≢true h)))
-      (λ ge. let a = ltb-false k (m .transitions) ge in absurd (omega arith)))
-      (λ f h. absurd (false≢true h))
-    where
-      Good : Move → Type 0
-      Good v = v .allowed ≡ true → Kept c (c .mode) (v .config)
+      move-elim m list w c k (Kept c (c .mode)) (λ p l t. after-kept c (transitionAt list k) (c .mode) (p .forward) (t .stored)) (λ p ge h. absurd (omega arith))
 
   -- and only a transition from the configuration's state is taken
   pub move-from : (c : Config) (k : ℕ) → k < m .transitions → move m list w c k .allowed ≡ true → transitionAt list k .from ≡ c .state
-  unfolding move
-  move-from c k lt =
-      cond-elim Good (wellPlaced (m .states) (length w) c) _ (goes false c c)
-      (λ p. cond-elim Good (ltb k (m .transitions)) _ (changes (m .marks) c k (c .mode))
-      (λ l. cond-elim Good (eqb (transitionAt list k .from) (c .state)) (takes (m .marks) w c (transitionAt list k) (c .mode)) (goes false c c)
-      (λ same h. eqb-true (transitionAt list k .from) (c .state) same)
-      (λ f h. absurd (false≢true h)))
-      (λ ge. let a = ltb-false k (m .transitions) ge in absurd (omega arith)))
-      (λ f h. absurd (false≢true h))
-    where
-      Good : Move → Type 0
-      Good v = v .allowed ≡ true → transitionAt list k .from ≡ c .state
+  move-from c k lt = move-elim m list w c k (λ d. transitionAt list k .from ≡ c .state) (λ p l t. t .leaves) (λ p ge h. absurd (omega arith))
 
   -- the second half goes on
   tail-equal : {x y : ℕ} {u v : List ℕ} → x ∷ u ≡ y ∷ v → u ≡ v
@@ -241,34 +199,20 @@ pub record Changed (marks : List ℕ) (c : Config) (t : Mode) (e : ℕ) (c′ : 
   pub begins : t ≡ Normal → (c′ .start ≡ c .position) × (buffering marks (c .state) ≡ true)
 
 module _ (m : Machine) (list sets w : List ℕ) where
-  goes-changed : (c : Config) (t : Mode) (e : ℕ) (ok : Bool) (next : Config) → (ok ≡ true → Changed (m .marks) c t e next) → ok ≡ true → Changed (m .marks) c t e (cond ok next c)
-  goes-changed c t e true next h z = h z
-  goes-changed c t e false next h z = absurd (false≢true z)
-
   began : (c : Config) (e : ℕ) → (eqb e beginBuffering && (buffering (m .marks) (c .state) && eqb (c .start) (c .end))) ≡ true → buffering (m .marks) (c .state) ≡ true
   began c e h =
       and-true (buffering (m .marks) (c .state)) (eqb (c .start) (c .end)) (and-true (eqb e beginBuffering) (buffering (m .marks) (c .state) && eqb (c .start) (c .end)) h .1) .0
 
-  changes-changed : (c : Config) (e : ℕ) (t : Mode) → changes (m .marks) c e t .allowed ≡ true → Changed (m .marks) c t e (changes (m .marks) c e t .config)
-  unfolding changes
-  changes-changed c e Normal =
-      goes-changed c Normal e _ _ (λ h. record { entry = eqb-true e beginBuffering (and-true (eqb e beginBuffering) (buffering (m .marks) (c .state) && eqb (c .start) (c .end)) h .0); mode-next = refl; begins = λ z. (refl, began c e h) })
-  changes-changed c e Buffering =
-      goes-changed c Buffering e _ _ (λ h. record { entry = eqb-true e beginEmptying (and-true (eqb e beginEmptying) (matching (m .marks) (c .state)) h .0); mode-next = refl; begins = λ z. let d : _≡_ {A = ℕ} 0 1 = cc in absurd (omega arith) })
-  changes-changed c e Emptying =
-      goes-changed c Emptying e _ _ (λ h. record { entry = eqb-true e backToNormal (and-true (eqb e backToNormal) (matching (m .marks) (c .state) && eqb (c .start) (c .end)) h .0); mode-next = refl; begins = λ z. let d : _≡_ {A = ℕ} 0 1 = cc in absurd (omega arith) })
+  changed-is : (c : Config) (e : ℕ) (t : Mode) → mayChange (m .marks) c e t ≡ true → Changed (m .marks) c t e (changed c t)
+  changed-is c e Normal h =
+      record { entry = eqb-true e beginBuffering (and-true (eqb e beginBuffering) (buffering (m .marks) (c .state) && eqb (c .start) (c .end)) h .0); mode-next = refl; begins = λ z. (refl, began c e h) }
+  changed-is c e Buffering h =
+      record { entry = eqb-true e beginEmptying (and-true (eqb e beginEmptying) (matching (m .marks) (c .state)) h .0); mode-next = refl; begins = λ z. let d : _≡_ {A = ℕ} 0 1 = cc in absurd (omega arith) }
+  changed-is c e Emptying h =
+      record { entry = eqb-true e backToNormal (and-true (eqb e backToNormal) (matching (m .marks) (c .state) && eqb (c .start) (c .end)) h .0); mode-next = refl; begins = λ z. let d : _≡_ {A = ℕ} 0 1 = cc in absurd (omega arith) }
 
   pub change-is : (c : Config) (e : ℕ) → m .transitions ≤ e → move m list w c e .allowed ≡ true → Changed (m .marks) c (c .mode) e (move m list w c e .config)
-  unfolding move
-  change-is c e ge =
-      cond-elim Good (wellPlaced (m .states) (length w) c) _ (goes false c c)
-      (λ p. cond-elim Good (ltb e (m .transitions)) _ (changes (m .marks) c e (c .mode))
-      (λ l. let a = ltb-true e (m .transitions) l in absurd (omega arith))
-      (λ f. changes-changed c e (c .mode)))
-      (λ f h. absurd (false≢true h))
-    where
-      Good : Move → Type 0
-      Good v = v .allowed ≡ true → Changed (m .marks) c (c .mode) e (v .config)
+  change-is c e ge = move-elim m list w c e (Changed (m .marks) c (c .mode) e) (λ p lt t. absurd (omega arith)) (λ p l h. changed-is c e (c .mode) h)
 
   -- Some entry has one move less to go
 
