@@ -46,6 +46,13 @@ pub fn add(set: u64, q: usize) -> u64
     if q < WIDTH { set | (1u64 << q) } else { set }
 }
 
+// The set of the state q alone.
+pub fn single(q: usize) -> u64
+    ensures { λ r. ⌜ SetIs r (added 0 q) (λ p. (p ≡ q) × (p < width)) ⌝ }
+{
+    add(empty(), q)
+}
+
 // The set without its lowest member; empty where it is empty. The step of a loop over the members.
 pub fn without_lowest(set: u64) -> u64
     ensures { λ r. ⌜ SetIs r (removed set (lowestOf set)) (λ p. In set p × (p ≡ lowestOf set → ⊥)) ⌝ }

@@ -17,7 +17,7 @@
 -- lowest-in, lowest-lt, lowest-not == the lowest is a member, below the width, and nothing below it is a member
 -- less-one, in-less-one            == the digits of x - 1, and the members of x that are members of x - 1: all but the lowest
 -- rest-is, rest-none, lowest-removed == what is left of a set without its lowest member
--- empty-is, below-is, added-is, removed-is, union-is, intersection-is, without-is, size-is, lowest-is
+-- empty-is, below-is, added-is, single-is, removed-is, union-is, intersection-is, without-is, size-is, lowest-is
 --                                  == what each function returns, with its members
 -- removed-size                     == the size after removing
 -- drop-lowest, union-grows         == the measure of a loop that takes out the lowest member; of one that joins sets until nothing changes
@@ -596,6 +596,17 @@ module _ (x q : ℕ) (hx : x < 2 ^ width) where
   removed-size m =
       let h = in-lt {w = width} {x = x} {q = q} hx m in
       ap (λ n. suc (ones n)) (removed-state x q h) ∙ ones-remove width x q hx m
+
+-- the set of one state: that state added to the empty set
+pub single-is : (x q r : ℕ) → x ≡ 0 → r ≡ added x q → SetIs r (added 0 q) (λ p. (p ≡ q) × (p < width))
+single-is x q r e v = moved (v ∙ ap (λ (n : ℕ). added n q) e) alone
+  where
+    to : (p : ℕ) → In 0 p ⊎ ((p ≡ q) × (p < width)) → (p ≡ q) × (p < width)
+    to p (inl m) = absurd (empty-in p m)
+    to p (inr k) = k
+
+    alone : SetIs (added 0 q) (added 0 q) (λ p. (p ≡ q) × (p < width))
+    alone = let a = added-is 0 q (omega arith) in record { value = refl; fits = a .fits; members = λ p. (λ m. to p (a .members p .0 m), λ k. a .members p .1 (inr k)) }
 
 pub below-is : (n : ℕ) → SetIs (below n) (below n) (λ p. (p < n) × (p < width))
 unfolding below
