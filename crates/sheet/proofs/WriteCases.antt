@@ -5,14 +5,15 @@
 -- write-ill, write-short, write-long, write-says == the ways through write_sheet, and the number and values of its answer
 use Prim.Native.Nat.{ℕ, zero, _+_, _*_, _-_, _<_, _≤_}
 use mathlib.Core.Path.{_≡_, refl, sym, ap, _∙_, subst}
-use mathlib.Core.List.{List, [], _∷_, _++_, append-assoc, append-nil}
+use mathlib.Core.List.{List, [], _∷_, _++_, append-assoc}
 use mathlib.Core.Bool.{Bool, true, false, cond}
 use native.Mathlib.Omega.{arith}
-use lib.ListN.{length, take, drop, set, length-append, take-append-drop}
+use lib.ListN.{length, drop, set, length-append}
 use lib.Dec.{leb, eqb}
 use borrow.Author.Tests.{le-leb, lt-leb}
-use Rattle.columns.specs.Column.{columnOf, put}
-use Rattle.columns.specs.Column.Laws.{column-length, put-length, put-put, put-one, put-zero}
+use Rattle.basics.specs.Lists.{put, put-none, put-length, put-put, put-one, put-zero}
+use Rattle.columns.specs.Column.{columnOf}
+use Rattle.columns.specs.Column.Laws.{column-length}
 use Rattle.fsbm.specs.Machine.{markOf, transitionAt, wellFormed}
 use Rattle.fsbm.specs.Answers.{refusal}
 use Rattle.fsbm.specs.Rules.{rules}
@@ -85,11 +86,8 @@ length-three a b d =
 -- the loops
 
 pub each-none : (start : ℕ) (l : List ℕ) (f : ℕ → List ℕ) → l ≡ put start l (eachBelow 0 f)
-unfolding put eachBelow
-each-none start l f =
-    let e : start + 0 ≡ start = omega arith in
-    sym (take-append-drop start l)
-    ∙ (ap (λ (x : List ℕ). x ++ drop start l) (sym (append-nil (take start l))) ∙ ap (λ (n : ℕ). take start l ++ [] ++ drop n l) (sym e))
+unfolding eachBelow
+each-none start l f = put-none start l
 
 pub each-more : (w start : ℕ) (f : ℕ → List ℕ) → ((k : ℕ) → length (f k) ≡ w) → (l l1 l2 piece : List ℕ) (k at : ℕ)
     → l1 ≡ put start l (eachBelow k f) → l2 ≡ put at l1 piece → piece ≡ f k → at ≡ start + w * k → start + w * k + w ≤ length l
