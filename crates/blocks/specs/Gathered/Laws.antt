@@ -16,10 +16,9 @@ use native.Mathlib.Omega.{arith}
 use native.Mathlib.Decide.{decLt}
 use lib.ListN.{length, getD, set, length-set}
 use lib.Seq.{getD-set-same}
-use borrow.Author.Tests.{eqb-false}
 use Rattle.basics.specs.Lists.{set-cases}
-use Rattle.stateset.specs.Set.{width, In, has, digit, added, SetIs}
-use Rattle.stateset.specs.Set.Laws.{has-in}
+use Rattle.stateset.specs.Set.{width, In, has, added, SetIs}
+use Rattle.stateset.specs.Set.Laws.{has-in, has-not}
 use Rattle.pieces.specs.Blocks.{cell}
 use Rattle.blocks.specs.Numbers.Laws.{Left, Rest, Taken, left-start, left-more, left-end}
 use Rattle.blocks.specs.Gathered.{Adding, Pick, Reach, Far, From, Near, Stay}
@@ -60,9 +59,6 @@ adding-as {C} {C′} there back {p} {p′} {got} {got′} f =
     on t (inr c) = inr (there t (getD p′ t 0) c)
 
 -- one candidate
-
-has-not : (x q : ℕ) → has x q ≡ false → In x q → ⊥
-has-not x q e m = eqb-false (digit x q) 1 e m
 
 module _ (may t v : ℕ) (p : List ℕ) (got : ℕ) (fits : got < 2 ^ width) where
   pub pick-shut : has may t ≡ false → Adding (Pick may t v) p got p got

@@ -1,4 +1,5 @@
-use Rattle.sheet.proofs.WriteCases.{each-none, each-more, state-piece, state-wide, each-done}
+use Rattle.sheet.proofs.WriteCases.{each-none, each-more, state-piece, each-done}
+use Rattle.sheet.specs.Format.Laws.{state-wide}
 use Rattle.sheet.specs.Format.{stateLine}
 use Rattle.sheet.specs.Series.{eachBelow}
 use Rattle.basics.specs.Lists.{put}

@@ -1,4 +1,5 @@
-use Rattle.sheet.proofs.WriteCases.{each-none, each-more, transition-piece, transition-wide, each-done}
+use Rattle.sheet.proofs.WriteCases.{each-none, each-more, transition-piece, each-done}
+use Rattle.sheet.specs.Format.Laws.{transition-wide}
 use Rattle.sheet.specs.Format.{transitionLine}
 use Rattle.sheet.specs.Series.{eachBelow}
 use Rattle.basics.specs.Lists.{put}
