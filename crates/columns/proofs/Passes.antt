@@ -20,7 +20,8 @@ use lib.ListN.{length, take, drop, getD, set}
 use lib.Seq.{drop-cons, sets-eq}
 use lib.Dec.{leb, eqb}
 use borrow.Author.Tests.{le-leb, lt-leb, eq-eqb, ne-eqb}
-use Rattle.columns.specs.Column.{noNumber, isDigit, Pass, blank, nought, digits, broken, next, passFrom, found, columnNumber, digitOr, padded, columnOf, put}
+use Rattle.basics.specs.Lists.{put}
+use Rattle.columns.specs.Column.{noNumber, isDigit, Pass, blank, nought, digits, broken, next, passFrom, found, columnNumber, digitOr, padded, columnOf}
 
 pub pass-byte : (p : Pass) (s : List ℕ) (i e : ℕ) → i < e → e ≤ length s
     → passFrom p (take (e - i) (drop i s)) ≡ passFrom (next p (getD s i 0)) (take (e - (i + 1)) (drop (i + 1) s))

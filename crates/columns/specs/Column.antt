@@ -7,11 +7,9 @@
 -- passFrom p l       == what it holds after the bytes l
 -- columnNumber l     == the number that the bytes l are; noNumber where they are not a column
 -- columnOf w n       == the column of w bytes that holds n
--- put at l bytes     == the list l with these bytes from index at on
 use Prim.Native.Nat.{ℕ, zero, suc, _+_, _*_, _-_, _/_, _%_}
 use mathlib.Core.List.{List, [], _∷_, _++_}
 use mathlib.Core.Bool.{Bool, cond, _&&_}
-use lib.ListN.{length, take, drop}
 use lib.Dec.{leb, eqb}
 pub mod Laws
 
@@ -66,6 +64,3 @@ padded (suc w) q = padded w (q / 10) ++ (digitOr q ∷ [])
 unfoldable pub columnOf : ℕ → ℕ → List ℕ
 columnOf zero n = []
 columnOf (suc w) n = padded w (n / 10) ++ ((48 + n % 10) ∷ [])
-
-unfoldable pub put : ℕ → List ℕ → List ℕ → List ℕ
-put at l bytes = take at l ++ bytes ++ drop (at + length bytes) l

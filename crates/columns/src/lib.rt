@@ -9,7 +9,8 @@ ghost use Prim.Native.Nat.{_+_, _-_, _/_, _%_, _<_, _≤_};
 ghost use mathlib.Core.List.{[], _∷_};
 ghost use mathlib.Core.Path.{_≡_};
 ghost use lib.ListN.{length, take, drop};
-ghost use Rattle.columns.specs.Column.{isDigit, digits, passFrom, found, columnNumber, digitOr, columnOf, put};
+ghost use Rattle.basics.specs.Lists.{put};
+ghost use Rattle.columns.specs.Column.{isDigit, digits, passFrom, found, columnNumber, digitOr, columnOf};
 
 // The answer of number where there is none: more than any column of ten bytes holds.
 pub const NO_NUMBER: usize = 10000000000;

@@ -16,7 +16,7 @@ use native.Mathlib.Omega.{arith}
 use native.Mathlib.Decide.{ℕ-discrete, decLt}
 use lib.ListN.{length, getD, set, length-set, replicate}
 use Rattle.stateset.specs.Set.{In}
-use Rattle.adjacency.specs.Index.Laws.{zeros-at}
+use Rattle.basics.specs.Lists.{zeros-at}
 use Rattle.images.specs.Graph.{Members}
 use Rattle.decide.specs.Reach.{Matches}
 use Rattle.decide.specs.Squares.{Repeats, RunEnd, Ends, EndsAt, Keeps, Ended, Squared, Turning}

@@ -19,7 +19,7 @@ use Rattle.stateset.specs.Set.{width, In}
 use Rattle.stateset.specs.Set.Laws.{in-and}
 use Rattle.fsbm.specs.declared.config.Mode.{Mode}
 use Rattle.fsbm.specs.declared.config.Mode.the-variants.{Normal, Buffering, Emptying}
-use Rattle.adjacency.specs.Index.Laws.{zeros-at}
+use Rattle.basics.specs.Lists.{zeros-at}
 use Rattle.images.specs.Graph.{Members, Fitting, From, Star, here, more, Graph, Edge, Free, EmptyCopy, Turn}
 use Rattle.decide.specs.Reach.{Walk, still, reads, Matches, Reach, begins, passes, moves, copies, CopyTo, Copied, ReadTo, Passed, Stage}
 use Rattle.images.proofs.SetCases.{none-in, row-cases}

@@ -20,6 +20,7 @@ use native.Mathlib.Decide.{ℕ-discrete}
 use lib.ListN.{length, getD, List·getD-eq-default}
 use lib.Dec.{ltb, leb, eqb}
 use borrow.Author.Tests.{lt-ltb, le-ltb, le-leb, lt-leb, eq-eqb, ne-eqb, ltb-true, ltb-false, leb-true, eqb-true, eqb-false, not-true}
+use Rattle.basics.specs.Bools.{same-truth}
 use Rattle.basics.specs.Search.{allBelow}
 use Rattle.basics.specs.Search.Laws.{true-or-false, and-true, and-both-true, and-false, and-false-left, and-false-right, allBelow-false}
 use Rattle.basics.specs.Search.Loops.{pass, stop}
@@ -37,11 +38,6 @@ unfolding allBelow
 all-next p k = ap (λ (n : ℕ). allBelow n p) (add-one k)
 
 -- Marks
-
-same : (a b : Bool) → (a ≡ true → b ≡ true) → (b ≡ true → a ≡ true) → a ≡ b
-same true b to from = sym (to refl)
-same false true to from = from refl
-same false false to from = refl
 
 -- state q may have the mark v
 abbrev markFits : ℕ → ℕ → ℕ → Bool
@@ -92,7 +88,7 @@ module _ (m : Machine) (q v w l l′ n n′ : ℕ) (inside : q < 64) (v-is : v �
       ∙ ap (λ (t : Bool). markFits (m .states) q (cond t (getD (m .marks) q 0) 0)) (sym (lt-ltb q 64 inside))
 
   marks-step : (leb l′ 11 && leb n′ (m .states)) ≡ (markFits (m .states) q v && (leb l 11 && leb n (m .states)))
-  marks-step = same _ _ to from
+  marks-step = same-truth _ _ to from
     where
       to : (leb l′ 11 && leb n′ (m .states)) ≡ true → (markFits (m .states) q v && (leb l 11 && leb n (m .states))) ≡ true
       to e =
@@ -172,7 +168,7 @@ abbrev pub Short : Transition → Type 0
 Short t = (t .from < 65536) × (t .letter < 65536) × (t .to < 65536)
 
 same-order : (a b c d : ℕ) → (a < b → c < d) → (c < d → a < b) → ltb a b ≡ ltb c d
-same-order a b c d to from = same _ _ (λ e. lt-ltb c d (to (ltb-true a b e))) (λ e. lt-ltb a b (from (ltb-true c d e)))
+same-order a b c d to from = same-truth _ _ (λ e. lt-ltb c d (to (ltb-true a b e))) (λ e. lt-ltb a b (from (ltb-true c d e)))
 
 rank-precedes : (s t : Transition) → Short s → Short t → ltb (rankOf s) (rankOf t) ≡ precedes s t
 rank-precedes s t x y = at (ℕ-discrete (s .from) (t .from)) (ℕ-discrete (s .letter) (t .letter))
@@ -226,7 +222,7 @@ module _ (states letters : ℕ) (list : List ℕ) (k least : ℕ) (t : Transitio
           le-leb least (rankOf t) (omega arith) ∙ ap (λ (x : Bool). x || precedes (transitionAt list (k - 1)) t) (sym (eq-eqb k 0 z))
       at (no n) =
           let l : least ≡ rankOf (transitionAt list (k - 1)) + 1 = least-is ∙ ap (λ (x : Bool). cond x 0 (rankOf (transitionAt list (k - 1)) + 1)) (ne-eqb k 0 n) in
-          same _ _ (λ h. lt-ltb _ _ (below l (leb-true _ _ h))) (λ h. le-leb _ _ (above l (ltb-true _ _ h)))
+          same-truth _ _ (λ h. lt-ltb _ _ (below l (leb-true _ _ h))) (λ h. le-leb _ _ (above l (ltb-true _ _ h)))
           ∙ (rank-precedes (transitionAt list (k - 1)) t (short (k - 1)) (subst Short (sym at-k) (short k))
           ∙ ap (λ (x : Bool). x || precedes (transitionAt list (k - 1)) t) (sym (ne-eqb k 0 n)))
         where

@@ -216,7 +216,7 @@ module _ (m : Machine) (list w : List ℕ) where
 
 -- Whole runs
 
-is-normal : (t : Mode) → isNormal t ≡ true → t ≡ Normal
+pub is-normal : (t : Mode) → isNormal t ≡ true → t ≡ Normal
 is-normal Normal h = refl
 is-normal Buffering h = absurd (false≢true h)
 is-normal Emptying h = absurd (false≢true h)

@@ -7,13 +7,13 @@
 -- accepted-iff-run        == accepted, if and only if some run accepts
 -- accepted-iff-published  == accepted, if and only if the word is in the published language
 -- accepted-not-published  == not accepted, if and only if the word is not in the language
-use Prim.Native.Nat.{ℕ, zero, suc, _+_, _*_, _/_, _%_, _≤_, _<_}
-use mathlib.Core.Path.{_≡_, refl, sym, ap, _∙_}
+use Prim.Native.Nat.{ℕ, zero, suc, _+_, _*_, _≤_, _<_}
+use mathlib.Core.Path.{_≡_, refl, sym, _∙_}
 use mathlib.Core.Logic.{_↔_}
 use mathlib.Core.Bool.{true, false}
 use mathlib.Core.List.{List, [], append-nil}
 use native.Mathlib.Omega.{arith}
-use native.Mathlib.Nat.{mul-add-mod-self-right, mul-add-div-right, mod-eq-of-lt, div-eq-of-lt, mul-le-mul-right, mul-right-comm, suc-mul}
+use native.Mathlib.Nat.{mul-right-comm}
 use lib.ListN.{length}
 use Rattle.basics.specs.Search.{AllBelow}
 use Rattle.graphs.specs.Paths.{Path, here, step}
@@ -27,6 +27,7 @@ use Rattle.fsbm.specs.declared.machine.Machine.{Machine}
 use Rattle.fsbm.specs.declared.config.Mode.{Mode}
 use Rattle.fsbm.specs.declared.config.Mode.the-variants.{Normal, Buffering, Emptying}
 use Rattle.basics.specs.Bools.{false-iff}
+use Rattle.basics.specs.Pairs.{pair-below, pair-same}
 use Rattle.fsbm.specs.Rules.{Rules, rules, buffering-below, matching-below}
 use Rattle.language.specs.Agreement.{run-path, path-accepting, accepting-published}
 
@@ -89,29 +90,16 @@ modeNumber-same Emptying Emptying e = refl
 key : ℕ → Configuration → ℕ
 key states D = (length (D .input) * 3 + modeNumber (D .mode)) * states + D .state
 
--- a number below s and how often s stands beside it are read off their sum
-digits : (s a b x y : ℕ) → x < s → y < s → a * s + x ≡ b * s + y → (a ≡ b) × (x ≡ y)
-digits s a b x y lx ly e =
-    let pos : 0 < s = omega arith in
-    let quotients = sym (mul-add-div-right pos a x) ∙ ap (λ (n : ℕ). n / s) e ∙ mul-add-div-right pos b y in
-    let dx = div-eq-of-lt lx in
-    let dy = div-eq-of-lt ly in
-    let remainders = sym (mul-add-mod-self-right a s x) ∙ ap (λ (n : ℕ). n % s) e ∙ mul-add-mod-self-right b s y in
-    let rx = mod-eq-of-lt lx in
-    let ry = mod-eq-of-lt ly in
-    (omega arith, sym rx ∙ remainders ∙ ry)
-
 in-bound : (s a n x : ℕ) → a < 3 * (n + 1) → x < s → a * s + x < 3 * s * (n + 1)
 in-bound s a n x la lx =
-    let rows = mul-le-mul-right s la in
-    let row = suc-mul a s in
+    let z = pair-below (3 * (n + 1)) s a x la lx in
     let order = mul-right-comm 3 (n + 1) s in
     omega arith
 
 key-same : (states : ℕ) (D D′ : Configuration) → D .state < states → D′ .state < states → Shrinks D D′ → key states D ≡ key states D′ → D ≡ D′
 unfolding key
 key-same s D D′ lt lt′ shrinks e =
-    let (upper, state) = digits s (length (D .input) * 3 + modeNumber (D .mode)) (length (D′ .input) * 3 + modeNumber (D′ .mode)) (D .state) (D′ .state) lt lt′ e in
+    let (upper, state) = pair-same s (length (D .input) * 3 + modeNumber (D .mode)) (D .state) (length (D′ .input) * 3 + modeNumber (D′ .mode)) (D′ .state) lt lt′ e in
     let m = modeNumber-below (D .mode) in
     let m′ = modeNumber-below (D′ .mode) in
     let (input, stored) = shrinks .unread (omega arith) in

@@ -7,7 +7,7 @@ ghost use Prim.Native.Nat.{_+_, _*_, _≤_, _<_};
 ghost use mathlib.Core.Path.{_≡_};
 ghost use mathlib.Core.Bool.{true, _&&_};
 ghost use lib.ListN.{length};
-ghost use Rattle.columns.specs.Column.{put};
+ghost use Rattle.basics.specs.Lists.{put};
 ghost use Rattle.lines.specs.Line.{WordRead, Stored, lineAnswer, answerLine, Ready};
 use decide::places;
 use fsbm::machine::Machine;

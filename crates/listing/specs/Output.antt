@@ -18,7 +18,7 @@ use mathlib.Core.List.{List}
 use mathlib.Core.Bool.{Bool, true, false, _||_}
 use lib.ListN.{length, take}
 use lib.Dec.{leb, eqb}
-use Rattle.columns.specs.Column.{put}
+use Rattle.basics.specs.Lists.{put}
 use Rattle.fsbm.specs.declared.machine.Machine.{Machine}
 use Rattle.sheet.specs.Reading.{firstFault, machineOf, transitionsOf, readAnswer, readList}
 use Rattle.stream.specs.Listing.{mostWords}

@@ -21,6 +21,7 @@ use lib.ListN.{length, getD, set, length-set, replicate, length-replicate, getD-
 use lib.Seq.{getD-set-same, getD-set-other, ext-getD}
 use lib.Dec.{eqb}
 use borrow.Author.Tests.{eq-eqb, ne-eqb}
+use Rattle.basics.specs.Lists.{set-next}
 use Rattle.basics.specs.Search.Loops.{first, second}
 use Rattle.fsbm.specs.Machine.{initial, final, buffering, matching, transitionAt, maxStates}
 use Rattle.fsbm.specs.Rules.{Rules}
@@ -123,11 +124,7 @@ pair-mark-is marks₁ p marks₂ r a b c d ea eb ec ed = λ i. ea i + eb i + ec 
 
 pub marks-next : (m₁ m₂ : Machine) (marks : List ℕ) (q v : ℕ) → length marks ≡ 64 → q < 64 → ((x : ℕ) → x < q → getD marks x 0 ≡ joinedMark m₁ m₂ x) → v ≡ joinedMark m₁ m₂ q
     → (length (set marks q v) ≡ 64) × ((x : ℕ) → x < q + 1 → getD (set marks q v) x 0 ≡ joinedMark m₁ m₂ x)
-marks-next m₁ m₂ marks q v size lt so-far at-v = (length-set marks q v ∙ size, λ x h. at x h (ℕ-discrete x q))
-  where
-    at : (x : ℕ) → x < q + 1 → Dec (x ≡ q) → getD (set marks q v) x 0 ≡ joinedMark m₁ m₂ x
-    at x h (yes e) = ap (λ (n : ℕ). getD (set marks q v) n 0) e ∙ getD-set-same marks q v 0 (omega arith) ∙ at-v ∙ ap (joinedMark m₁ m₂) (sym e)
-    at x h (no d) = getD-set-other marks q x v 0 d ∙ so-far x (omega arith)
+marks-next m₁ m₂ marks q v size lt so-far at-v = (length-set marks q v ∙ size, set-next marks q v 0 (omega arith) (λ x y. y ≡ joinedMark m₁ m₂ x) at-v so-far)
 
 pub marks-end : (m₁ m₂ : Machine) (marks : List ℕ) (q : ℕ) → 64 ≤ q → length marks ≡ 64 → ((x : ℕ) → x < q → getD marks x 0 ≡ joinedMark m₁ m₂ x) → marks ≡ joinedMarks m₁ m₂
 unfolding joinedMarks

@@ -17,8 +17,7 @@ use Rattle.fsbm.specs.declared.machine.Machine.{Machine}
 use Rattle.fsbm.specs.declared.answer.Refusal.{Refusal}
 use Rattle.product.specs.declared.Product.{Product}
 use Rattle.product.specs.Count.{joined-length}
-use Rattle.product.specs.Each.{replaced}
-use Rattle.product.specs.Each.Laws.{put-front}
+use Rattle.basics.specs.Lists.{put, put-zero}
 use Rattle.product.specs.Product.{joinedCount, joinedMarks, joinedMachine, joinedTransitions, joinFault, joinRefusal, joinAnswer, joinAfter}
 
 module _ (m₁ : Machine) (l₁ : List ℕ) (m₂ : Machine) (l₂ list : List ℕ) (n : ℕ) (at-n : n ≡ joinFault m₁ l₁ m₂ l₂) where
@@ -50,7 +49,7 @@ module _ (m₁ : Machine) (l₁ : List ℕ) (m₂ : Machine) (l₂ list : List �
     pub long-enough : count * 3 ≤ length list → length (joinedTransitions m₁ l₁ m₂ l₂) ≤ length list
     long-enough h = let size = joined-length m₁ l₁ m₂ l₂ (sym at-n ∙ none) in omega arith
 
-    pub joins : count * 3 ≤ length list → (marks : List ℕ) → marks ≡ joinedMarks m₁ m₂ → (after : List ℕ) → after ≡ replaced list 0 (joinedTransitions m₁ l₁ m₂ l₂)
+    pub joins : count * 3 ≤ length list → (marks : List ℕ) → marks ≡ joinedMarks m₁ m₂ → (after : List ℕ) → after ≡ put 0 list (joinedTransitions m₁ l₁ m₂ l₂)
         → Answers (record { refusal = record { number = 0; needed = 0 }; machine = record { states = m₁ .states * m₂ .states; letters = m₁ .letters; transitions = count; marks = marks } }) after
     unfolding joinRefusal joinAnswer joinAfter joinedMachine
     joins h marks at-marks after at-after =
@@ -62,5 +61,5 @@ module _ (m₁ : Machine) (l₁ : List ℕ) (m₂ : Machine) (l₂ list : List �
         let chosen : record { states = m₁ .states * m₂ .states; letters = m₁ .letters; transitions = count; marks = marks }
         ≡ cond (eqb (joinRefusal m₁ l₁ m₂ l₂ (length list) .number) 0) (joinedMachine m₁ l₁ m₂ l₂) noMachine = first noMachine yes machine in (
           λ i. record { refusal = ok i; machine = chosen i },
-          first list yes (at-after ∙ put-front list (joinedTransitions m₁ l₁ m₂ l₂) ∙ ap (λ (k : ℕ). joinedTransitions m₁ l₁ m₂ l₂ ++ drop k list) size),
+          first list yes (at-after ∙ put-zero list (joinedTransitions m₁ l₁ m₂ l₂) ∙ ap (λ (k : ℕ). joinedTransitions m₁ l₁ m₂ l₂ ++ drop k list) size),
         )

@@ -16,6 +16,7 @@ use native.Mathlib.Decide.{decLt, ℕ-discrete}
 use lib.ListN.{length, getD, set, length-set}
 use lib.Pow.{shr-shr}
 use lib.Seq.{getD-set-same, getD-set-other}
+use borrow.Author.Count.{below-more}
 use Rattle.stateset.specs.Set.{width, digit, In, Lowest}
 use Rattle.stateset.specs.Set.Laws.{empty-in, in-lt}
 use Rattle.product.specs.Each.{zerosOf}
@@ -78,11 +79,10 @@ module _ (list words : List ℕ) (k y v : ℕ) (size : length words ≡ 256) (so
       at (no d) = inl (subst (λ (n : ℕ). In n (z % 64)) (getD-set-other words (y / 64) (z / 64) v 0 d) m)
 
   pub keying-next : (length (set words (y / 64) v) ≡ 256) × KeySet list (k + 1) (set words (y / 64) v)
-  keying-next = (length-set words (y / 64) v ∙ size, record { all = λ i lt. all i lt (ℕ-discrete i k); only = λ z lt m. only z lt (more-only z m) })
+  keying-next = (length-set words (y / 64) v ∙ size, record { all = below-more _ k (λ i lt. more-of (letterKey list i) (so-far .all i lt)) at-k; only = λ z lt m. only z lt (more-only z m) })
     where
-      all : (i : ℕ) → i < k + 1 → Dec (i ≡ k) → Marked (set words (y / 64) v) (letterKey list i)
-      all i lt (yes e) = subst (λ (z : ℕ). Marked (set words (y / 64) v) z) (at-y ∙ ap (letterKey list) (sym e)) new-one
-      all i lt (no d) = more-of (letterKey list i) (so-far .all i (omega arith))
+      at-k : Marked (set words (y / 64) v) (letterKey list k)
+      at-k = subst (λ (z : ℕ). Marked (set words (y / 64) v) z) at-y new-one
 
       only : (z : ℕ) → z < 16384 → Marked words z ⊎ (z ≡ y) → Occurs list (k + 1) z
       only z lt (inl m) = let o = so-far .only z lt m in record { place = o .place; within = omega (arith, o .within); keyed = o .keyed }

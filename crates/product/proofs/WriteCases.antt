@@ -1,6 +1,5 @@
 -- The functions of src/write.rt case by case, over plain variables.
 --
--- put-three               == three stores are one
 -- flat-append, flat-each  == a flat list of parts
 -- threes-length           == the length of parts of three numbers
 -- letter-next, letter-end, letter-room == the loop over the transitions of the second by one letter
@@ -20,8 +19,7 @@ use mathlib.Core.Bool.{cond, _&&_}
 use mathlib.Core.List.{List, [], _∷_, _++_}
 use native.Mathlib.Omega.{arith}
 use native.Mathlib.Decide.{decLt, ℕ-discrete}
-use lib.ListN.{length, getD, set}
-use lib.Seq.{sets-eq}
+use lib.ListN.{length, getD}
 use lib.Dec.{eqb}
 use borrow.Author.Tests.{eq-eqb, ne-eqb, eqb-true}
 use Rattle.basics.specs.Search.Laws.{and-true, and-both-true}
@@ -31,21 +29,16 @@ use Rattle.fsbm.specs.Rules.{Rules}
 use Rattle.fsbm.specs.declared.machine.Machine.{Machine}
 use Rattle.fsbm.specs.declared.machine.Transition.{Transition}
 use Rattle.basics.specs.Bools.{cond-elim}
-use Rattle.product.specs.Each.{each, replaced}
+use Rattle.basics.specs.Lists.{put}
+use Rattle.product.specs.Each.{each}
 use Rattle.product.specs.Each.Laws.{each-step, each-over, each-same, each-none, each-block, each-skip, length-each, Putting, putting-start, putting-room, putting-step, putting-at, putting-end}
 use Rattle.product.specs.Each.Sums.{sum-const}
 use Rattle.product.specs.Letters.{Marked, Matches, Occurs, Starts, Indexed, Common, Least, Searching, NextMove}
 use Rattle.product.specs.Order.{letterKey, Lower, Block, Moving}
 use Rattle.product.specs.Product.{joint, jointMoves, joinedFrom, joined, flat, joinedTransitions}
 use Rattle.product.specs.Steps.{letterMove}
-use Rattle.product.specs.Tables.{rising, Joinable, pair-below, pair-same}
-
-pub put-three : (l : List ℕ) (k a b c : ℕ) → k + 3 ≤ length l → set (set (set l k a) (k + 1) b) (k + 2) c ≡ replaced l k (a ∷ b ∷ c ∷ [])
-unfolding replaced
-put-three l k a b c h =
-    let one : k + 1 ≡ suc k = omega arith in
-    let two : k + 2 ≡ suc (suc k) = omega arith in
-    ap (λ (n : ℕ). set (set (set l k a) n b) (k + 2) c) one ∙ ap (λ (n : ℕ). set (set (set l k a) (suc k) b) n c) two ∙ sets-eq (a ∷ b ∷ c ∷ []) l k h
+use Rattle.basics.specs.Pairs.{pair-below, pair-same}
+use Rattle.product.specs.Tables.{rising, Joinable}
 
 pub flat-append : (a b : List Transition) → flat (a ++ b) ≡ flat a ++ flat b
 unfolding flat
@@ -80,16 +73,16 @@ module _ (second : List ℕ) (lo hi from letter base : ℕ) (entry : List ℕ) (
     pub letter-room : u < hi → at + 3 ≤ length list
     letter-room lt = putting-room (threes second from letter base u) (each (u + 1) (hi - (u + 1)) (threes second from letter base)) (p .2) (each-step u hi (threes second from letter base) lt)
 
-    pub letter-next : u < hi → (t : Transition) → t ≡ transitionAt second u → (list′ : List ℕ) → list′ ≡ replaced list at (from ∷ letter ∷ (base + t .to) ∷ []) → Lettering list′ (at + 3) (u + 1)
+    pub letter-next : u < hi → (t : Transition) → t ≡ transitionAt second u → (list′ : List ℕ) → list′ ≡ put at list (from ∷ letter ∷ (base + t .to) ∷ []) → Lettering list′ (at + 3) (u + 1)
     letter-next lt t at-t list′ e =
         let low = p .0 in (
           omega arith,
           omega arith,
           putting-step (threes second from letter base u) (each (u + 1) (hi - (u + 1)) (threes second from letter base)) (p .2) (each-step u hi (threes second from letter base) lt)
-              (e ∙ ap (λ (z : Transition). replaced list at (from ∷ letter ∷ (base + z .to) ∷ [])) at-t),
+              (e ∙ ap (λ (z : Transition). put at list (from ∷ letter ∷ (base + z .to) ∷ [])) at-t),
         )
 
-    pub letter-end : hi ≤ u → list ≡ replaced entry k (each lo (hi - lo) (threes second from letter base))
+    pub letter-end : hi ≤ u → list ≡ put k entry (each lo (hi - lo) (threes second from letter base))
     letter-end le = putting-end (p .2) (each-over u hi (threes second from letter base) le) .0
 
 -- What one transition of the first gives
@@ -99,10 +92,10 @@ module _ (n count : ℕ) (second : List ℕ) (r : ℕ) (t : Transition) where
   unfolding jointMoves flat
   epsilon-is e = ap flat (sym (first _ (eq-eqb (t .letter) 0 e) refl))
 
-  pub epsilon-writes : (list list′ : List ℕ) (at from to : ℕ) → t .letter ≡ 0 → from ≡ t .from * n + r → to ≡ t .to * n + r → list′ ≡ replaced list at (from ∷ 0 ∷ to ∷ [])
-      → (list′ ≡ replaced list at (flat (jointMoves n count second r t))) × (at + 3 ≡ at + length (flat (jointMoves n count second r t)))
+  pub epsilon-writes : (list list′ : List ℕ) (at from to : ℕ) → t .letter ≡ 0 → from ≡ t .from * n + r → to ≡ t .to * n + r → list′ ≡ put at list (from ∷ 0 ∷ to ∷ [])
+      → (list′ ≡ put at list (flat (jointMoves n count second r t))) × (at + 3 ≡ at + length (flat (jointMoves n count second r t)))
   epsilon-writes list list′ at from to z ef et e = (
-    e ∙ (λ i. replaced list at (ef i ∷ 0 ∷ et i ∷ [])) ∙ ap (replaced list at) (sym (epsilon-is z)),
+    e ∙ (λ i. put at list (ef i ∷ 0 ∷ et i ∷ [])) ∙ ap (put at list) (sym (epsilon-is z)),
     ap (λ (l : List ℕ). at + length l) (sym (epsilon-is z)),
   )
 
@@ -163,10 +156,10 @@ module _ (n count : ℕ) (second : List ℕ) (r : ℕ) (t : Transition) where
     letters-length = ap length letters-is ∙ threes-length lo (hi - lo) (t .from * n + r) (t .letter) (λ u. t .to * n + 0 + transitionAt second u .to)
 
     pub letters-write : (list list′ : List ℕ) (at from base : ℕ) → from ≡ t .from * n + r → base ≡ t .to * n + 0
-        → list′ ≡ replaced list at (each lo (hi - lo) (λ u. from ∷ t .letter ∷ (base + transitionAt second u .to) ∷ []))
-        → (list′ ≡ replaced list at (flat (jointMoves n count second r t))) × (at + (hi - lo) * 3 ≡ at + length (flat (jointMoves n count second r t)))
+        → list′ ≡ put at list (each lo (hi - lo) (λ u. from ∷ t .letter ∷ (base + transitionAt second u .to) ∷ []))
+        → (list′ ≡ put at list (flat (jointMoves n count second r t))) × (at + (hi - lo) * 3 ≡ at + length (flat (jointMoves n count second r t)))
     letters-write list list′ at from base ef eb e = (
-      e ∙ (λ i. replaced list at (each lo (hi - lo) (threes second (ef i) (t .letter) (eb i)))) ∙ ap (replaced list at) (sym letters-is),
+      e ∙ (λ i. put at list (each lo (hi - lo) (threes second (ef i) (t .letter) (eb i)))) ∙ ap (put at list) (sym letters-is),
       ap (λ (z : ℕ). at + z) (sym letters-length),
     )
 
@@ -479,7 +472,7 @@ module _ {m₁ : Machine} {l₁ : List ℕ} {m₂ : Machine} {l₂ : List ℕ} (
           putting-room (flat (jointMoves (m₂ .states) (m₂ .transitions) l₂ r t)) (flat (each (i + 1) (hi - (i + 1)) (moves r))) (s .putting) (rest-step lt t e)
 
       pub pairing-next : i < hi → (t : Transition) → t ≡ transitionAt l₁ i → (list′ : List ℕ) (at′ i′ : ℕ)
-          → list′ ≡ replaced list at (flat (jointMoves (m₂ .states) (m₂ .transitions) l₂ r t)) → at′ ≡ at + length (flat (jointMoves (m₂ .states) (m₂ .transitions) l₂ r t))
+          → list′ ≡ put at list (flat (jointMoves (m₂ .states) (m₂ .transitions) l₂ r t)) → at′ ≡ at + length (flat (jointMoves (m₂ .states) (m₂ .transitions) l₂ r t))
           → NextMove l₁ letters (i + 1) hi i′ → Pairing letters p r lo hi entry k list′ at′ i′
       pairing-next lt t e list′ at′ i′ el ea next =
           let low = s .low in
@@ -494,7 +487,7 @@ module _ {m₁ : Machine} {l₁ : List ℕ} {m₂ : Machine} {l₂ : List ℕ} (
           }
 
   pub pairing-end : {letters : List ℕ} {p r lo hi k at i : ℕ} {entry list : List ℕ} → Pairing letters p r lo hi entry k list at i → hi ≤ i
-      → (list ≡ replaced entry k (flat (joinedFrom m₁ l₁ m₂ l₂ p r))) × (at ≡ k + length (flat (joinedFrom m₁ l₁ m₂ l₂ p r)))
+      → (list ≡ put k entry (flat (joinedFrom m₁ l₁ m₂ l₂ p r))) × (at ≡ k + length (flat (joinedFrom m₁ l₁ m₂ l₂ p r)))
   unfolding flat
   pairing-end {r = r} {hi = hi} {i = i} s le = putting-end (s .putting) (ap flat (each-over i hi (moves r) le))
 
@@ -527,7 +520,7 @@ module _ {m₁ : Machine} {l₁ : List ℕ} {m₂ : Machine} {l₂ : List ℕ} (
     pub rowing-room : r < m₂ .states → at + length (flat (joinedFrom m₁ l₁ m₂ l₂ p r)) ≤ length list
     rowing-room lt = putting-room (flat (joinedFrom m₁ l₁ m₂ l₂ p r)) (flat (each (r + 1) (m₂ .states - (r + 1)) (λ r. joinedFrom m₁ l₁ m₂ l₂ p r))) (s .putting) (row-step lt)
 
-    pub rowing-next : r < m₂ .states → (list′ : List ℕ) (at′ : ℕ) → list′ ≡ replaced list at (flat (joinedFrom m₁ l₁ m₂ l₂ p r)) → at′ ≡ at + length (flat (joinedFrom m₁ l₁ m₂ l₂ p r))
+    pub rowing-next : r < m₂ .states → (list′ : List ℕ) (at′ : ℕ) → list′ ≡ put at list (flat (joinedFrom m₁ l₁ m₂ l₂ p r)) → at′ ≡ at + length (flat (joinedFrom m₁ l₁ m₂ l₂ p r))
         → Rowing p entry k list′ at′ (r + 1)
     rowing-next lt list′ at′ el ea =
         record {
@@ -535,7 +528,7 @@ module _ {m₁ : Machine} {l₁ : List ℕ} {m₂ : Machine} {l₂ : List ℕ} (
           putting = putting-at (putting-step (flat (joinedFrom m₁ l₁ m₂ l₂ p r)) (flat (each (r + 1) (m₂ .states - (r + 1)) (λ r. joinedFrom m₁ l₁ m₂ l₂ p r))) (s .putting) (row-step lt) el) (sym ea);
         }
 
-    pub rowing-end : m₂ .states ≤ r → (list ≡ replaced entry k (flat (row p))) × (at ≡ k + length (flat (row p)))
+    pub rowing-end : m₂ .states ≤ r → (list ≡ put k entry (flat (row p))) × (at ≡ k + length (flat (row p)))
     unfolding flat
     rowing-end le = putting-end (s .putting) (ap flat (each-over r (m₂ .states) (λ r. joinedFrom m₁ l₁ m₂ l₂ p r) le))
 
@@ -580,7 +573,7 @@ module _ {m₁ : Machine} {l₁ : List ℕ} {m₂ : Machine} {l₂ : List ℕ} (
     pub writing-room : p < m₁ .states → at + length (flat (row p)) ≤ length list
     writing-room lt = putting-room (flat (row p)) (flat (each (p + 1) (m₁ .states - (p + 1)) row)) (s .putting) (state-step lt)
 
-    pub writing-next : p < m₁ .states → (list′ : List ℕ) (at′ : ℕ) → list′ ≡ replaced list at (flat (row p)) → at′ ≡ at + length (flat (row p)) → Writing entry list′ at′ hi (p + 1)
+    pub writing-next : p < m₁ .states → (list′ : List ℕ) (at′ : ℕ) → list′ ≡ put at list (flat (row p)) → at′ ≡ at + length (flat (row p)) → Writing entry list′ at′ hi (p + 1)
     writing-next lt list′ at′ el ea =
         let b = writing-block in
         record {
@@ -595,6 +588,6 @@ module _ {m₁ : Machine} {l₁ : List ℕ} {m₂ : Machine} {l₂ : List ℕ} (
         at-before i h (yes a) = let f = s .before i a in omega arith
         at-before i h (no a) = let f = l .below i (omega arith) h in omega arith
 
-  pub writing-end : {at lo p : ℕ} {entry list : List ℕ} → Writing entry list at lo p → m₁ .states ≤ p → list ≡ replaced entry 0 (joinedTransitions m₁ l₁ m₂ l₂)
+  pub writing-end : {at lo p : ℕ} {entry list : List ℕ} → Writing entry list at lo p → m₁ .states ≤ p → list ≡ put 0 entry (joinedTransitions m₁ l₁ m₂ l₂)
   unfolding flat
   writing-end {p = p} s le = putting-end (s .putting) (ap flat (each-over p (m₁ .states) row le)) .0

@@ -38,7 +38,8 @@ use Rattle.product.specs.Count.{joined-count}
 use Rattle.product.specs.Product.{pairState, joint, joined, joinedTransitions, joinedCount, joinedMarks, joinedMachine, joinFault}
 use Rattle.product.specs.Rise.{bounds}
 use Rattle.product.specs.Steps.{moves-epsilon, moves-letter, joined-to, joined-of}
-use Rattle.product.specs.Tables.{Joinable, joinable, pair-below, pair-first, pair-second, first-below, second-below}
+use Rattle.basics.specs.Pairs.{pair-below, pair-first, pair-second}
+use Rattle.product.specs.Tables.{Joinable, joinable, first-below, second-below}
 use Rattle.product.specs.WellFormed.{initial-joined, final-joined, buffering-joined, matching-joined, initial-at, final-at, buffering-at, matching-at, noTransition, listed-at, joined-well-formed}
 
 -- an element of a list stands at some place

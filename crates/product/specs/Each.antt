@@ -3,10 +3,9 @@
 -- each i n f          == f i, f (i + 1), .. , n parts in a row
 -- sumOver i n f       == f i + f (i + 1) + .. , n numbers
 -- zerosOf n           == n zeros
--- replaced l k s           == the list l with s in the place of its elements from k on
 use Prim.Native.Nat.{ℕ, zero, suc, _+_}
 use mathlib.Core.List.{List, [], _++_}
-use lib.ListN.{length, take, drop, replicate}
+use lib.ListN.{replicate}
 pub mod Laws
 pub mod Sums
 
@@ -14,9 +13,6 @@ module _ {A : Type 0} where
   unfoldable pub each : ℕ → ℕ → (ℕ → List A) → List A
   each i zero f = []
   each i (suc n) f = f i ++ each (suc i) n f
-
-  unfoldable pub replaced : List A → ℕ → List A → List A
-  replaced l k s = take k l ++ s ++ drop (k + length s) l
 
 unfoldable pub sumOver : ℕ → ℕ → (ℕ → ℕ) → ℕ
 sumOver i zero f = 0

@@ -24,7 +24,8 @@ use Rattle.product.specs.Each.{each}
 use Rattle.product.specs.Each.Laws.{each-to}
 use Rattle.product.specs.Product.{pairState, jointMoves, joinedFrom, joined}
 use Rattle.product.specs.Steps.{Step, letterMove, letter-at, moves-to, from-to, joined-to}
-use Rattle.product.specs.Tables.{order, rising, Joinable, pair-before, pair-below}
+use Rattle.basics.specs.Pairs.{pair-before, pair-below}
+use Rattle.product.specs.Tables.{order, rising, Joinable}
 
 pub data Rises : List Transition → Type 0 where
   none : Rises []

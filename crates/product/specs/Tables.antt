@@ -1,19 +1,17 @@
--- The rise of a table's list, what the absence of refusals says, part by part, and the arithmetic of pairs.
+-- The rise of a table's list, what the absence of refusals says, part by part, and the parts of a state of the product.
 --
 -- order t                 == transition t by from, letter and to, as one number
 -- rising                  == where a table obeys the rules, this number rises along its list
 -- Joinable ..             == what the laws use of joinFault ≡ 0
 -- joinable                == joinFault ≡ 0 says it
--- pair-below, pair-before == the number of a pair: below the product of the state counts, rising
--- pair-first, pair-second, pair-same == its parts; it is the number of one pair only
 -- first-below, second-below == the parts of a state of the product are states of the two machines
 use Prim.Native.Nat.{ℕ, zero, suc, _+_, _*_, _-_, _/_, _%_, _≤_, _<_}
-use mathlib.Core.Path.{_≡_, sym, ap, _∙_}
+use mathlib.Core.Path.{_≡_}
 use mathlib.Core.Bool.{Bool, true, false, not}
 use mathlib.Core.List.{List}
 use native.Mathlib.Omega.{arith}
 use native.Mathlib.Decide.{ℕ-discrete}
-use native.Mathlib.Nat.{mul-le-mul-right, suc-mul, mul-add-div-right, div-eq-of-lt, mul-add-mod-self-right, mod-eq-of-lt, mod-lt, div-lt-iff-lt-mul}
+use native.Mathlib.Nat.{mod-lt, div-lt-iff-lt-mul}
 use lib.Dec.{leb, ltb, eqb}
 use borrow.Author.Tests.{leb-true, ltb-true, eqb-true, eqb-false, not-true}
 use Rattle.basics.specs.Search.{allBelow}
@@ -115,34 +113,6 @@ module _ (m₁ : Machine) (l₁ : List ℕ) (m₂ : Machine) (l₂ : List ℕ) w
           }
 
 -- Pairs
-
-pub pair-before : (n p r q s : ℕ) → p < q → r < n → p * n + r < q * n + s
-pair-before n p r q s lt lr =
-    let rows = mul-le-mul-right n lt in
-    let row = suc-mul p n in
-    omega arith
-
-pub pair-below : (a n p r : ℕ) → p < a → r < n → p * n + r < a * n
-pair-below a n p r lt lr =
-    let rows = mul-le-mul-right n lt in
-    let row = suc-mul p n in
-    omega arith
-
-pub pair-first : (n p r : ℕ) → r < n → (p * n + r) / n ≡ p
-pair-first n p r lr =
-    let pos : 0 < n = omega arith in
-    let e = mul-add-div-right pos p r in
-    let z = div-eq-of-lt lr in
-    omega arith
-
-pub pair-second : (n p r : ℕ) → r < n → (p * n + r) % n ≡ r
-pair-second n p r lr = mul-add-mod-self-right p n r ∙ mod-eq-of-lt lr
-
-pub pair-same : (n p r q s : ℕ) → r < n → s < n → p * n + r ≡ q * n + s → (p ≡ q) × (r ≡ s)
-pair-same n p r q s lr ls e = (
-  sym (pair-first n p r lr) ∙ (ap (λ (z : ℕ). z / n) e ∙ pair-first n q s ls),
-  sym (pair-second n p r lr) ∙ (ap (λ (z : ℕ). z % n) e ∙ pair-second n q s ls),
-)
 
 module _ {m₁ : Machine} {l₁ : List ℕ} {m₂ : Machine} {l₂ : List ℕ} (j : Joinable m₁ l₁ m₂ l₂) (q : ℕ) where
   pub first-below : q < m₁ .states * m₂ .states → q / m₂ .states < m₁ .states

@@ -27,7 +27,8 @@ use Rattle.product.specs.Each.Laws.{each-single}
 use Rattle.product.specs.Product.{pairState, joined, joinedTransitions, joinedCount, pairMark, joinedMark, joinedMarks, joinedMachine, joinFault}
 use Rattle.product.specs.Rise.{rises-next, joined-rises, joined-bounds}
 use Rattle.product.specs.Steps.{flat-at}
-use Rattle.product.specs.Tables.{order, Joinable, joinable, pair-below, pair-first, pair-second, first-below, second-below}
+use Rattle.basics.specs.Pairs.{pair-below, pair-first, pair-second}
+use Rattle.product.specs.Tables.{order, Joinable, joinable, first-below, second-below}
 
 -- Marks
 

@@ -10,7 +10,8 @@ ghost use mathlib.Core.Path.{_≡_};
 ghost use mathlib.Core.List.{[], _∷_};
 ghost use lib.ListN.{length};
 ghost use Rattle.fsbm.specs.Machine.{transitionAt};
-ghost use Rattle.product.specs.Each.{each, replaced};
+ghost use Rattle.basics.specs.Lists.{put};
+ghost use Rattle.product.specs.Each.{each};
 ghost use Rattle.product.specs.Letters.{Indexed, Searching, NextMove};
 ghost use Rattle.product.specs.Order.{Lower, Block, Moving};
 ghost use Rattle.product.specs.Product.{jointMoves, flat, joinedFrom, joinedTransitions, joinFault};
@@ -51,7 +52,7 @@ fn pair(n: u16, q: u16, s: u16) -> u16
 // Writes one transition at place k of the list.
 fn put(list: &mut [u16], k: usize, from: u16, letter: u16, to: u16)
     requires { ⌜ k + 3 ≤ length (now list) ⌝ }
-    ensures { λ r. ⌜ now (list .exit) ≡ replaced (now (list .entry)) k (from ∷ letter ∷ to ∷ []) ⌝ }
+    ensures { λ r. ⌜ now (list .exit) ≡ put k (now (list .entry)) (from ∷ letter ∷ to ∷ []) ⌝ }
 {
     list[k] = from;
     list[k + 1] = letter;
@@ -72,7 +73,7 @@ fn write_letter(
     requires { ⌜ ((u : ℕ) → u < span .hi → base + transitionAt (now «second_list») u .to < 2 ^ 16) ⌝ }
     requires { ⌜ k + (span .hi - span .lo) * 3 ≤ length (now list) ⌝ }
     ensures { λ r. ⌜ now (list .exit)
-        ≡ replaced (now (list .entry)) k
+        ≡ put k (now (list .entry))
         (each (span .lo) (span .hi - span .lo) (λ u. from ∷ letter ∷ (base + transitionAt (now («second_list» .entry)) u .to) ∷ [])) ⌝ }
 {
     let lo = span.lo;
@@ -101,7 +102,7 @@ fn write_moves(
 ) -> usize
     requires { ⌜ Moving n count (now «second_list») (now starts) r t ⌝ }
     requires { ⌜ at + length (flat (jointMoves n count (now «second_list») r t)) ≤ length (now list) ⌝ }
-    ensures { λ f. ⌜ now (list .exit) ≡ replaced (now (list .entry)) at (flat (jointMoves n count (now («second_list» .entry)) r t)) ⌝ }
+    ensures { λ f. ⌜ now (list .exit) ≡ put at (now (list .entry)) (flat (jointMoves n count (now («second_list» .entry)) r t)) ⌝ }
     ensures { λ f. ⌜ f ≡ at + length (flat (jointMoves n count (now («second_list» .entry)) r t)) ⌝ }
 {
     let from = pair(n, t.from, r);
@@ -173,7 +174,7 @@ fn write_pair(
     requires { ⌜ Block (now «first_list») (first .transitions) p (span .lo) (span .hi) ⌝ }
     requires { ⌜ (p < first .states) × (r < second .states) ⌝ }
     requires { ⌜ k + length (flat (joinedFrom first (now «first_list») second (now «second_list») p r)) ≤ length (now list) ⌝ }
-    ensures { λ f. ⌜ now (list .exit) ≡ replaced (now (list .entry)) k (flat (joinedFrom first (now («first_list» .entry)) second (now («second_list» .entry)) p r)) ⌝ }
+    ensures { λ f. ⌜ now (list .exit) ≡ put k (now (list .entry)) (flat (joinedFrom first (now («first_list» .entry)) second (now («second_list» .entry)) p r)) ⌝ }
     ensures { λ f. ⌜ f ≡ k + length (flat (joinedFrom first (now («first_list» .entry)) second (now («second_list» .entry)) p r)) ⌝ }
 {
     let n = second.states as u16;
@@ -221,7 +222,7 @@ fn write_row(
     requires { ⌜ p < first .states ⌝ }
     requires { ⌜ k + length (flat (each 0 (second .states) (λ r. joinedFrom first (now «first_list») second (now «second_list») p r))) ≤ length (now list) ⌝ }
     ensures { λ f. ⌜ now (list .exit)
-        ≡ replaced (now (list .entry)) k (flat (each 0 (second .states) (λ r. joinedFrom first (now («first_list» .entry)) second (now («second_list» .entry)) p r))) ⌝ }
+        ≡ put k (now (list .entry)) (flat (each 0 (second .states) (λ r. joinedFrom first (now («first_list» .entry)) second (now («second_list» .entry)) p r))) ⌝ }
     ensures { λ f. ⌜ f ≡ k + length (flat (each 0 (second .states) (λ r. joinedFrom first (now («first_list» .entry)) second (now («second_list» .entry)) p r))) ⌝ }
 {
     let states = second.states;
@@ -258,7 +259,7 @@ pub fn write_product(
 )
     requires { ⌜ joinFault first (now «first_list») second (now «second_list») ≡ 0 ⌝ }
     requires { ⌜ length (joinedTransitions first (now «first_list») second (now «second_list»)) ≤ length (now list) ⌝ }
-    ensures { λ f. ⌜ now (list .exit) ≡ replaced (now (list .entry)) 0 (joinedTransitions first (now («first_list» .entry)) second (now («second_list» .entry))) ⌝ }
+    ensures { λ f. ⌜ now (list .exit) ≡ put 0 (now (list .entry)) (joinedTransitions first (now («first_list» .entry)) second (now («second_list» .entry))) ⌝ }
 {
     let mut first_starts = letters::no_starts();
     letters::note_starts(first_list, first.transitions, &mut first_starts);

@@ -16,6 +16,7 @@ use native.Mathlib.Numerals.{add-one}
 use lib.ListN.{length, getD}
 use lib.Dec.{eqb}
 use borrow.Author.Tests.{eqb-true, eqb-false, eq-eqb}
+use borrow.Author.Count.{below-more}
 use Rattle.basics.specs.Search.Laws.{not-both}
 use Rattle.fsbm.specs.Machine.{wellFormed, initial, transitionAt, markOf}
 use Rattle.fsbm.specs.Moves.{wellPlaced, move, beginBuffering, beginEmptying, backToNormal}
@@ -184,26 +185,15 @@ module _ (m : Machine) (row : List ℕ) where
 
   module _ (k b : ℕ) (s : Started m row k b) where
     pub start-skip : (i : Bool) → i ≡ initial (m .marks) k → i ≡ false → Started m row (k + 1) b
-    start-skip i is f = record { is-initial = s .is-initial; least = λ p l h. on p l h (ℕ-discrete p k) }
-      where
-        on : (p : ℕ) → p < k + 1 → initial (m .marks) p ≡ true → Dec (p ≡ k) → (b < m .states) × (at row b ≤ at row p)
-        on p l h (yes z) = absurd (not-both (subst (λ (n : ℕ). initial (m .marks) n ≡ true) z h) (sym is ∙ f))
-        on p l h (no z) = s .least p (omega arith) h
+    start-skip i is f = record { is-initial = s .is-initial; least = below-more _ k (s .least) (λ h. absurd (not-both h (sym is ∙ f))) }
 
     -- state k is the first, or has less than b
     pub start-takes : (i : Bool) → i ≡ initial (m .marks) k → i ≡ true → k < m .states → (b < m .states → at row k ≤ at row b) → Started m row (k + 1) k
-    start-takes i is t lt less = record { is-initial = λ l. sym is ∙ t; least = λ p l h. on p l h (ℕ-discrete p k) }
-      where
-        on : (p : ℕ) → p < k + 1 → initial (m .marks) p ≡ true → Dec (p ≡ k) → (k < m .states) × (at row k ≤ at row p)
-        on p l h (yes z) = let e : at row p ≡ at row k = ap (at row) z in (lt, omega arith)
-        on p l h (no z) = let g = s .least p (omega arith) h in (lt, omega (arith, less (g .0), g .1))
+    start-takes i is t lt less =
+        record { is-initial = λ l. sym is ∙ t; least = below-more _ k (λ p l h. let g = s .least p l h in (lt, omega (arith, less (g .0), g .1))) (λ h. (lt, omega arith)) }
 
     pub start-keeps : b < m .states → at row b ≤ at row k → Started m row (k + 1) b
-    start-keeps lt le = record { is-initial = s .is-initial; least = λ p l h. on p l h (ℕ-discrete p k) }
-      where
-        on : (p : ℕ) → p < k + 1 → initial (m .marks) p ≡ true → Dec (p ≡ k) → (b < m .states) × (at row b ≤ at row p)
-        on p l h (yes z) = let e : at row p ≡ at row k = ap (at row) z in (lt, omega arith)
-        on p l h (no z) = s .least p (omega arith) h
+    start-keeps lt le = record { is-initial = s .is-initial; least = below-more _ k (s .least) (λ h. (lt, le)) }
 
   pub start-end : (k b : ℕ) → m .states ≤ k → Started m row k b → Started m row (m .states) b
   start-end k b ge s = record { is-initial = s .is-initial; least = λ p l h. s .least p (omega arith) h }

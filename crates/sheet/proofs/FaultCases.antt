@@ -10,9 +10,9 @@ use mathlib.Core.Bool.{Bool, true, false, not, _||_}
 use native.Mathlib.Omega.{arith}
 use native.Mathlib.Decide.{ℕ-discrete}
 use lib.ListN.{length, getD, set}
-use lib.Seq.{getD-set-same, getD-set-other}
 use lib.Dec.{leb, eqb}
 use borrow.Author.Tests.{le-leb, lt-leb, eq-eqb, ne-eqb}
+use Rattle.basics.specs.Lists.{set-next}
 use Rattle.columns.specs.Column.{noNumber}
 use Rattle.fsbm.specs.Machine.{named, precedes}
 use Rattle.fsbm.specs.declared.machine.Transition.{Transition}
@@ -46,12 +46,8 @@ module _ (s : List ℕ) (i : ℕ) where
   held-next c v numbers h e n l =
       record {
         good = first-next c (columnFault s i) (h .good) (good-column c (λ (q : columnAt s (i + c * 5) ≡ noNumber). n (e ∙ q)));
-        are = λ j b. at j b (ℕ-discrete j c);
+        are = set-next numbers c v 0 l (λ j x. x ≡ columnAt s (i + j * 5)) e (h .are);
       }
-    where
-      at : (j : ℕ) → j < c + 1 → Dec (j ≡ c) → getD (set numbers c v) j 0 ≡ columnAt s (i + j * 5)
-      at j b (yes d) = ap (λ (k : ℕ). getD (set numbers c v) k 0) d ∙ (getD-set-same numbers c v 0 l ∙ (e ∙ ap (λ (k : ℕ). columnAt s (i + k * 5)) (sym d)))
-      at j b (no d) = getD-set-other numbers c j v 0 d ∙ h .are j (omega arith)
 
   module _ (n : ℕ) where
     pub line-short : length s < i + n * 5 + 1 → lineFault s n i ≡ 1

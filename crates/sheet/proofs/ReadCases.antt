@@ -15,8 +15,7 @@ use lib.ListN.{length, drop, set, replicate}
 use lib.Seq.{set-at, append-snoc}
 use lib.Dec.{leb, ltb, eqb}
 use borrow.Author.Tests.{leb-true, ltb-true, le-leb, lt-leb, eq-eqb, ne-eqb}
-use Rattle.columns.specs.Column.{put}
-use Rattle.columns.specs.Column.Laws.{put-zero, put-three}
+use Rattle.basics.specs.Lists.{put, put-zero}
 use Rattle.basics.specs.Search.Laws.{and-true}
 use Rattle.fsbm.specs.Answers.{refusal, noMachine}
 use Rattle.fsbm.specs.declared.answer.Refusal.{Refusal}
@@ -142,9 +141,6 @@ unfolding marksOf eachBelow
 marks-none s = refl
 
 -- three stores
-pub numbers-put : (l : List ℕ) (i a b d : ℕ) → i + 3 ≤ length l → set (set (set l i a) (i + 1) b) (i + 2) d ≡ put i l (a ∷ b ∷ d ∷ [])
-numbers-put l i a b d h = put-three l i a b d h
-
 pub numbers-wide : (s : List ℕ) (k : ℕ) → length (numbersPiece s k) ≡ 3
 unfolding numbersIn
 numbers-wide s k = refl

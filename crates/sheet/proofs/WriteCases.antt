@@ -5,19 +5,21 @@
 -- write-ill, write-short, write-long, write-says == the ways through write_sheet, and the number and values of its answer
 use Prim.Native.Nat.{ℕ, zero, _+_, _*_, _-_, _<_, _≤_}
 use mathlib.Core.Path.{_≡_, refl, sym, ap, _∙_, subst}
-use mathlib.Core.List.{List, [], _∷_, _++_, append-assoc, append-nil}
+use mathlib.Core.List.{List, [], _∷_, _++_, append-assoc}
 use mathlib.Core.Bool.{Bool, true, false, cond}
 use native.Mathlib.Omega.{arith}
-use lib.ListN.{length, take, drop, set, length-append, take-append-drop}
+use lib.ListN.{length, drop, set, length-append}
 use lib.Dec.{leb, eqb}
 use borrow.Author.Tests.{le-leb, lt-leb}
-use Rattle.columns.specs.Column.{columnOf, put}
-use Rattle.columns.specs.Column.Laws.{column-length, put-length, put-put, put-one, put-zero}
+use Rattle.basics.specs.Lists.{put, put-none, put-length, put-put, put-one, put-zero}
+use Rattle.columns.specs.Column.{columnOf}
+use Rattle.columns.specs.Column.Laws.{column-length}
 use Rattle.fsbm.specs.Machine.{markOf, transitionAt, wellFormed}
 use Rattle.fsbm.specs.Answers.{refusal}
 use Rattle.fsbm.specs.Rules.{rules}
 use Rattle.fsbm.specs.declared.machine.Machine.{Machine}
 use Rattle.fsbm.specs.declared.answer.Refusal.{Refusal}
+use Rattle.sheet.specs.Format.Laws.{line-length, state-wide, transition-wide}
 use Rattle.sheet.specs.Series.{eachBelow}
 use Rattle.sheet.specs.Series.Laws.{each-next, each-length}
 use Rattle.sheet.specs.declared.write.Written.{Written}
@@ -68,28 +70,16 @@ module _ (l l1 l2 : List ℕ) (at a b : ℕ) (first : l1 ≡ put at l (columnOf 
         ab = columnOf 5 a ++ columnOf 5 b
 
 pub length-two : (a b : ℕ) → length (lineOf (a ∷ b ∷ [])) ≡ 11
-unfolding lineOf
-length-two a b =
-    let n = column-length 5 a in
-    let m = column-length 5 b in
-    omega (arith, length-append (columnOf 5 a) (columnOf 5 b ++ (10 ∷ [])), length-append (columnOf 5 b) (10 ∷ []))
+length-two a b = line-length (a ∷ b ∷ [])
 
 pub length-three : (a b d : ℕ) → length (lineOf (a ∷ b ∷ d ∷ [])) ≡ 16
-unfolding lineOf
-length-three a b d =
-    let n = column-length 5 a in
-    let m = column-length 5 b in
-    let o = column-length 5 d in
-    omega (arith, length-append (columnOf 5 a) (columnOf 5 b ++ (columnOf 5 d ++ (10 ∷ []))), length-append (columnOf 5 b) (columnOf 5 d ++ (10 ∷ [])), length-append (columnOf 5 d) (10 ∷ []))
+length-three a b d = line-length (a ∷ b ∷ d ∷ [])
 
 -- the loops
 
 pub each-none : (start : ℕ) (l : List ℕ) (f : ℕ → List ℕ) → l ≡ put start l (eachBelow 0 f)
-unfolding put eachBelow
-each-none start l f =
-    let e : start + 0 ≡ start = omega arith in
-    sym (take-append-drop start l)
-    ∙ (ap (λ (x : List ℕ). x ++ drop start l) (sym (append-nil (take start l))) ∙ ap (λ (n : ℕ). take start l ++ [] ++ drop n l) (sym e))
+unfolding eachBelow
+each-none start l f = put-none start l
 
 pub each-more : (w start : ℕ) (f : ℕ → List ℕ) → ((k : ℕ) → length (f k) ≡ w) → (l l1 l2 piece : List ℕ) (k at : ℕ)
     → l1 ≡ put start l (eachBelow k f) → l2 ≡ put at l1 piece → piece ≡ f k → at ≡ start + w * k → start + w * k + w ≤ length l
@@ -104,17 +94,9 @@ pub state-piece : (marks : List ℕ) (q v : ℕ) → v ≡ markOf marks q → li
 unfolding stateLine
 state-piece marks q v e = ap (λ (x : ℕ). lineOf (q ∷ x ∷ [])) e
 
-pub state-wide : (marks : List ℕ) (q : ℕ) → length (stateLine marks q) ≡ 11
-unfolding stateLine
-state-wide marks q = length-two q (markOf marks q)
-
 pub transition-piece : (list : List ℕ) (k : ℕ) → lineOf (transitionAt list k .from ∷ transitionAt list k .letter ∷ transitionAt list k .to ∷ []) ≡ transitionLine list k
 unfolding transitionLine
 transition-piece list k = refl
-
-pub transition-wide : (list : List ℕ) (k : ℕ) → length (transitionLine list k) ≡ 16
-unfolding transitionLine
-transition-wide list k = length-three (transitionAt list k .from) (transitionAt list k .letter) (transitionAt list k .to)
 
 pub each-done : (start : ℕ) (f : ℕ → List ℕ) (l l1 : List ℕ) (k n : ℕ) → k ≤ n → n ≤ k → l1 ≡ put start l (eachBelow k f) → l1 ≡ put start l (eachBelow n f)
 each-done start f l l1 k n h g e = let q : k ≡ n = omega arith in e ∙ ap (λ (j : ℕ). put start l (eachBelow j f)) q

@@ -1,4 +1,4 @@
--- The sheet of a table (document 01, "The sheet").
+-- The sheet of a table (document 01, "The sheet"). The lengths of its lines stand in specs/Format/Laws.antt.
 --
 -- Short t                == the numbers of the transition t have at most two, three and two digits
 -- lineOf numbers         == a line: each number in a column of five bytes, and byte 10
@@ -13,6 +13,7 @@ use Rattle.fsbm.specs.Machine.{markOf, transitionAt}
 use Rattle.fsbm.specs.declared.machine.Machine.{Machine}
 use Rattle.fsbm.specs.declared.machine.Transition.{Transition}
 use Rattle.sheet.specs.Series.{eachBelow}
+pub mod Laws
 
 abbrev pub Short : Transition → Type 0
 Short t = (t .from < 100) × (t .letter < 1000) × (t .to < 100)

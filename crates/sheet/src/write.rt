@@ -3,7 +3,7 @@ ghost use Prim.Native.Nat.{ℕ, _+_, _*_, _<_, _≤_};
 ghost use mathlib.Core.Path.{_≡_};
 ghost use mathlib.Core.List.{[], _∷_};
 ghost use lib.ListN.{length};
-ghost use Rattle.columns.specs.Column.{put};
+ghost use Rattle.basics.specs.Lists.{put};
 ghost use Rattle.sheet.specs.Series.{eachBelow};
 ghost use Rattle.fsbm.specs.Machine.{transitionAt};
 ghost use Rattle.sheet.specs.Format.{Short, lineOf, stateLine, transitionLine};

@@ -1,6 +1,5 @@
 -- Lines as parts of a sheet.
 --
--- line-length      == n numbers take n * 5 + 1 bytes
 -- line-number      == the numbers that are read in a line are those that were written
 -- line-good        == a line that was written has no fault
 -- line-written     == a line without fault is the line of its numbers
@@ -18,13 +17,9 @@ use Rattle.columns.specs.Column.{columnNumber, columnOf, noNumber}
 use Rattle.columns.specs.Column.Laws.{column-length, number-of-column, column-of-number}
 use Rattle.sheet.specs.Series.{eachBelow}
 use Rattle.sheet.specs.Format.{lineOf}
+use Rattle.sheet.specs.Format.Laws.{line-length}
 use Rattle.sheet.specs.Reading.{columnAt}
 use Rattle.sheet.specs.Reading.Laws.{GoodLine}
-
-pub line-length : (ns : List ℕ) → length (lineOf ns) ≡ length ns * 5 + 1
-unfolding lineOf
-line-length [] = refl
-line-length (n ∷ ns) = let h = line-length ns in let c = column-length 5 n in omega (arith, length-append (columnOf 5 n) (lineOf ns))
 
 -- the bytes after the first column
 after-column : (s tail : List ℕ) (i n : ℕ) (ns : List ℕ) → drop i s ≡ lineOf (n ∷ ns) ++ tail → drop (i + 5) s ≡ lineOf ns ++ tail

@@ -28,6 +28,7 @@ use Rattle.fsbm.specs.Answers.{refusal, noMachine}
 use Rattle.fsbm.specs.declared.machine.Machine.{Machine}
 use Rattle.fsbm.specs.declared.machine.Transition.{Transition}
 use Rattle.fsbm.specs.declared.answer.Refusal.{Refusal}
+use Rattle.sheet.specs.Format.Laws.{header-wide, state-wide, transition-wide}
 use Rattle.sheet.specs.declared.write.Written.the-variants.{Refused, Bytes}
 use Rattle.sheet.specs.Series.{eachBelow}
 use Rattle.sheet.specs.Series.Laws.{each-length, each-same, each-drop, each-elem, each-parts}
@@ -36,7 +37,7 @@ use Rattle.sheet.specs.Reading.{columnAt, firstFault, stateFault, transitionFau
 use Rattle.sheet.specs.Reading.{readRefusal, readAnswer, readList}
 use Rattle.sheet.specs.Reading.Laws.{GoodLine, Counts, GoodState, GoodTransition, Sound, state-none, transition-none, no-fault, goodFlags}
 use Rattle.sheet.specs.Writing.{writeRefusal, writeAnswer, writeSheet}
-use Rattle.sheet_laws.specs.Lines.{line-length, line-number, line-good, line-written, three-part, each-getD, all-zero}
+use Rattle.sheet_laws.specs.Lines.{line-number, line-good, line-written, three-part, each-getD, all-zero}
 
 pub record Table (m : Machine) (list : List ℕ) : Type 0 where
   pub obeys : wellFormed m list ≡ true
@@ -85,18 +86,6 @@ rules m list = (to, from)
         (allBelow-true (goodTransition (m .states) (m .letters) list) (m .transitions) .1 (r .transitions)))))))
 
 -- Written and read
-
-state-wide : (marks : List ℕ) (q : ℕ) → length (stateLine marks q) ≡ 11
-unfolding stateLine
-state-wide marks q = line-length (q ∷ markOf marks q ∷ [])
-
-transition-wide : (list : List ℕ) (k : ℕ) → length (transitionLine list k) ≡ 16
-unfolding transitionLine
-transition-wide list k = line-length (transitionAt list k .from ∷ transitionAt list k .letter ∷ transitionAt list k .to ∷ [])
-
-header-wide : (m : Machine) → length (headerLine m) ≡ 16
-unfolding headerLine
-header-wide m = line-length (m .states ∷ m .letters ∷ m .transitions ∷ [])
 
 -- for every record and list; what write_sheet leaves past the sheet rests on it
 pub sheet-length : (m : Machine) (list : List ℕ) → length (sheetOf m list) ≡ sheetLength m

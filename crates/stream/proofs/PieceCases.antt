@@ -1,6 +1,5 @@
 -- The definitions of specs/Pieces.antt in the form that the functions meet them, over plain variables.
 --
--- put-nothing                      == no byte put anywhere
 -- copied-more, copied              == the loop of copy
 -- refused-written                  == the three parts of a refused sheet's line
 -- kept-full, kept-more             == the ways through keep
@@ -10,16 +9,16 @@
 -- open-refused, open-good          == the ways through open
 use Prim.Native.Nat.{ℕ, _+_, _-_, _*_, _<_, _≤_}
 use mathlib.Core.Path.{_≡_, refl, sym, ap, _∙_, subst}
-use mathlib.Core.List.{List, [], _∷_, _++_, append-nil}
+use mathlib.Core.List.{List, [], _∷_, _++_}
 use mathlib.Core.Bool.{true, false}
 use native.Mathlib.Omega.{arith}
-use native.Mathlib.Nat.{add-zero}
 use native.Mathlib.Numerals.{add-one}
-use lib.ListN.{length, take, drop, getD, set, length-append, take-append-drop}
+use lib.ListN.{length, take, getD, set, length-append}
 use lib.Seq.{take-all, take-suc, take-suc-set, take-append-seam, length-take-le}
 use borrow.Author.Tests.{eq-eqb, ne-eqb}
-use Rattle.columns.specs.Column.{columnOf, put}
-use Rattle.columns.specs.Column.Laws.{column-length, put-put}
+use Rattle.basics.specs.Lists.{put, put-none, put-put}
+use Rattle.columns.specs.Column.{columnOf}
+use Rattle.columns.specs.Column.Laws.{column-length}
 use Rattle.fsbm.specs.declared.machine.Machine.{Machine}
 use Rattle.lines.proofs.LineCases.{set-put}
 use Rattle.lines.specs.declared.Answer.{Answer}
@@ -34,11 +33,6 @@ use Rattle.stream.specs.Whole.{number-read}
 use Rattle.stream.specs.Calls.{pendingOf, ended, openAnswer, Lent, ByteKept, ByteTaken, PieceTaken}
 use Rattle.stream.specs.declared.Held.{Held}
 use Rattle.stream.specs.declared.Taken.{Taken}
-
-pub put-nothing : (at : ℕ) (l : List ℕ) → l ≡ put at l []
-unfolding put
-put-nothing at l =
-    sym (ap (λ (z : List ℕ). z ++ drop (at + 0) l) (append-nil (take at l)) ∙ (ap (λ (z : ℕ). take at l ++ drop z l) (add-zero at) ∙ take-append-drop at l))
 
 -- copy
 
@@ -117,7 +111,7 @@ line-printed m list line out out′ used i a e f = f ∙ ap (λ (z : Answer). pu
 module _ (m : Machine) (list : List ℕ) (b : ℕ) (p : Taken) (line out : List ℕ) where
   module _ (e : bytePrints m list (pendingOf line (p .held)) b ≡ []) where
     nothing-printed : out ≡ put (p .used) out (bytePrints m list (pendingOf line (p .held)) b)
-    nothing-printed = put-nothing (p .used) out ∙ ap (put (p .used) out) (sym e)
+    nothing-printed = put-none (p .used) out ∙ ap (put (p .used) out) (sym e)
 
     nothing-used : p .used ≡ p .used + length (bytePrints m list (pendingOf line (p .held)) b)
     nothing-used = let f = ap length e in omega arith
@@ -164,7 +158,7 @@ module _ (m : Machine) (list : List ℕ) (b : ℕ) (p : Taken) (line out : List 
 module _ (m : Machine) (list piece : List ℕ) (held : Held) (line₀ out₀ : List ℕ) where
   pub piece-none : held .kept ≤ mostKept → PieceTaken m list (take 0 piece) held line₀ out₀ (record { held = held; used = 0 }) line₀ out₀
   unfolding afterPiece piecePrints
-  piece-none k = record { pending = refl; printed = put-nothing 0 out₀; used = refl; within = k }
+  piece-none k = record { pending = refl; printed = put-none 0 out₀; used = refl; within = k }
 
   module _ (i : ℕ) (p : Taken) (line out : List ℕ) (so-far : PieceTaken m list (take i piece) held line₀ out₀ p line out) where
     module _ (inside : i < length piece) (fits : 16 * length piece ≤ length out₀) where
@@ -223,7 +217,7 @@ module _ (m : Machine) (list piece : List ℕ) (held : Held) (line₀ out₀ : L
 
 module _ (m : Machine) (list line out : List ℕ) (held : Held) where
   pub end-nothing : endPrints m list (pendingOf line held) ≡ [] → (0 ≡ length (endPrints m list (pendingOf line held))) × (out ≡ put 0 out (endPrints m list (pendingOf line held)))
-  end-nothing e = (ap length (sym e), put-nothing 0 out ∙ ap (put 0 out) (sym e))
+  end-nothing e = (ap length (sym e), put-none 0 out ∙ ap (put 0 out) (sym e))
 
   pub end-full : mostWords ≤ held .words → (0 ≡ length (endPrints m list (pendingOf line held))) × (out ≡ put 0 out (endPrints m list (pendingOf line held)))
   end-full h = end-nothing (full-end m list (pendingOf line held) h)

@@ -12,7 +12,7 @@ use mathlib.Core.Path.{_≡_}
 use mathlib.Core.List.{List, [], _∷_, _++_}
 use lib.ListN.{length, take}
 use lib.Dec.{eqb}
-use Rattle.columns.specs.Column.{put}
+use Rattle.basics.specs.Lists.{put}
 use Rattle.fsbm.specs.declared.machine.Machine.{Machine}
 use Rattle.sheet.specs.Reading.{firstFault, readAnswer}
 use Rattle.stream.specs.Pieces.{Pending, mostKept, afterByte, afterPiece, bytePrints, piecePrints, opening}

@@ -11,7 +11,7 @@ ghost use mathlib.Core.Path.{_≡_};
 ghost use mathlib.Core.Bool.{true};
 ghost use lib.Dec.{leb};
 ghost use lib.ListN.{length, take};
-ghost use Rattle.columns.specs.Column.{put};
+ghost use Rattle.basics.specs.Lists.{put};
 ghost use Rattle.lines.specs.Line.{Ready};
 ghost use Rattle.sheet.specs.Reading.{readList};
 ghost use Rattle.stream.specs.Listing.{wordLine, header, refusedSheet, mostWords};

@@ -2,19 +2,19 @@
 --
 -- from-rises        == a later transition leaves no lower state
 -- letter-rises      == a later transition of the same state has no lower letter
--- zeros-at          == a list of zeros has a 0 everywhere
 -- Built              == the part of an index that a loop has built; built-start, built-turn, built-index: it begins, one turn, it ends
 use Prim.Native.Nat.{ℕ, zero, suc, _+_, _*_, _-_, _≤_, _<_}
-use mathlib.Core.Path.{_≡_, refl, sym, ap, _∙_, subst}
+use mathlib.Core.Path.{_≡_, refl, ap, _∙_, subst}
 use mathlib.Core.Logic.{_↔_, _⊎_, inl, inr}
 use mathlib.Core.Bool.{true, false}
 use mathlib.Core.List.{List}
 use native.Mathlib.Omega.{arith}
-use native.Mathlib.Decide.{decLt, ℕ-discrete}
+use native.Mathlib.Decide.{decLt}
 use lib.ListN.{length, getD, set, length-set, replicate}
-use lib.Seq.{getD-set-same, getD-set-other}
+use lib.Seq.{getD-set-other}
 use lib.Dec.{eqb}
 use borrow.Author.Tests.{ltb-true, eqb-true}
+use Rattle.basics.specs.Lists.{set-next, zeros-at}
 use Rattle.basics.specs.Search.Laws.{true-or-false}
 use Rattle.fsbm.specs.Machine.{precedes, transitionAt}
 use Rattle.fsbm.specs.Rules.{Rules}
@@ -50,11 +50,6 @@ pub record Built (m : Machine) (list first : List ℕ) (k q : ℕ) : Type 0 wher
   pub within : (p : ℕ) → p < q → getD first p 0 ≤ m .transitions
   pub below : (p t : ℕ) → p < q → t < m .transitions → (t < getD first p 0) ↔ (transitionAt list t .from < p)
   pub past : (p : ℕ) → q ≤ p → getD first p 0 ≡ 0
-
-pub zeros-at : (n p : ℕ) → _≡_ {A = ℕ} (getD (replicate n 0) p 0) 0
-zeros-at zero p = refl
-zeros-at (suc n) zero = refl
-zeros-at (suc n) (suc p) = zeros-at n p
 
 module _ (m : Machine) (list : List ℕ) (s : Rules m list) where
   rises-by : (i d : ℕ) → i + d < m .transitions
@@ -106,8 +101,9 @@ module _ (m : Machine) (list : List ℕ) (s : Rules m list) where
         at-most = found .within;
         bound = omega arith;
         passed = λ (t : ℕ) (lt : t < r). let z = passes t lt in omega arith;
-        within = λ (p : ℕ) (lt : p < q + 1). bounds p (ℕ-discrete p q) lt;
-        below = λ (p : ℕ) (t : ℕ) (lt : p < q + 1) (l : t < m .transitions). belows p t (ℕ-discrete p q) lt l;
+        within = set-next first q r 0 room (λ p x. x ≤ m .transitions) (found .within) (b .within);
+        below = λ p t lt l.
+            set-next first q r 0 room (λ p x. (t < x) ↔ (transitionAt list t .from < p)) (passes t, λ h. inside t l h (decLt t r)) (λ p lt. b .below p t lt l) p lt;
         past = λ (p : ℕ) (le : q + 1 ≤ p). getD-set-other first q p r 0 (λ (e : p ≡ q). absurd (omega arith)) ∙ b .past p (omega arith);
       }
     where
@@ -124,27 +120,9 @@ module _ (m : Machine) (list : List ℕ) (s : Rules m list) where
       stops : (t : ℕ) → r ≤ t → t < m .transitions → q ≤ transitionAt list t .from
       stops t ge lt = let z = found .found (omega arith) in let c = from-column r in let u = from-rises r t ge lt in omega arith
 
-      bounds : (p : ℕ) → Dec (p ≡ q) → p < q + 1 → getD (set first q r) p 0 ≤ m .transitions
-      bounds p (yes e) lt =
-          let v = found .within in
-          let z : getD (set first q r) p 0 ≡ r = subst (λ (n : ℕ). getD (set first q r) n 0 ≡ r) (sym e) (getD-set-same first q r 0 room) in
-          omega arith
-      bounds p (no n) lt = let z = getD-set-other first q p r 0 n in let v = b .within p (omega arith) in omega arith
-
-      belows : (p t : ℕ) → Dec (p ≡ q) → p < q + 1 → t < m .transitions → (t < getD (set first q r) p 0) ↔ (transitionAt list t .from < p)
-      belows p t (yes e) lt l =
-          let z : getD (set first q r) p 0 ≡ r = subst (λ (n : ℕ). getD (set first q r) n 0 ≡ r) (sym e) (getD-set-same first q r 0 room) in (
-            λ (h : t < getD (set first q r) p 0). let y = passes t (omega arith) in omega arith,
-            λ (h : transitionAt list t .from < p). at z h (decLt t r),
-          )
-        where
-          at : getD (set first q r) p 0 ≡ r → transitionAt list t .from < p → Dec (t < r) → t < getD (set first q r) p 0
-          at z h (yes y) = omega arith
-          at z h (no n) = let y = stops t (omega arith) l in absurd (omega arith)
-      belows p t (no n) lt l =
-          let z = getD-set-other first q p r 0 n in
-          let old = b .below p t (omega arith) l in
-          (λ (h : t < getD (set first q r) p 0). old .0 (omega arith), λ (h : transitionAt list t .from < p). let y = old .1 h in omega arith)
+      inside : (t : ℕ) → t < m .transitions → transitionAt list t .from < q → Dec (t < r) → t < r
+      inside t l h (yes y) = y
+      inside t l h (no n) = let z = stops t (omega arith) l in absurd (omega arith)
 
   pub built-index : (first : List ℕ) (k q : ℕ) → Built m list first k q → m .states < q → Index m list first
   built-index first k q b lt =

@@ -13,12 +13,12 @@ use mathlib.Core.Logic.{_⊎_, inl, inr}
 use mathlib.Core.Bool.{true, false}
 use mathlib.Core.List.{List}
 use native.Mathlib.Omega.{arith}
-use native.Mathlib.Decide.{ℕ-discrete, decLt}
+use native.Mathlib.Decide.{decLt}
 use lib.ListN.{length, getD, set, length-set}
-use lib.Seq.{getD-set-same, getD-set-other}
-use borrow.Author.Tests.{eqb-false}
-use Rattle.stateset.specs.Set.{width, In, has, digit, added, SetIs}
-use Rattle.stateset.specs.Set.Laws.{has-in}
+use lib.Seq.{getD-set-same}
+use Rattle.basics.specs.Lists.{set-cases}
+use Rattle.stateset.specs.Set.{width, In, has, added, SetIs}
+use Rattle.stateset.specs.Set.Laws.{has-in, has-not}
 use Rattle.pieces.specs.Blocks.{cell}
 use Rattle.blocks.specs.Numbers.Laws.{Left, Rest, Taken, left-start, left-more, left-end}
 use Rattle.blocks.specs.Gathered.{Adding, Pick, Reach, Far, From, Near, Stay}
@@ -60,9 +60,6 @@ adding-as {C} {C′} there back {p} {p′} {got} {got′} f =
 
 -- one candidate
 
-has-not : (x q : ℕ) → has x q ≡ false → In x q → ⊥
-has-not x q e m = eqb-false (digit x q) 1 e m
-
 module _ (may t v : ℕ) (p : List ℕ) (got : ℕ) (fits : got < 2 ^ width) where
   pub pick-shut : has may t ≡ false → Adding (Pick may t v) p got p got
   pick-shut e = adding-none p got fits (λ t′ v′ c. has-not may t e (c .allowed))
@@ -81,44 +78,34 @@ module _ (may t v : ℕ) (p : List ℕ) (got : ℕ) (fits : got < 2 ^ width) whe
       value : (t′ : ℕ) → t′ ≡ t → getD (set p t v) t′ 0 ≡ v
       value t′ e = ap (λ (i : ℕ). getD (set p t v) i 0) e ∙ getD-set-same p t v 0 room
 
+      abbrev Origin : ℕ → ℕ → ℕ → Type 0
+      Origin got t′ x = In got t′ → (In got t′ × (x ≡ getD p t′ 0)) ⊎ Pick may t v t′ x
+
+      picked : Pick may t v t v
+      picked = record { state = refl; allowed = has-in may t .0 is; value = refl }
+
       pub pick-lowers : has got t ≡ true → v ≤ getD p t 0 → Adding (Pick may t v) p got (set p t v) got
       pick-lowers has-it l =
           record {
             size = length-set p t v;
             fits = fits;
-            grows = λ t′ m. (m, less t′ (ℕ-discrete t′ t));
-            origin = λ t′ m. from t′ m (ℕ-discrete t′ t);
+            grows = λ t′ m. (m, set-cases p t v 0 room (λ t′ x. x ≤ getD p t′ 0) l (λ t′ n. omega arith) t′);
+            origin = λ t′ m. set-cases p t v 0 room (Origin got) (λ m. inr picked) (λ t′ n m. inl (m, refl)) t′ m;
             settled = λ t′ v′ c. (subst (λ (i : ℕ). In got i) (sym (c .state)) (has-in got t .0 has-it), let e = value t′ (c .state) in omega (arith, c .value));
           }
-        where
-          less : (t′ : ℕ) → Dec (t′ ≡ t) → getD (set p t v) t′ 0 ≤ getD p t′ 0
-          less t′ (yes e) = let x = value t′ e in let y : getD p t′ 0 ≡ getD p t 0 = ap (λ (i : ℕ). getD p i 0) e in omega arith
-          less t′ (no f) = let x = getD-set-other p t t′ v 0 f in omega arith
-
-          from : (t′ : ℕ) → In got t′ → Dec (t′ ≡ t) → (In got t′ × (getD (set p t v) t′ 0 ≡ getD p t′ 0)) ⊎ Pick may t v t′ (getD (set p t v) t′ 0)
-          from t′ m (yes e) = inr (record { state = e; allowed = has-in may t .0 is; value = value t′ e })
-          from t′ m (no f) = inl (m, getD-set-other p t t′ v 0 f)
 
       pub pick-adds : has got t ≡ false → {r : ℕ} → SetIs r (added got t) (λ q. In got q ⊎ ((q ≡ t) × (q < width))) → t < width → Adding (Pick may t v) p got (set p t v) r
       pick-adds not-yet {r} a inside =
           record {
             size = length-set p t v;
             fits = a .fits;
-            grows = λ t′ m. (a .members t′ .1 (inl m), less t′ m (ℕ-discrete t′ t));
+            grows = λ t′ m. (a .members t′ .1 (inl m), set-cases p t v 0 room (λ t′ x. In got t′ → x ≤ getD p t′ 0) (λ m. absurd (has-not got t not-yet m)) (λ t′ n m. omega arith) t′ m);
             origin = λ t′ m. from t′ (a .members t′ .0 m);
             settled = λ t′ v′ c. (a .members t′ .1 (inr (c .state, omega (arith, c .state))), let e = value t′ (c .state) in omega (arith, c .value));
           }
         where
-          less : (t′ : ℕ) → In got t′ → Dec (t′ ≡ t) → getD (set p t v) t′ 0 ≤ getD p t′ 0
-          less t′ m (yes e) = absurd (has-not got t not-yet (subst (λ (i : ℕ). In got i) e m))
-          less t′ m (no f) = let x = getD-set-other p t t′ v 0 f in omega arith
-
-          old : (t′ : ℕ) → In got t′ → Dec (t′ ≡ t) → (In got t′ × (getD (set p t v) t′ 0 ≡ getD p t′ 0)) ⊎ Pick may t v t′ (getD (set p t v) t′ 0)
-          old t′ m (yes e) = absurd (has-not got t not-yet (subst (λ (i : ℕ). In got i) e m))
-          old t′ m (no f) = inl (m, getD-set-other p t t′ v 0 f)
-
           from : (t′ : ℕ) → In got t′ ⊎ ((t′ ≡ t) × (t′ < width)) → (In got t′ × (getD (set p t v) t′ 0 ≡ getD p t′ 0)) ⊎ Pick may t v t′ (getD (set p t v) t′ 0)
-          from t′ (inl m) = old t′ m (ℕ-discrete t′ t)
+          from t′ (inl m) = set-cases p t v 0 room (Origin got) (λ m. absurd (has-not got t not-yet m)) (λ t′ n m. inl (m, refl)) t′ m
           from t′ (inr e) = inr (record { state = e .0; allowed = has-in may t .0 is; value = value t′ (e .0) })
 
 -- The transitions of one state by one letter

@@ -5,15 +5,16 @@
 -- readers-cover            == the readers of one letter
 -- covers-from              == what is gathered from the readers of a letter is gathered from all members of h
 use Prim.Native.Nat.{ℕ, _+_, _*_, _≤_, _<_}
-use mathlib.Core.Path.{_≡_, refl, sym, ap, _∙_, subst}
+use mathlib.Core.Path.{_≡_, refl, sym, _∙_, subst}
 use mathlib.Core.Logic.{_⊎_, inl, inr}
 use mathlib.Core.Bool.{true, false}
 use mathlib.Core.List.{List}
 use native.Mathlib.Omega.{arith}
-use native.Mathlib.Decide.{decLt, ℕ-discrete}
+use native.Mathlib.Decide.{decLt}
 use lib.ListN.{length, getD, set, length-set}
-use lib.Seq.{getD-set-same, getD-set-other}
+use lib.Seq.{getD-set-same}
 use borrow.Author.Tests.{eqb-false}
+use Rattle.basics.specs.Lists.{set-cases}
 use Rattle.stateset.specs.Set.{width, digit, In, has, added, SetIs}
 use Rattle.stateset.specs.Set.Laws.{has-in, empty-in}
 use Rattle.fsbm.specs.Machine.{transitionAt, matching}
@@ -40,29 +41,18 @@ module _ (list : List ℕ) (k h : ℕ) (sets : List ℕ) where
   noted-is {r} room small from is =
       record {
         size = length-set sets (transitionAt list k .letter) r;
-        stays = λ x t i. stays x t i (ℕ-discrete x (transitionAt list k .letter));
+        stays = λ x t i. set-cases sets (transitionAt list k .letter) r 0 room (λ x z. In (getD sets x 0) t → In z t) (λ i. is .members t .1 (inl i)) (λ x n i. i) x i;
         this = λ i j. subst (λ (z : ℕ). In z (transitionAt list k .from)) (sym here) (is .members (transitionAt list k .from) .1 (inr (refl, small)));
-        only = λ x t f i. only x t f i (ℕ-discrete x (transitionAt list k .letter));
+        only = λ x t f i.
+            set-cases sets (transitionAt list k .letter) r 0 room (λ x z. (In (getD sets x 0) t → In h t) → In z t → In h t) (λ f i. old t f (is .members t .0 i)) (λ x n f. f) x f i;
       }
     where
       here : getD (set sets (transitionAt list k .letter) r) (transitionAt list k .letter) 0 ≡ r
       here = getD-set-same sets (transitionAt list k .letter) r 0 room
 
-      at-this : (x : ℕ) → x ≡ transitionAt list k .letter → getD (set sets (transitionAt list k .letter) r) x 0 ≡ r
-      at-this x e = ap (λ (i : ℕ). getD (set sets (transitionAt list k .letter) r) i 0) e ∙ here
-
-      stays : (x t : ℕ) → In (getD sets x 0) t → Dec (x ≡ transitionAt list k .letter) → In (getD (set sets (transitionAt list k .letter) r) x 0) t
-      stays x t i (yes e) =
-          subst (λ (z : ℕ). In z t) (sym (at-this x e)) (is .members t .1 (inl (subst (λ (z : ℕ). In (getD sets z 0) t) e i)))
-      stays x t i (no n) = subst (λ (z : ℕ). In z t) (sym (getD-set-other sets (transitionAt list k .letter) x r 0 n)) i
-
-      old : (x t : ℕ) → x ≡ transitionAt list k .letter → (In (getD sets x 0) t → In h t) → In (getD sets (transitionAt list k .letter) 0) t ⊎ ((t ≡ transitionAt list k .from) × (t < width)) → In h t
-      old x t e f (inl i) = f (subst (λ (z : ℕ). In (getD sets z 0) t) (sym e) i)
-      old x t e f (inr i) = subst (λ (z : ℕ). In h z) (sym (i .0)) (has-in h (transitionAt list k .from) .0 from)
-
-      only : (x t : ℕ) → (In (getD sets x 0) t → In h t) → In (getD (set sets (transitionAt list k .letter) r) x 0) t → Dec (x ≡ transitionAt list k .letter) → In h t
-      only x t f i (yes e) = old x t e f (is .members t .0 (subst (λ (z : ℕ). In z t) (at-this x e) i))
-      only x t f i (no n) = f (subst (λ (z : ℕ). In z t) (getD-set-other sets (transitionAt list k .letter) x r 0 n) i)
+      old : (t : ℕ) → (In (getD sets (transitionAt list k .letter) 0) t → In h t) → In (getD sets (transitionAt list k .letter) 0) t ⊎ ((t ≡ transitionAt list k .from) × (t < width)) → In h t
+      old t f (inl i) = f i
+      old t f (inr i) = subst (λ (z : ℕ). In h z) (sym (i .0)) (has-in h (transitionAt list k .from) .0 from)
 
 module _ (m : Machine) (list : List ℕ) where
   pub readers-start : (sets : List ℕ) → length sets ≡ 251 → ((x : ℕ) → getD sets x 0 ≡ 0) → ReadersBelow m list 0 sets

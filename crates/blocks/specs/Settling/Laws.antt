@@ -20,8 +20,9 @@ use mathlib.Core.List.{List}
 use native.Mathlib.Omega.{arith}
 use native.Mathlib.Decide.{decLt, ℕ-discrete}
 use lib.ListN.{length, getD, set, length-set, replicate, length-replicate, getD-replicate}
-use lib.Seq.{getD-set-same, getD-set-other}
+use lib.Seq.{getD-set-other}
 use lib.Count.{ones}
+use Rattle.basics.specs.Lists.{set-next}
 use Rattle.graphs.specs.Cost.{Route, stop, via, ToGoal}
 use Rattle.graphs.specs.Working.Laws.{working-start, working-looked, working-end}
 use Rattle.stateset.specs.Set.{In, SetIs}
@@ -141,13 +142,9 @@ pub clear-more : {n : ℕ} {b b′ : List ℕ} → n < length b → Cleared n b 
 clear-more {n} {b} {b′} l f =
     record {
       size = length-set b′ n nothing ∙ f .size;
-      done = λ i lt. on i lt (ℕ-discrete i n);
+      done = set-next b′ n nothing 0 (omega (arith, f .size)) (λ i x. x ≡ nothing) refl (f .done);
       rest = λ i le. getD-set-other b′ n i nothing 0 (λ (e : i ≡ n). absurd (omega arith)) ∙ f .rest i (omega arith);
     }
-  where
-    on : (i : ℕ) → i < n + 1 → Dec (i ≡ n) → getD (set b′ n nothing) i 0 ≡ nothing
-    on i lt (yes e) = ap (λ (j : ℕ). getD (set b′ n nothing) j 0) e ∙ getD-set-same b′ n nothing 0 (omega (arith, f .size))
-    on i lt (no g) = getD-set-other b′ n i nothing 0 g ∙ f .done i (omega arith)
 
 pub clear-end : {n k : ℕ} {b b′ : List ℕ} → k ≤ n → n ≤ k → Cleared k b b′ → Cleared n b b′
 clear-end {n} {k} {b} {b′} le ge f = subst (λ (i : ℕ). Cleared i b b′) (let z : k ≡ n = omega arith in z) f

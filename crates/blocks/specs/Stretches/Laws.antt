@@ -2,21 +2,21 @@
 --
 -- key-fits          == a key of a state and a letter is below the number of keys
 -- product-fits      == a 16-bit number times a stride is small
--- key-below         == keys are ordered by state first
 -- Built, built-start, built-turn, built-end == the part of an index that a loop has built; it begins, one turn, it ends
 -- found-here, found-none, found-on == the loop that looks for a key: it stops, finds none, goes on
 -- bounded, bounded-next == the numbers of an index are numbers of transitions
 -- stretch           == the transitions from index[q × stride + a] up to index[q × stride + a + 1] are those that leave q by a
 -- row-stretch       == those from index[q × stride] up to index[(q + 1) × stride] are all that leave q
-use Prim.Native.Nat.{ℕ, suc, _+_, _*_, _-_, _≤_, _<_}
+use Prim.Native.Nat.{ℕ, _+_, _*_, _-_, _≤_, _<_}
 use mathlib.Core.Path.{_≡_, ap, _∙_}
 use mathlib.Core.Logic.{_↔_}
 use mathlib.Core.List.{List}
 use native.Mathlib.Omega.{arith}
 use native.Mathlib.Decide.{decLt, ℕ-discrete}
-use native.Mathlib.Nat.{mul-le-mul, mul-le-mul-right, suc-mul}
+use native.Mathlib.Nat.{mul-le-mul}
 use lib.ListN.{length, getD, set, length-set}
-use lib.Seq.{getD-set-same, getD-set-other}
+use Rattle.basics.specs.Lists.{set-next}
+use Rattle.basics.specs.Pairs.{pair-below}
 use Rattle.fsbm.specs.Machine.{transitionAt}
 use Rattle.fsbm.specs.Rules.{Rules}
 use Rattle.fsbm.specs.declared.machine.Machine.{Machine}
@@ -28,13 +28,6 @@ key-fits t stride x h k l = let h′ : t ≤ 63 = omega arith in let z : t * str
 
 pub product-fits : (x stride : ℕ) → x < 65536 → stride ≤ 251 → x * stride ≤ 16449285
 product-fits x stride h k = let h′ : x ≤ 65535 = omega arith in let z : x * stride ≤ 65535 * 251 = mul-le-mul h′ k in omega arith
-
--- a state before another has only lower keys
-pub key-below : (p q a stride : ℕ) → a < stride → p < q → p * stride + a < q * stride
-key-below p q a stride h l =
-    let z : suc p * stride ≤ q * stride = mul-le-mul-right stride (omega arith) in
-    let e = suc-mul p stride in
-    omega arith
 
 -- an index that is built up to the key y, where the transitions below k are those with a lower key
 pub record Built (m : Machine) (list index : List ℕ) (k y : ℕ) : Type 0 where
@@ -57,7 +50,7 @@ module _ (m : Machine) (list : List ℕ) (s : Rules m list) where
       on (no f) =
           let a = from-rises m list s i j le lt in
           let b = s .letter-below i (omega arith) in
-          let z = key-below (transitionAt list i .from) (transitionAt list j .from) (transitionAt list i .letter) (m .letters + 1) (omega arith) (omega arith) in
+          let z = pair-below (transitionAt list j .from) (m .letters + 1) (transitionAt list i .from) (transitionAt list i .letter) (omega arith) (omega arith) in
           omega arith
 
   pub keys-fit : m .states * (m .letters + 1) ≤ 16064
@@ -87,12 +80,13 @@ module _ (m : Machine) (list : List ℕ) (s : Rules m list) where
         at-most = found .within;
         bound = omega arith;
         passed = λ (t : ℕ) (lt : t < r). let z = passes t lt in omega arith;
-        within = λ (x : ℕ) (lt : x < y + 1). bounds x lt (ℕ-discrete x y);
-        below = λ (x : ℕ) (t : ℕ) (lt : x < y + 1) (l : t < m .transitions). belows x t (ℕ-discrete x y) lt l;
+        within = set-next index y r 0 room (λ x z. z ≤ m .transitions) (found .within) (b .within);
+        below = λ x t lt l.
+            set-next index y r 0 room (λ x z. (t < z) ↔ (keyOf list (m .letters + 1) t < x)) (passes t, λ h. inside t l h (decLt t r)) (λ x lt. b .below x t lt l) x lt;
       }
     where
-      here : getD (set index y r) y 0 ≡ r
-      here = getD-set-same index y r 0 (let z = b .size in let f = keys-fit in omega arith)
+      room : y < length index
+      room = let z = b .size in let f = keys-fit in omega arith
 
       passes : (t : ℕ) → t < r → keyOf list (m .letters + 1) t < y
       passes t lt = on (decLt t k)
@@ -104,24 +98,9 @@ module _ (m : Machine) (list : List ℕ) (s : Rules m list) where
       stops : (t : ℕ) → r ≤ t → t < m .transitions → y ≤ keyOf list (m .letters + 1) t
       stops t ge lt = let z = found .found (omega arith) in let u = key-rises r t ge lt in omega arith
 
-      bounds : (x : ℕ) → x < y + 1 → Dec (x ≡ y) → getD (set index y r) x 0 ≤ m .transitions
-      bounds x lt (yes e) = let v = found .within in let z : getD (set index y r) x 0 ≡ r = ap (λ (i : ℕ). getD (set index y r) i 0) e ∙ here in omega arith
-      bounds x lt (no n) = let z = getD-set-other index y x r 0 n in let v = b .within x (omega arith) in omega arith
-
-      belows : (x t : ℕ) → Dec (x ≡ y) → x < y + 1 → t < m .transitions → (t < getD (set index y r) x 0) ↔ (keyOf list (m .letters + 1) t < x)
-      belows x t (yes e) lt l =
-          let z : getD (set index y r) x 0 ≡ r = ap (λ (i : ℕ). getD (set index y r) i 0) e ∙ here in (
-            λ (h : t < getD (set index y r) x 0). let w = passes t (omega arith) in omega arith,
-            λ (h : keyOf list (m .letters + 1) t < x). on z h (decLt t r),
-          )
-        where
-          on : getD (set index y r) x 0 ≡ r → keyOf list (m .letters + 1) t < x → Dec (t < r) → t < getD (set index y r) x 0
-          on z h (yes w) = omega arith
-          on z h (no n) = let w = stops t (omega arith) l in absurd (omega arith)
-      belows x t (no n) lt l =
-          let z = getD-set-other index y x r 0 n in
-          let old = b .below x t (omega arith) l in
-          (λ (h : t < getD (set index y r) x 0). old .0 (omega arith), λ (h : keyOf list (m .letters + 1) t < x). let w = old .1 h in omega arith)
+      inside : (t : ℕ) → t < m .transitions → keyOf list (m .letters + 1) t < y → Dec (t < r) → t < r
+      inside t l h (yes w) = w
+      inside t l h (no n) = let w = stops t (omega arith) l in absurd (omega arith)
 
   pub built-end : (index : List ℕ) (k y : ℕ) → Built m list index k y → m .states * (m .letters + 1) < y → Stretches m list index
   built-end index k y b lt = record { size = b .size; within = λ x le. b .within x (omega arith); below = λ x t le l. b .below x t (omega arith) l }
@@ -131,13 +110,13 @@ module _ (m : Machine) (list : List ℕ) (s : Rules m list) where
   module _ (index : List ℕ) (i : Stretches m list index) where
     -- the transitions that leave a state below q, or q by a letter below x
     before : (q x k : ℕ) → k < m .transitions → q < m .states → x ≤ m .letters + 1 → (k < getD index (q * (m .letters + 1) + x) 0) ↔ (keyOf list (m .letters + 1) k < q * (m .letters + 1) + x)
-    before q x k lt l le = i .below (q * (m .letters + 1) + x) k (let z = key-below q (m .states) (m .letters) (m .letters + 1) (omega arith) l in omega arith) lt
+    before q x k lt l le = i .below (q * (m .letters + 1) + x) k (let z = pair-below (m .states) (m .letters + 1) q (m .letters) l (omega arith) in omega arith) lt
 
     pub bounded : (q x : ℕ) → q < m .states → x ≤ m .letters + 1 → getD index (q * (m .letters + 1) + x) 0 ≤ m .transitions
-    bounded q x l le = i .within (q * (m .letters + 1) + x) (let z = key-below q (m .states) (m .letters) (m .letters + 1) (omega arith) l in omega arith)
+    bounded q x l le = i .within (q * (m .letters + 1) + x) (let z = pair-below (m .states) (m .letters + 1) q (m .letters) l (omega arith) in omega arith)
 
     pub bounded-next : (q x : ℕ) → q < m .states → x ≤ m .letters → getD index (q * (m .letters + 1) + x + 1) 0 ≤ m .transitions
-    bounded-next q x l le = i .within (q * (m .letters + 1) + x + 1) (let z = key-below q (m .states) x (m .letters + 1) (omega arith) l in omega arith)
+    bounded-next q x l le = i .within (q * (m .letters + 1) + x + 1) (let z = pair-below (m .states) (m .letters + 1) q x l (omega arith) in omega arith)
 
     inside : (q x k : ℕ) → q < m .states → x ≤ m .letters + 1 → k < getD index (q * (m .letters + 1) + x) 0 → k < m .transitions
     inside q x k l le h = let z = bounded q x l le in omega arith
@@ -150,9 +129,9 @@ module _ (m : Machine) (list : List ℕ) (s : Rules m list) where
         on : Dec (transitionAt list k .from < q) → Dec (q < transitionAt list k .from) → transitionAt list k .from ≡ q
         on (yes a) b =
             let u = s .letter-below k lt in
-            let z = key-below (transitionAt list k .from) q (transitionAt list k .letter) (m .letters + 1) (omega arith) a in
+            let z = pair-below q (m .letters + 1) (transitionAt list k .from) (transitionAt list k .letter) a (omega arith) in
             absurd (omega arith)
-        on (no a) (yes b) = let z = key-below q (transitionAt list k .from) (m .letters) (m .letters + 1) (omega arith) b in absurd (omega arith)
+        on (no a) (yes b) = let z = pair-below (transitionAt list k .from) (m .letters + 1) q (m .letters) b (omega arith) in absurd (omega arith)
         on (no a) (no b) = omega arith
 
     pub row-stretch : (q k : ℕ) → q < m .states

@@ -3,10 +3,6 @@
 -- column-length    == a column of width w has w bytes
 -- number-of-column == a number that fits the width, written and read, is itself
 -- column-of-number == a column that holds a number is the column of that number
--- put-length       == what is put into a list does not change its length
--- put-put          == two parts put one after the other
--- put-zero         == a part put at the front
--- put-one, put-three == single stores
 -- passFrom-append  == a pass over two parts is a pass over the second from where the first left it
 use Prim.Native.Nat.{ℕ, zero, suc, _+_, _*_, _-_, _/_, _%_, _<_, _≤_, _^_}
 use mathlib.Core.Path.{_≡_, refl, sym, ap, _∙_, subst}
@@ -15,13 +11,12 @@ use mathlib.Core.List.{List, [], _∷_, _++_, append-assoc, append-nil}
 use mathlib.Core.Bool.{Bool, true, false, cond}
 use native.Mathlib.Omega.{arith}
 use native.Mathlib.Nat.{pow-suc, one-le-pow}
-use native.Mathlib.Numerals.{add-one, add-two}
-use lib.ListN.{length, take, drop, set, length-append, length-drop}
-use lib.Seq.{length-take-le, take-at, drop-at, drop-drop, sets-eq}
+use native.Mathlib.Numerals.{add-one}
+use lib.ListN.{length, length-append}
 use lib.Dec.{leb, eqb}
 use borrow.Author.Tests.{le-leb, ne-eqb, eqb-true, eqb-false, leb-true}
 use Rattle.basics.specs.Search.Laws.{true-or-false, and-true, and-both-true}
-use Rattle.columns.specs.Column.{noNumber, isDigit, Pass, blank, nought, digits, broken, next, passFrom, found, columnNumber, digitOr, padded, columnOf, put}
+use Rattle.columns.specs.Column.{noNumber, isDigit, Pass, blank, nought, digits, broken, next, passFrom, found, columnNumber, digitOr, padded, columnOf}
 
 pub passFrom-append : (p : Pass) (l r : List ℕ) → passFrom p (l ++ r) ≡ passFrom (passFrom p l) r
 unfolding passFrom
@@ -215,51 +210,3 @@ column-found broken k l h n = absurd (n refl)
 pub column-of-number : (l : List ℕ) → (columnNumber l ≡ noNumber → ⊥) → columnOf (length l) (columnNumber l) ≡ l
 unfolding columnNumber
 column-of-number l n = column-found (passFrom blank l) (length l) l (held l) n .0
-
--- Parts put into a list
-
-put-head : (at : ℕ) (l a : List ℕ) → at ≤ length l → length (take at l ++ a) ≡ at + length a
-put-head at l a h = length-append (take at l) a ∙ ap (λ (k : ℕ). k + length a) (length-take-le at l h)
-
-pub put-length : (at : ℕ) (l a : List ℕ) → at + length a ≤ length l → length (put at l a) ≡ length l
-unfolding put
-put-length at l a h =
-    length-append (take at l ++ a) (drop (at + length a) l)
-    ∙ (ap (λ (k : ℕ). k + length (drop (at + length a) l)) (put-head at l a (omega arith))
-    ∙ (ap (λ (k : ℕ). at + length a + k) (length-drop (at + length a) l) ∙ omega arith))
-
-pub put-put : (at next : ℕ) (l a b : List ℕ) → next ≡ at + length a → at + length a + length b ≤ length l → put next (put at l a) b ≡ put at l (a ++ b)
-unfolding put
-put-put at next l a b e h =
-    ap (λ (n : ℕ). take n X ++ b ++ drop (n + length b) X) e
-    ∙ (ap (λ (x : List ℕ). x ++ b ++ drop (at + length a + length b) X) front
-    ∙ (ap (λ (x : List ℕ). take at l ++ a ++ b ++ x) back
-    ∙ (ap (λ (x : List ℕ). x ++ drop (at + length a + length b) l) (append-assoc (take at l) a b)
-    ∙ ap (λ (n : ℕ). take at l ++ (a ++ b) ++ drop n l) all)))
-  where
-    X : List ℕ
-    X = take at l ++ a ++ drop (at + length a) l
-
-    front : take (at + length a) X ≡ take at l ++ a
-    front = take-at (take at l ++ a) (drop (at + length a) l) (at + length a) (put-head at l a (omega arith))
-
-    back : drop (at + length a + length b) X ≡ drop (at + length a + length b) l
-    back =
-        sym (drop-drop (length b) (at + length a) X)
-        ∙ (ap (λ (x : List ℕ). drop (length b) x) (drop-at (take at l ++ a) (drop (at + length a) l) (at + length a) (put-head at l a (omega arith)))
-        ∙ drop-drop (length b) (at + length a) l)
-
-    all : at + length a + length b ≡ at + length (a ++ b)
-    all = let n = length-append a b in omega arith
-
-pub put-zero : (l a : List ℕ) → put 0 l a ≡ a ++ drop (length a) l
-unfolding put
-put-zero l a = let e : 0 + length a ≡ length a = omega arith in ap (λ (n : ℕ). a ++ drop n l) e
-
-pub put-one : (l : List ℕ) (i a : ℕ) → i < length l → set l i a ≡ put i l (a ∷ [])
-unfolding put
-put-one l i a h = sets-eq (a ∷ []) l i (omega arith)
-
-pub put-three : (l : List ℕ) (i a b c : ℕ) → i + 3 ≤ length l → set (set (set l i a) (i + 1) b) (i + 2) c ≡ put i l (a ∷ b ∷ c ∷ [])
-unfolding put
-put-three l i a b c h = simp (add-one i, add-two i) (sets-eq (a ∷ b ∷ c ∷ []) l i h)

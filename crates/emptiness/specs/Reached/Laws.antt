@@ -15,10 +15,10 @@ use mathlib.Core.List.{List}
 use native.Mathlib.Omega.{arith}
 use native.Mathlib.Decide.{decLt}
 use lib.Bits.{bitAnd, bitOr}
-use borrow.Author.Tests.{eqb-true, eqb-false, eq-eqb}
+use borrow.Author.Tests.{eqb-true, eq-eqb}
 use Rattle.basics.specs.Search.Laws.{not-both}
-use Rattle.stateset.specs.Set.{width, digit, In, has, added, SetIs}
-use Rattle.stateset.specs.Set.Laws.{has-in, empty-in}
+use Rattle.stateset.specs.Set.{width, In, has, added, SetIs}
+use Rattle.stateset.specs.Set.Laws.{has-in, empty-in, has-not}
 use Rattle.fsbm.specs.Machine.{wellFormed, markOf, buffering, matching, final, initial, transitionAt}
 use Rattle.fsbm.specs.Rules.{Rules, rules}
 use Rattle.fsbm.specs.Published.{Listed, fsbmOf, InLanguage}
@@ -32,9 +32,6 @@ use Rattle.emptiness.specs.Closed.Laws.{closed-empty}
 use Rattle.emptiness.specs.Reached.{At, Turns, Grown, Next, Apart, Crossed, Moved, Changed, Swept, Passed, Same}
 use Rattle.emptiness.specs.declared.Reached.{Reached}
 
-not-in : (set q : ℕ) → has set q ≡ false → In set q → ⊥
-not-in set q e i = eqb-false (digit set q) 1 e i
-
 -- no member: the test says so
 not-has : (set q : ℕ) (b : Bool) → b ≡ has set q → (In set q → ⊥) → b ≡ false
 not-has set q true e n = absurd (n (has-in set q .0 (sym e)))
@@ -47,7 +44,7 @@ module _ (set p q : ℕ) where
   next-barred barred e = record { stays = λ x i. i; this = λ l free i. absurd (not-both e free) }
 
   pub next-other : (barred : Bool) → has set p ≡ false → Next set barred p q set
-  next-other barred e = record { stays = λ x i. i; this = λ l free i. absurd (not-in set p e i) }
+  next-other barred e = record { stays = λ x i. i; this = λ l free i. absurd (has-not set p e i) }
 
   pub next-is : (barred : Bool) {r : ℕ} → SetIs r (added set q) (λ x. In set x ⊎ ((x ≡ q) × (x < width))) → Next set barred p q r
   next-is barred is = record { stays = λ x i. is .members x .1 (inl i); this = λ l free i. is .members q .1 (inr (refl, l)) }
@@ -77,10 +74,10 @@ module _ (g h p q : ℕ) (s : Reached) where
       on Emptying l may i = absurd (n may)
 
   pub moved-from : {r : Reached} → has h p ≡ false → Apart g p q s r → Moved g h p q s r
-  moved-from e = moved-apart (λ z. not-in h p e (z .0))
+  moved-from e = moved-apart (λ z. has-not h p e (z .0))
 
   pub moved-to : {r : Reached} → has h q ≡ false → Apart g p q s r → Moved g h p q s r
-  moved-to e = moved-apart (λ z. not-in h q e (z .1))
+  moved-to e = moved-apart (λ z. has-not h q e (z .1))
 
   pub moved-both : {t : ℕ} → has h p ≡ true → has h q ≡ true → Next (s .emptying) false p q t
       → Moved g h p q s (record { normal = s .normal; buffering = s .buffering; emptying = t })

@@ -20,9 +20,9 @@ use mathlib.Core.List.{List}
 use native.Mathlib.Omega.{arith}
 use native.Mathlib.Decide.{ℕ-discrete, decLt}
 use lib.ListN.{length, getD, set}
-use lib.Seq.{getD-set-same, getD-set-other}
 use lib.Count.{ones}
 use borrow.Author.Tests.{eqb-true, eqb-false, eq-eqb}
+use Rattle.basics.specs.Lists.{set-next}
 use Rattle.graphs.specs.Cost.{Route, Settled}
 use Rattle.graphs.specs.Back.{Back}
 use Rattle.basics.specs.Search.Laws.{true-or-false}
@@ -396,11 +396,7 @@ module _ (m : Machine) (list : List ℕ) where
 module _ (initial : ℕ) where
   pub first-more : (d : List ℕ) (q v : ℕ) → q < length d → v ≡ firstOf (has initial q) → ((p : ℕ) → p < q → getD d p 0 ≡ firstOf (has initial p))
       → (p : ℕ) → p < q + 1 → getD (set d q v) p 0 ≡ firstOf (has initial p)
-  first-more d q v room is f p lt = on (ℕ-discrete p q)
-    where
-      on : Dec (p ≡ q) → getD (set d q v) p 0 ≡ firstOf (has initial p)
-      on (yes e) = ap (λ (i : ℕ). getD (set d q v) i 0) e ∙ getD-set-same d q v 0 room ∙ is ∙ ap (λ (i : ℕ). firstOf (has initial i)) (sym e)
-      on (no n) = getD-set-other d q p v 0 n ∙ f p (omega arith)
+  first-more d q v room is f = set-next d q v 0 room (λ p x. x ≡ firstOf (has initial p)) is f
 
   pub first-end : {d : List ℕ} → initial < 2 ^ width → length d ≡ 64 → ((p : ℕ) → p < 64 → getD d p 0 ≡ firstOf (has initial p)) → First initial d
   unfolding firstOf

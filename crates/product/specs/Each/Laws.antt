@@ -8,7 +8,6 @@
 -- each-to, each-of        == x stands in each i n f exactly if it stands in some part
 -- each-single             == element k of a list of one-element parts
 -- length-each             == the length is the sum of the parts' lengths
--- put-none, put-append, length-put, put-front == one after the other, lengths, and the whole at the front
 use Prim.Native.Nat.{ℕ, zero, suc, _+_, _-_, _≤_, _<_}
 use mathlib.Core.Path.{_≡_, refl, sym, ap, _∙_, subst}
 use mathlib.Core.Logic.{_⊎_, inl, inr}
@@ -17,9 +16,9 @@ use native.Mathlib.Omega.{arith}
 use native.Mathlib.Numerals.{add-one}
 use native.Mathlib.Nat.{add-zero, zero-add}
 use native.Mathlib.Decide.{ℕ-discrete}
-use lib.ListN.{length, getD, take, drop, length-append, length-drop, take-append-drop}
-use lib.Seq.{take-at, drop-append-add, drop-drop, length-take-le}
-use Rattle.product.specs.Each.{each, sumOver, replaced}
+use lib.ListN.{length, getD, length-append}
+use Rattle.basics.specs.Lists.{put, put-none, put-length, put-put}
+use Rattle.product.specs.Each.{each, sumOver}
 
 module _ {A : Type 0} where
   pub each-step : (i n : ℕ) (f : ℕ → List A) → i < n → each i (n - i) f ≡ f i ++ each (i + 1) (n - (i + 1)) f
@@ -111,43 +110,9 @@ module _ {A : Type 0} where
   length-each i zero f = refl
   length-each i (suc n) f = length-append (f i) (each (suc i) n f) ∙ ap (λ (k : ℕ). length (f i) + k) (length-each (suc i) n f)
 
-  -- Putting
-
-  pub put-none : (l : List A) (k : ℕ) → replaced l k [] ≡ l
-  unfolding replaced
-  put-none l k = ap (λ (x : List A). x ++ drop (k + 0) l) (append-nil (take k l)) ∙ ap (λ (n : ℕ). take k l ++ drop n l) (add-zero k) ∙ take-append-drop k l
-
-  front-length : (l s : List A) (k : ℕ) → k + length s ≤ length l → length (take k l ++ s) ≡ k + length s
-  front-length l s k h = length-append (take k l) s ∙ ap (λ (n : ℕ). n + length s) (length-take-le k l (omega arith))
-
-  pub length-put : (l s : List A) (k : ℕ) → k + length s ≤ length l → length (replaced l k s) ≡ length l
-  unfolding replaced
-  length-put l s k h =
-      let front = front-length l s k h in
-      let back = length-drop (k + length s) l in
-      length-append (take k l ++ s) (drop (k + length s) l) ∙ omega arith
-
-  pub put-append : (l a b : List A) (k : ℕ) → k + length (a ++ b) ≤ length l → replaced (replaced l k a) (k + length a) b ≡ replaced l k (a ++ b)
-  unfolding replaced
-  put-append l a b k h =
-      let both = length-append a b in
-      let front : List A = take k l ++ a in
-      let rest : List A = drop (k + length a) l in
-      let size : length front ≡ k + length a = front-length l a k (omega arith) in
-      let past : k + length a + length b ≡ k + length (a ++ b) = omega arith in
-      ap (λ (x : List A). x ++ b ++ drop (k + length a + length b) (front ++ rest)) (take-at front rest (k + length a) size)
-      ∙ ap (λ (n : ℕ). front ++ b ++ drop (n + length b) (front ++ rest)) (sym size)
-      ∙ ap (λ (x : List A). front ++ b ++ x) (drop-append-add front rest (length b) ∙ drop-drop (length b) (k + length a) l)
-      ∙ ap (λ (n : ℕ). front ++ b ++ drop n l) past
-      ∙ ap (λ (x : List A). x ++ drop (k + length (a ++ b)) l) (append-assoc (take k l) a b)
-
-  pub put-front : (l s : List A) → replaced l 0 s ≡ s ++ drop (length s) l
-  unfolding replaced
-  put-front l s = ap (λ (n : ℕ). s ++ drop n l) (zero-add (length s))
-
 -- A list that is written part by part: what is written so far, and what is still to be written at its place
 pub record Putting {A : Type 0} (entry : List A) (k : ℕ) (all slice : List A) (at : ℕ) (rest : List A) : Type 0 where
-  pub same : replaced slice at rest ≡ replaced entry k all
+  pub same : put at slice rest ≡ put k entry all
   pub place : at + length rest ≡ k + length all
   pub size : length slice ≡ length entry
   pub room : k + length all ≤ length entry
@@ -160,22 +125,22 @@ module _ {A : Type 0} {entry : List A} {k : ℕ} {all : List A} where
   pub putting-room : (a b : List A) {slice rest : List A} {at : ℕ} → Putting entry k all slice at rest → rest ≡ a ++ b → at + length a ≤ length slice
   putting-room a b p e = let both = ap length e ∙ length-append a b in omega (arith, p .place, p .size, p .room)
 
-  pub putting-step : (a b : List A) {slice slice′ rest : List A} {at : ℕ} → Putting entry k all slice at rest → rest ≡ a ++ b → slice′ ≡ replaced slice at a
+  pub putting-step : (a b : List A) {slice slice′ rest : List A} {at : ℕ} → Putting entry k all slice at rest → rest ≡ a ++ b → slice′ ≡ put at slice a
       → Putting entry k all slice′ (at + length a) b
   putting-step a b {slice} {slice′} {rest} {at} p parts e =
       let both = length-append a b in
       let whole = ap length parts in
-      let fits : at + length (a ++ b) ≤ length slice = omega (arith, p .place, p .size, p .room) in
+      let fits : at + length a + length b ≤ length slice = omega (arith, p .place, p .size, p .room) in
       record {
-        same = ap (λ (x : List A). replaced x (at + length a) b) e ∙ put-append slice a b at fits ∙ ap (replaced slice at) (sym parts) ∙ p .same;
+        same = ap (λ (x : List A). put (at + length a) x b) e ∙ put-put at (at + length a) slice a b refl fits ∙ ap (put at slice) (sym parts) ∙ p .same;
         place = omega (arith, p .place);
-        size = ap length e ∙ length-put slice a at (omega arith) ∙ p .size;
+        size = ap length e ∙ put-length at slice a (omega arith) ∙ p .size;
         room = p .room;
       }
 
   pub putting-at : {slice rest : List A} {at at′ : ℕ} → Putting entry k all slice at rest → at ≡ at′ → Putting entry k all slice at′ rest
   putting-at {slice} {rest} p e = subst (λ (n : ℕ). Putting entry k all slice n rest) e p
 
-  pub putting-end : {slice rest : List A} {at : ℕ} → Putting entry k all slice at rest → rest ≡ [] → (slice ≡ replaced entry k all) × (at ≡ k + length all)
+  pub putting-end : {slice rest : List A} {at : ℕ} → Putting entry k all slice at rest → rest ≡ [] → (slice ≡ put k entry all) × (at ≡ k + length all)
   putting-end {slice} {rest} {at} p e =
-      (sym (put-none slice at) ∙ ap (replaced slice at) (sym e) ∙ p .same, sym (add-zero at) ∙ ap (λ (x : List A). at + length x) (sym e) ∙ p .place)
+      (put-none at slice ∙ ap (put at slice) (sym e) ∙ p .same, sym (add-zero at) ∙ ap (λ (x : List A). at + length x) (sym e) ∙ p .place)

@@ -1,5 +1,5 @@
 use native.Mathlib.Omega.{arith}
-use Rattle.adjacency.specs.Index.Laws.{zeros-at}
+use Rattle.basics.specs.Lists.{zeros-at}
 use borrow.Author.Needs.{needs}
 use Rattle.recognize.proofs.answer_medium.Statement.{statement}
 use Rattle.recognize.proofs.answer_medium.Tie as tie

@@ -41,7 +41,7 @@ use Rattle.fsbm.specs.Rules.{Rules, rules, Placed, placed, unplaced}
 use Rattle.fsbm.specs.Moves.Laws.{advanced-fits, move-elim, move-placed}
 use Rattle.language.specs.Strings.{slice-none}
 use Rattle.fsbm.specs.Entries.{entryOf}
-use Rattle.language.specs.Agreement.{published, move-yields, yields-move}
+use Rattle.language.specs.Agreement.{published, move-yields, yields-move, is-normal}
 use Rattle.language.specs.NoWord.{nextMode}
 use Rattle.layers.specs.Costs.{none, at, Near, Step, Go, Best}
 use Rattle.layers.specs.Costs.Laws.{Fits, go-fit, go-step}
@@ -273,11 +273,6 @@ module _ (m : Machine) (list sets w : List ℕ) where
       )
 
   -- Runs and ways
-
-  is-normal : (t : Mode) → isNormal t ≡ true → t ≡ Normal
-  is-normal Normal h = refl
-  is-normal Buffering h = absurd (false≢true h)
-  is-normal Emptying h = absurd (false≢true h)
 
   accepts-go : (c : Config) → accepts (m .marks) (length w) c ≡ true → Go m list (nearOf m w sets) (published w c) 0
   unfolding accepts

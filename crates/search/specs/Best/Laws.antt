@@ -6,14 +6,15 @@
 -- best-final           == once all states are looked at: a number below `nothing` is the least of all final states
 -- best-nothing         == and where it is not below `nothing`, no final state has one
 use Prim.Native.Nat.{ℕ, _+_, _/_, _%_, _≤_, _<_}
-use mathlib.Core.Path.{_≡_, sym, ap, _∙_, subst}
+use mathlib.Core.Path.{_≡_, sym, ap, _∙_}
 use mathlib.Core.Bool.{Bool, true, false, cond}
 use mathlib.Core.List.{List}
 use native.Mathlib.Omega.{arith}
-use native.Mathlib.Decide.{decLt, ℕ-discrete}
+use native.Mathlib.Decide.{decLt}
 use lib.ListN.{getD}
 use lib.Dec.{ltb, eqb}
 use borrow.Author.Tests.{le-ltb, lt-ltb, eqb-true}
+use borrow.Author.Count.{below-more}
 use Rattle.basics.specs.Search.Laws.{not-both}
 use Rattle.fsbm.specs.Machine.{final}
 use Rattle.pieces.specs.Blocks.{nothing, costOf}
@@ -44,26 +45,14 @@ module _ (marks d : List ℕ) where
 
   module _ (k b : ℕ) (h : Best marks d k b) where
     pub best-passes : final marks k ≡ false → Best marks d (k + 1) b
-    best-passes f = record { within = h .within; known = h .known; least = λ g lt is. at g lt is (ℕ-discrete g k) }
-      where
-        at : (g : ℕ) → g < k + 1 → final marks g ≡ true → Dec (g ≡ k) → costOf d b ≤ costOf d g
-        at g lt is (yes e) = absurd (not-both (subst (λ (z : ℕ). final marks z ≡ true) e is) f)
-        at g lt is (no e) = h .least g (omega arith) is
+    best-passes f = record { within = h .within; known = h .known; least = below-more _ k (h .least) (λ is. absurd (not-both is f)) }
 
     pub best-keeps : costOf d b ≤ costOf d k → Best marks d (k + 1) b
-    best-keeps le = record { within = h .within; known = h .known; least = λ g lt is. at g lt is (ℕ-discrete g k) }
-      where
-        at : (g : ℕ) → g < k + 1 → final marks g ≡ true → Dec (g ≡ k) → costOf d b ≤ costOf d g
-        at g lt is (yes e) = let c = ap (costOf d) e in omega arith
-        at g lt is (no e) = h .least g (omega arith) is
+    best-keeps le = record { within = h .within; known = h .known; least = below-more _ k (h .least) (λ is. le) }
 
     pub best-takes : k < 64 → final marks k ≡ true → costOf d k < costOf d b → costOf d b ≤ nothing → Best marks d (k + 1) k
     best-takes small f lt top =
-        record { within = omega arith; known = λ z. (f, omega arith); least = λ g below is. at g below is (ℕ-discrete g k) }
-      where
-        at : (g : ℕ) → g < k + 1 → final marks g ≡ true → Dec (g ≡ k) → costOf d k ≤ costOf d g
-        at g below is (yes e) = let c = ap (costOf d) e in omega arith
-        at g below is (no e) = let z = h .least g (omega arith) is in omega arith
+        record { within = omega arith; known = λ z. (f, omega arith); least = below-more _ k (λ g below is. let z = h .least g below is in omega arith) (λ is. omega arith) }
 
     -- the number of the best so far is at most `nothing`
     pub best-top : costOf d b ≤ nothing

@@ -13,11 +13,12 @@ use mathlib.Core.Logic.{_⊎_, inl, inr}
 use mathlib.Core.Bool.{Bool, true, false, false≢true}
 use mathlib.Core.List.{List, [], _∷_, _++_, append-nil}
 use native.Mathlib.Omega.{arith}
-use native.Mathlib.Decide.{decLt, ℕ-discrete}
+use native.Mathlib.Decide.{decLt}
 use lib.ListN.{length, set, drop, length-append, length-drop}
 use lib.Seq.{drop-length, drop-set-lt, getD-set-same}
 use lib.Dec.{eqb}
 use borrow.Author.Tests.{eqb-true, eq-eqb}
+use borrow.Author.Count.{below-more}
 use Rattle.graphs.specs.Cost.Laws.{settled-under}
 use Rattle.basics.specs.Search.Laws.{not-both}
 use Rattle.stateset.specs.Set.{In}
@@ -158,11 +159,7 @@ module _ (m : Machine) (list index : List ℕ) (starts ends middles : ℕ) (d : 
 
     pub guess-next : (b b′ : List ℕ) (k : ℕ) (r : Bool) → Guessing m list index starts ends middles d b q first k → TriedGuess m list index starts ends middles d b′ q ((first + k) % 64) r → r ≡ false
         → Guessing m list index starts ends middles d b′ q first (k + 1)
-    guess-next b b′ k r g t e = record { searching = t .searching; tried = λ j l x is. at j l x is (ℕ-discrete j k) }
-      where
-        at : (j : ℕ) → j < k + 1 → (x : CopyThere m list d q) → x .middle ≡ (first + j) % 64 → Dec (j ≡ k) → ⊥
-        at j l x is (yes same) = t .bad e x (is ∙ ap (λ (o : ℕ). (first + o) % 64) same)
-        at j l x is (no other) = g .tried j (omega arith) x is
+    guess-next b b′ k r g t e = record { searching = t .searching; tried = below-more _ k (g .tried) (t .bad e) }
 
     pub guess-found : (b′ : List ℕ) (h : ℕ) (r : Bool) → CopyThere m list d q → TriedGuess m list index starts ends middles d b′ q h r → r ≡ true → Guessed m list index starts ends middles d b′ q h
     guess-found b′ h r x t e = record { searching = t .searching; turns = t .turns e; ends-there = x .ends; block = t .block e; tight = t .tight e }

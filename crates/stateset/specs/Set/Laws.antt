@@ -3,7 +3,7 @@
 --
 -- digit-zero, digit-suc            == the digit at 0; the digit one place up is that of the half
 -- digit-cases, in?                 == a digit is 0 or 1; q is a member or it is not
--- has-in                           == the Bool test is membership
+-- has-in, has-not                  == the Bool test is membership
 -- digit-high, has-high, in-lt      == a number below 2 ^ w has no member at w or above
 -- same-members                     == same members, same number
 -- empty-in, in-or, in-and, in-bit  == the members of 0, of an or, of an and, of a single bit
@@ -29,7 +29,7 @@ use native.Mathlib.Omega.{arith}
 use native.Mathlib.Nat.{pow-suc, div-eq-of-lt, lt-of-lt-of-le, sub-zero, mod-lt, mod-eq-of-lt, one-mul}
 use native.Mathlib.Decide.{ℕ-discrete, decLt}
 use native.Mathlib.Numerals.{one-add}
-use borrow.Author.Tests.{eqb-true, eq-eqb, lt-ltb, le-ltb}
+use borrow.Author.Tests.{eqb-true, eqb-false, eq-eqb, lt-ltb, le-ltb}
 use lib.Arith.{bin-ind}
 use lib.Pow.{shr-shr, pow-mono, pow-pos, pow-lt, mod-pow-add}
 use lib.Bits.{bitAnd, bitOr, or-lt, and-lt, or-zero-r, and-step, or-step, and-shr, or-shr}
@@ -68,6 +68,9 @@ in? x q = ℕ-discrete (digit x q) 1
 
 pub has-in : (x q : ℕ) → (has x q ≡ true) ↔ In x q
 has-in x q = (eqb-true (digit x q) 1, eq-eqb (digit x q) 1)
+
+pub has-not : (x q : ℕ) → has x q ≡ false → In x q → ⊥
+has-not x q e i = eqb-false (digit x q) 1 e i
 
 pub has-high : {w x q : ℕ} → x < 2 ^ w → w ≤ q → has x q ≡ false
 has-high h l = rw (digit-high h l)

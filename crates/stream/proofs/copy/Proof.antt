@@ -2,8 +2,8 @@ use Prim.Native.Nat.{_≤_, _-_}
 use mathlib.Core.Path.{_≡_, refl, _∙_}
 use native.Mathlib.Omega.{arith}
 use lib.ListN.{length, take, length-set}
-use Rattle.columns.specs.Column.{put}
-use Rattle.stream.proofs.PieceCases.{put-nothing, copied-more, copied}
+use Rattle.basics.specs.Lists.{put, put-none}
+use Rattle.stream.proofs.PieceCases.{copied-more, copied}
 use Rattle.stream.proofs.copy.Statement.{statement}
 use Rattle.stream.proofs.copy.Tie as tie
 use Rattle.stream.proofs.copy.Reads as reads
@@ -16,7 +16,7 @@ abbrev μ-loop : tie.MeasureT-loop
 μ-loop bytes out₀ i₀ out i = length bytes - i
 
 loop-holds : tie.Need-loop-holds Inv-loop μ-loop
-loop-holds c = (omega arith, put-nothing 0 ((c) .args .out .now), refl)
+loop-holds c = (omega arith, put-none 0 ((c) .args .out .now), refl)
 
 shared-slice-read-out : tie.Need-shared-slice-read-out Inv-loop μ-loop
 shared-slice-read-out c = omega arith

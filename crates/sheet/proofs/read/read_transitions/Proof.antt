@@ -1,7 +1,7 @@
-use Rattle.sheet.proofs.ReadCases.{numbersPiece, numbers-wide, numbers-put, numbers-are, transition-there, from-small, letter-small, to-small, transitions-done, states-few, transitions-few}
+use Rattle.sheet.proofs.ReadCases.{numbersPiece, numbers-wide, numbers-are, transition-there, from-small, letter-small, to-small, transitions-done, states-few, transitions-few}
 use Rattle.sheet.proofs.WriteCases.{each-none, each-more}
 use Rattle.sheet.specs.Series.{eachBelow}
-use Rattle.columns.specs.Column.{put}
+use Rattle.basics.specs.Lists.{put, put-three}
 use lib.ListN.{length, length-set}
 use native.Mathlib.Omega.{arith}
 use mathlib.Core.Path.{_≡_, refl}
@@ -89,7 +89,7 @@ loop-less : tie.Need-loop-less Inv-loop μ-loop
 loop-less c = omega (arith, (c .before .before .before .loop-test .taken))
 
 loop-again : tie.Need-loop-again Inv-loop μ-loop
-loop-again c = (omega (arith, (c .before .before .before .loop-test .taken)), omega (arith, (c .before .before .before .before .loop .inv) .1), each-more 3 0 (numbersPiece ((c .before .before .before .before .before .before .before .args .sheet) .now)) (numbers-wide ((c .before .before .before .before .before .before .before .args .sheet) .now)) ((c .before .before .before .before .before .before .before .args .list) .now) (c .before .before .before .before .loop .list) _ _ (c .before .before .before .before .loop .k) ((c .before .before .before .before .loop .k) * 3) ((c .before .before .before .before .loop .inv) .2) (numbers-put (c .before .before .before .before .loop .list) ((c .before .before .before .before .loop .k) * 3) (c .before .before .short-column .result) (c .before .short-column2 .result) (c .short-column3 .result) (omega (arith, (c .before .before .before .before .before .before .before .pre) .3, (c .before .before .before .loop-test .taken), (c .before .before .before .before .loop .inv) .3))) (numbers-are ((c .before .before .before .before .before .before .before .args .sheet) .now) ((c .before .before .before .before .before .before .before .pre) .0) (c .before .before .before .before .before .before .before .args .states) (c .before .before .before .before .before .before .before .args .transitions) (c .before .before .before .before .loop .k) (c .before .before .before .before .loop .at) ((c .before .before .before .before .before .before .before .pre) .1) ((c .before .before .before .before .before .before .before .pre) .2) (c .before .before .before .loop-test .taken) ((c .before .before .before .before .loop .inv) .1) (c .before .before .short-column .result) (c .before .short-column2 .result) (c .short-column3 .result) (c .before .before .short-column .ensures) (c .before .short-column2 .ensures) (c .short-column3 .ensures)) (omega arith) (omega (arith, (c .before .before .before .before .before .before .before .pre) .3, (c .before .before .before .loop-test .taken))), simp length-set ((c .before .before .before .before .loop .inv) .3))
+loop-again c = (omega (arith, (c .before .before .before .loop-test .taken)), omega (arith, (c .before .before .before .before .loop .inv) .1), each-more 3 0 (numbersPiece ((c .before .before .before .before .before .before .before .args .sheet) .now)) (numbers-wide ((c .before .before .before .before .before .before .before .args .sheet) .now)) ((c .before .before .before .before .before .before .before .args .list) .now) (c .before .before .before .before .loop .list) _ _ (c .before .before .before .before .loop .k) ((c .before .before .before .before .loop .k) * 3) ((c .before .before .before .before .loop .inv) .2) (put-three (c .before .before .before .before .loop .list) ((c .before .before .before .before .loop .k) * 3) (c .before .before .short-column .result) (c .before .short-column2 .result) (c .short-column3 .result) (omega (arith, (c .before .before .before .before .before .before .before .pre) .3, (c .before .before .before .loop-test .taken), (c .before .before .before .before .loop .inv) .3))) (numbers-are ((c .before .before .before .before .before .before .before .args .sheet) .now) ((c .before .before .before .before .before .before .before .pre) .0) (c .before .before .before .before .before .before .before .args .states) (c .before .before .before .before .before .before .before .args .transitions) (c .before .before .before .before .loop .k) (c .before .before .before .before .loop .at) ((c .before .before .before .before .before .before .before .pre) .1) ((c .before .before .before .before .before .before .before .pre) .2) (c .before .before .before .loop-test .taken) ((c .before .before .before .before .loop .inv) .1) (c .before .before .short-column .result) (c .before .short-column2 .result) (c .short-column3 .result) (c .before .before .short-column .ensures) (c .before .short-column2 .ensures) (c .short-column3 .ensures)) (omega arith) (omega (arith, (c .before .before .before .before .before .before .before .pre) .3, (c .before .before .before .loop-test .taken))), simp length-set ((c .before .before .before .before .loop .inv) .3))
 
 same-length : tie.Need-same-length Inv-loop μ-loop
 same-length c = (c .before .loop .inv) .3

@@ -1,7 +1,8 @@
-use Rattle.sheet.proofs.WriteCases.{each-none, each-more, state-piece, state-wide, each-done}
+use Rattle.sheet.proofs.WriteCases.{each-none, each-more, state-piece, each-done}
+use Rattle.sheet.specs.Format.Laws.{state-wide}
 use Rattle.sheet.specs.Format.{stateLine}
 use Rattle.sheet.specs.Series.{eachBelow}
-use Rattle.columns.specs.Column.{put}
+use Rattle.basics.specs.Lists.{put}
 use borrow.Author.Needs.{needs}
 use lib.ListN.{length}
 use native.Mathlib.Omega.{arith}

@@ -1,7 +1,8 @@
-use Rattle.sheet.proofs.WriteCases.{each-none, each-more, transition-piece, transition-wide, each-done}
+use Rattle.sheet.proofs.WriteCases.{each-none, each-more, transition-piece, each-done}
+use Rattle.sheet.specs.Format.Laws.{transition-wide}
 use Rattle.sheet.specs.Format.{transitionLine}
 use Rattle.sheet.specs.Series.{eachBelow}
-use Rattle.columns.specs.Column.{put}
+use Rattle.basics.specs.Lists.{put}
 use lib.ListN.{length}
 use native.Mathlib.Omega.{arith}
 use mathlib.Core.Path.{_≡_, refl, _∙_}
