@@ -46,7 +46,7 @@ pub fn read_record(sheet: &[u8], list: &mut [u16]) -> ReadRecord {
     unsafe { zagvirk_read_sheet(sheet.as_ptr(), sheet.len(), list.as_mut_ptr(), list.len()) }
 }
 
-/// Writes a sheet, as [`write`].
+/// Writes a sheet, as [`write()`].
 pub fn write_record(table: Table, sheet: &mut [u8]) -> WrittenRecord {
     // SAFETY: as above; the call writes to `sheet` only, which does not overlap with the list.
     unsafe {
