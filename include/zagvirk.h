@@ -25,6 +25,24 @@
 #include <stddef.h>
 #include <stdint.h>
 
+/* The version of this header. ZAGVIRK_VERSION is 10000 x major + 100 x minor + patch, for #if. While the major version
+ * is 0, records and answers may change with the minor version: compile again then.
+ */
+#define ZAGVIRK_VERSION_MAJOR 0
+#define ZAGVIRK_VERSION_MINOR 1
+#define ZAGVIRK_VERSION_PATCH 0
+#define ZAGVIRK_VERSION (10000 * ZAGVIRK_VERSION_MAJOR + 100 * ZAGVIRK_VERSION_MINOR + ZAGVIRK_VERSION_PATCH)
+
+/* The stack, in bytes, of a thread that makes a call; no call uses a heap. Measured on x86-64 Linux and rounded up, not
+ * proved: the least threads that ran the calls on the largest inputs had 464 KB (zagvirk_recognize), 220 KB
+ * (zagvirk_common_word), 80 KB (zagvirk_join) and for every other call 16 KB, the least that a thread may have there;
+ * these take below 1 KB themselves. What the caller's own functions need comes on top.
+ */
+#define ZAGVIRK_STACK_RECOGNIZE (480 * 1024)
+#define ZAGVIRK_STACK_COMMON_WORD (240 * 1024)
+#define ZAGVIRK_STACK_JOIN (96 * 1024)
+#define ZAGVIRK_STACK_SMALL (16 * 1024) /* every other call */
+
 #ifdef __cplusplus
 extern "C" {
 #endif
@@ -115,7 +133,7 @@ typedef struct {
  * buffer that is not a stretch of the word ending at or before the position (buffering mode: ending at it; normal
  * mode: empty), nor by an entry that names nothing.
  *
- * Time: one pass over the machine and the word. Memory: constant.
+ * Time: one pass over the machine and the word. Stack: ZAGVIRK_STACK_SMALL.
  */
 zagvirk_stepped zagvirk_step(zagvirk_machine machine, const uint16_t *list, size_t list_len, const uint8_t *word,
                              size_t word_len, zagvirk_config config, uint16_t entry);
@@ -125,7 +143,7 @@ zagvirk_stepped zagvirk_step(zagvirk_machine machine, const uint16_t *list, size
  * Refuses as zagvirk_step does. An empty run, a start state that is absent or not initial, and a move that is not
  * allowed make a run that does not accept.
  *
- * Time: one pass over the machine, the word and the run. Memory: constant.
+ * Time: one pass over the machine, the word and the run. Stack: ZAGVIRK_STACK_SMALL.
  */
 zagvirk_checked zagvirk_check_run(zagvirk_machine machine, const uint16_t *list, size_t list_len, const uint8_t *word,
                                   size_t word_len, const uint16_t *run, size_t run_len);
@@ -155,7 +173,7 @@ typedef struct {
  * Refuses at the first fault in reading order, in each line in this order: 1, 2, then 3 (line one), 4 (a state's line)
  * or 5 (a transition's line), then 6; after all lines 7, then 15.
  *
- * Time: in proportion to the sheet's bytes. Memory: constant.
+ * Time: in proportion to the sheet's bytes. Stack: ZAGVIRK_STACK_SMALL.
  */
 zagvirk_sheet_read zagvirk_read_sheet(const uint8_t *sheet, size_t sheet_len, uint16_t *list, size_t list_len);
 
@@ -163,7 +181,7 @@ zagvirk_sheet_read zagvirk_read_sheet(const uint8_t *sheet, size_t sheet_len, ui
  *
  * Refuses, in this order: 16, 19.
  *
- * Time: in proportion to the sheet's bytes. Memory: constant.
+ * Time: in proportion to the sheet's bytes. Stack: ZAGVIRK_STACK_SMALL.
  */
 zagvirk_sheet_written zagvirk_write_sheet(zagvirk_machine machine, const uint16_t *list, size_t list_len,
                                           uint8_t *sheet, size_t sheet_len);
@@ -181,7 +199,7 @@ typedef struct {
  *
  * Refuses, in this order: 9 over 255 bytes, 8 if a byte has no letter, 18.
  *
- * Time: two passes over the bytes, one to test them and one to write. Memory: constant.
+ * Time: two passes over the bytes, one to test them and one to write. Stack: ZAGVIRK_STACK_SMALL.
  */
 zagvirk_translated zagvirk_translate(const uint8_t *bytes, size_t bytes_len, uint8_t *word, size_t word_len);
 
@@ -202,7 +220,7 @@ typedef struct {
  *
  * Refuses, in this order: 16 (first machine, then second), 10, 11, 12, 13, 15.
  *
- * Time: in proportion to the machines and the product. Memory: 72 KB of stack, no heap.
+ * Time: in proportion to the machines and the product. Stack: ZAGVIRK_STACK_JOIN.
  */
 zagvirk_joined zagvirk_join(zagvirk_machine first, const uint16_t *first_list, size_t first_len, zagvirk_machine second,
                             const uint16_t *second_list, size_t second_len, uint16_t *list, size_t list_len);
@@ -223,7 +241,7 @@ typedef struct {
  *
  * Refuses, in this order: 16, 9 over 255 letters, 8, 14, 20.
  *
- * Time: one pass over the machine and the word, three over the run. Memory: constant.
+ * Time: one pass over the machine and the word, three over the run. Stack: ZAGVIRK_STACK_SMALL.
  */
 zagvirk_copies_listed zagvirk_list_copies(zagvirk_machine machine, const uint16_t *list, size_t list_len,
                                           const uint8_t *word, size_t word_len, const uint16_t *run, size_t run_len,
@@ -244,9 +262,9 @@ typedef struct {
  * Refuses, in this order: 16, 9 over 255 letters, 8, 17 if run has fewer than 3 x states x (word_len + 1) elements,
  * whatever the answer would be.
  *
- * Time: one pass over the machine and the word, then sets of states, at most word_len^2 / 2 of them for the answer; for a
- * run rows of fewest entries, at most word_len^2 / 2 of them too. Memory, on the stack and no heap: 464 KB if the word is
- * accepted, else 135 KB.
+ * Time: one pass over the machine and the word, then sets of states, at most word_len^2 / 2 of them for the answer; for
+ * a run rows of fewest entries, at most word_len^2 / 2 of them too. Stack: ZAGVIRK_STACK_RECOGNIZE, of which a word
+ * that is not accepted takes 140 KB.
  */
 zagvirk_recognized zagvirk_recognize(zagvirk_machine machine, const uint16_t *list, size_t list_len,
                                      const uint8_t *word, size_t word_len, uint16_t *run, size_t run_len);
@@ -274,8 +292,8 @@ typedef struct {
  * first x (n + 1), 17 if second_run has fewer than n + 1. A shortest common word has at most 515,970 letters.
  *
  * Time: that of zagvirk_join; then the product's moves, as often as a least weight is lowered, and for each round of
- * copies a table of pairs of states for each state where storing can end; then the word and its runs. Memory: 216 KB
- * of stack, no heap.
+ * copies a table of pairs of states for each state where storing can end; then the word and its runs. Stack:
+ * ZAGVIRK_STACK_COMMON_WORD.
  */
 zagvirk_common zagvirk_common_word(zagvirk_machine first, const uint16_t *first_list, size_t first_len,
                                    zagvirk_machine second, const uint16_t *second_list, size_t second_len,

@@ -2,7 +2,7 @@
 
 use crate::measure::{best_of_both, REPETITIONS};
 use crate::plain;
-use zagvirk::{Machine, BACK_TO_NORMAL, BEGIN_BUFFERING, BEGIN_EMPTYING, LONGEST_WORD};
+use zagvirk::{Machine, Table, BACK_TO_NORMAL, BEGIN_BUFFERING, BEGIN_EMPTYING, LONGEST_WORD};
 
 /// An input of the run checker.
 struct Input {
@@ -122,14 +122,15 @@ pub fn section() {
             word,
             run,
         } = &input;
+        let table = Table::new(machine, list);
         assert_eq!(word.len(), LONGEST_WORD);
-        assert_eq!(zagvirk::check_run(machine, list, word, run), Ok(true));
+        assert_eq!(zagvirk::check_run(table, word, run), Ok(true));
         assert_eq!(plain::check_run(machine, list, word, run), Ok(true));
         let cut = &run[..run.len() - 1];
-        assert_eq!(zagvirk::check_run(machine, list, word, cut), Ok(false));
+        assert_eq!(zagvirk::check_run(table, word, cut), Ok(false));
         assert_eq!(plain::check_run(machine, list, word, cut), Ok(false));
         let (proved, plain) = best_of_both(
-            || zagvirk::check_run(machine, list, word, run),
+            || zagvirk::check_run(table, word, run),
             || plain::check_run(machine, list, word, run),
         );
         let entries = run.len() as f64;

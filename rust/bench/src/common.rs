@@ -6,8 +6,8 @@ use compare::copy_chains::{chain, cycles, every_word, short_copies};
 use compare::dense::{dense, dense_plain, doubled, Kind};
 use compare::record_of;
 use reference::{folder, Machine};
-use zagvirk::common::{common_word, needed, Lengths};
-use zagvirk::{check_run, Refusal};
+use zagvirk::common::{common_word, needed};
+use zagvirk::{check_run, Refusal, Table};
 
 /// The time in seconds of a sample: as many calls as take so long, at least one.
 const SAMPLE: f64 = 0.005;
@@ -129,11 +129,10 @@ fn row(pair: &Pair) {
     let joined = reference::product::product(first, second);
     let ((one, one_list), (two, two_list)) = (first.record(), second.record());
     let (one, two) = (record_of(&one), record_of(&two));
+    let (one_table, two_table) = (Table::new(&one, &one_list), Table::new(&two, &two_list));
     // The number of letters, from a call with no room.
     let search = |word: &mut [u8], first_run: &mut [u16], second_run: &mut [u16]| {
-        common_word(
-            &one, &one_list, &two, &two_list, word, first_run, second_run,
-        )
+        common_word(one_table, two_table, word, first_run, second_run)
     };
     let plain_search = |word: &mut [u8], first_run: &mut [u16], second_run: &mut [u16]| {
         let (one, two) = ((&one, &one_list[..]), (&two, &two_list[..]));
@@ -161,20 +160,19 @@ fn row(pair: &Pair) {
     let proved_lengths = search(&mut proved.0, &mut proved.1, &mut proved.2).expect("enough room");
     let plain_lengths = plain_search(&mut plain.0, &mut plain.1, &mut plain.2);
     let plain_lengths = plain_lengths.expect("enough room");
+    let proved_lengths =
+        proved_lengths.map(|found| (found.letters, found.first_entries, found.second_entries));
+    let plain_lengths =
+        plain_lengths.map(|found| (found.letters, found.first_entries, found.second_entries));
     for (lengths, (word, first_run, second_run)) in
         [(proved_lengths, &proved), (plain_lengths, &plain)]
     {
-        assert_eq!(lengths.map(|lengths| lengths.letters), found, "{name}");
-        if let Some(Lengths {
-            letters,
-            first_entries,
-            second_entries,
-        }) = lengths
-        {
+        assert_eq!(lengths.map(|lengths| lengths.0), found, "{name}");
+        if let Some((letters, first_entries, second_entries)) = lengths {
             let word = &word[..letters];
             let checked = [
-                check_run(&one, &one_list, word, &first_run[..first_entries]),
-                check_run(&two, &two_list, word, &second_run[..second_entries]),
+                check_run(one_table, word, &first_run[..first_entries]),
+                check_run(two_table, word, &second_run[..second_entries]),
             ];
             assert_eq!(checked, [Ok(true); 2], "{name}");
         }

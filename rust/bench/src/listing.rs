@@ -38,7 +38,8 @@ impl Place {
         fs::create_dir_all(&folder).expect("a folder");
         let machine = &table.machine;
         let mut text = vec![0; 16 + 11 * machine.states + 16 * machine.transitions];
-        let bytes = sheet::write(machine, &table.list, &mut text).expect("a good machine");
+        let bytes = sheet::write(zagvirk::Table::new(machine, &table.list), &mut text)
+            .expect("a good machine");
         fs::write(folder.join("table.txt"), &text[..bytes]).expect("table.txt");
         Place { folder, program }
     }

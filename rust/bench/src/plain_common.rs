@@ -8,7 +8,7 @@
 //! are not followed. What is reached is kept in a log, level by level, and the runs are found backwards along it.
 
 use crate::plain::keeps_rules;
-use zagvirk::common::{needed, Lengths};
+use zagvirk::common::needed;
 use zagvirk::{Machine, BACK_TO_NORMAL, BEGIN_BUFFERING, BEGIN_EMPTYING};
 use zagvirk::{BUFFERING, FINAL, INITIAL, MATCHING};
 
@@ -643,6 +643,14 @@ fn without_repeats(list: &[u16], run: &[u16]) -> Vec<u16> {
     kept
 }
 
+/// How many elements of each slice were written.
+#[derive(Clone, Copy, PartialEq, Eq, Debug)]
+pub struct Lengths {
+    pub letters: usize,
+    pub first_entries: usize,
+    pub second_entries: usize,
+}
+
 /// What the proved call does; a refusal is its number and the length that the slice needs.
 pub fn common_word(
     (first, first_list): (&Machine, &[u16]),
@@ -703,14 +711,14 @@ pub fn common_word(
 
 #[cfg(test)]
 mod tests {
-    use super::{common_word, without_repeats};
+    use super::{common_word, without_repeats, Lengths};
     use compare::calls::{self, Slices};
     use compare::copy_chains::{chain, cycles, every_word, short_copies};
     use compare::dense::{dense, dense_plain, doubled, Kind};
     use compare::pairs::{random_chain, random_copying, random_second};
     use compare::{break_a_rule, filled, filled_bytes, random_machine, record_of, Rng};
     use reference::{Machine, Record};
-    use zagvirk::common::Lengths;
+    use zagvirk::Table;
 
     /// Compares both calls with slices of these lengths: the refusal and the length needed, or the number of letters;
     /// the runs of the plain call accept its word, and the rest of its slices is as it was. Returns the answer.
@@ -735,7 +743,11 @@ mod tests {
             first_run: &mut first_run,
             second_run: &mut second_run,
         };
-        let proved = calls::common_word(lent.0, lent.1, slices);
+        let proved = calls::common_word(
+            Table::new(&one, &first.1),
+            Table::new(&two, &second.1),
+            slices,
+        );
         let proved = proved.map_err(|refusal| (refusal.number(), refusal.needed()));
         let (mut word, mut first_run, mut second_run) = new();
         let plain = common_word(lent.0, lent.1, &mut word, &mut first_run, &mut second_run);

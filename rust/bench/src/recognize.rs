@@ -320,6 +320,7 @@ fn row(table: &Table, length: usize, kind: &'static str) -> Vec<Single> {
     let begin = Instant::now();
     let left = || BUDGET - begin.elapsed().as_secs_f64();
     let mut words = words(kind, *letters, length);
+    let lent = zagvirk::Table::new(machine, list);
     let needed = run_length(machine, length);
     let (mut proved_run, mut plain_run) = (vec![0; needed], vec![0; needed]);
     // The first pass: each word alone, and whether the answers are the same and the runs accept.
@@ -330,7 +331,7 @@ fn row(table: &Table, length: usize, kind: &'static str) -> Vec<Single> {
         }
         let (mut proved, mut plain) = (Ok(None), Ok(None));
         let proved_time = least_within(CALLS, ENOUGH, || {
-            proved = recognize(machine, list, word, &mut proved_run);
+            proved = recognize(lent, word, &mut proved_run);
         });
         let plain_time = least_within(CALLS, ENOUGH, || {
             plain = plain_recognize::recognize(machine, list, word, &mut plain_run);
@@ -340,7 +341,7 @@ fn row(table: &Table, length: usize, kind: &'static str) -> Vec<Single> {
         assert_eq!(proved.is_some(), plain.is_some(), "{name} {word:?}");
         if let (Some(proved), Some(plain)) = (proved, plain) {
             for run in [&proved_run[..proved], &plain_run[..plain]] {
-                let checked = check_run(machine, list, word, run);
+                let checked = check_run(lent, word, run);
                 assert_eq!(checked, Ok(true), "{name} {word:?}");
             }
         }
@@ -365,7 +366,7 @@ fn row(table: &Table, length: usize, kind: &'static str) -> Vec<Single> {
             .cycle()
             .take(proved_rounds as usize * words.len())
         {
-            black_box(recognize(machine, list, word, &mut proved_run)).expect("no refusal");
+            black_box(recognize(lent, word, &mut proved_run)).expect("no refusal");
         }
         let proved = start.elapsed().as_secs_f64() / proved_rounds;
         let start = Instant::now();

@@ -2,7 +2,7 @@
 
 use crate::measure::{best_of_both, REPETITIONS};
 use crate::plain_sheet;
-use zagvirk::{sheet, Machine};
+use zagvirk::{sheet, Machine, Table};
 
 /// The largest machine: 64 states, 250 letters, 4,000 transitions.
 fn largest() -> (Machine, Vec<u16>) {
@@ -28,9 +28,10 @@ pub fn section() {
     let table_t = vec![0, 0, 1, 1, 0, 2, 1, 1, 1, 1, 2, 1, 2, 1, 2, 2, 2, 2];
     let small = (Machine::new(2, 6, &[5, 0, 10]), table_t);
     for (name, (machine, list), calls) in [("largest", largest(), 10), ("table T", small, 5_000)] {
+        let table = Table::new(&machine, &list);
         let bytes = 16 + 11 * machine.states + 16 * machine.transitions;
         let (mut proved_sheet, mut plain_sheet) = (vec![0; bytes], vec![0; bytes]);
-        assert_eq!(sheet::write(&machine, &list, &mut proved_sheet), Ok(bytes));
+        assert_eq!(sheet::write(table, &mut proved_sheet), Ok(bytes));
         assert_eq!(
             plain_sheet::write(&machine, &list, &mut plain_sheet),
             Ok(bytes)
@@ -46,7 +47,7 @@ pub fn section() {
             || (0..calls).all(|_| plain_sheet::read(&text, &mut plain_list).is_ok()),
         );
         let written = best_of_both(
-            || (0..calls).all(|_| sheet::write(&machine, &list, &mut proved_sheet).is_ok()),
+            || (0..calls).all(|_| sheet::write(table, &mut proved_sheet).is_ok()),
             || (0..calls).all(|_| plain_sheet::write(&machine, &list, &mut plain_sheet).is_ok()),
         );
         for (call, (proved, plain)) in [("read", read), ("write", written)] {

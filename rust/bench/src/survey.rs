@@ -6,7 +6,7 @@ use crate::recognize::zones as sixty_states;
 use compare::many_copies::{long_word, repetitive_word, zone_circle, zones};
 use compare::{random_machine, record_of, Rng};
 use zagvirk::recognize::{recognize, run_length};
-use zagvirk::{check_run, Machine};
+use zagvirk::{check_run, Machine, Table};
 
 /// The words of a kind, and the calls for each of which the least time counts.
 const WORDS: usize = 1_000;
@@ -95,18 +95,19 @@ fn times(input: &Input, calls: usize) -> Times {
         word,
         ..
     } = input;
+    let table = Table::new(machine, list);
     let mut run = vec![0; run_length(machine, word.len())];
     let (mut found, mut plain_found) = (Ok(None), Ok(None));
     let plain = least_within(calls, BUDGET, || {
         plain_found = plain_recognize::recognize(machine, list, word, &mut run);
     });
     let proved = least_within(calls, BUDGET, || {
-        found = recognize(machine, list, word, &mut run);
+        found = recognize(table, word, &mut run);
     });
     let found = found.expect("no refusal");
     assert_eq!(found.is_some(), plain_found.expect("no refusal").is_some());
     if let Some(entries) = found {
-        assert_eq!(check_run(machine, list, word, &run[..entries]), Ok(true));
+        assert_eq!(check_run(table, word, &run[..entries]), Ok(true));
     }
     Times {
         proved,

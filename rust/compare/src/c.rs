@@ -30,7 +30,7 @@ pub fn run(command: &mut Command) -> String {
 pub fn program(name: &str, folder: &str) -> String {
     let program = Path::new(folder).join(name);
     run(Command::new("cc")
-        .arg("-std=c99")
+        .args(["-std=c99", "-pthread"])
         .args(STRICT)
         .arg("-I")
         .arg(repository().join("include"))

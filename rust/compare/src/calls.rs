@@ -9,7 +9,7 @@ use zagvirk::product::JoinedRecord;
 use zagvirk::recognize::RecognizedRecord;
 use zagvirk::sheet::{ReadRecord, WrittenRecord};
 use zagvirk::spelling::TranslatedRecord;
-use zagvirk::{Machine, Refusal};
+use zagvirk::{Machine, Refusal, Table};
 
 /// The elements of the list that a machine has written.
 fn list_length(machine: &Machine) -> usize {
@@ -26,7 +26,7 @@ pub fn check_run(
     let kept_list = Kept::new("list", list);
     let kept_word = Kept::new("word", word);
     let kept_run = Kept::new("run", run);
-    let found = zagvirk::check_run(machine, list, word, run);
+    let found = zagvirk::check_run(Table::new(machine, list), word, run);
     kept_list.same("check_run", list);
     kept_word.same("check_run", word);
     kept_run.same("check_run", run);
@@ -58,7 +58,7 @@ pub fn recognize_record(
 ) -> RecognizedRecord {
     recognizing(
         (list, word, run),
-        |run| zagvirk::recognize::recognize_record(machine, list, word, run),
+        |run| zagvirk::recognize::recognize_record(Table::new(machine, list), word, run),
         |found| found.entries,
     )
 }
@@ -72,7 +72,7 @@ pub fn recognize(
 ) -> Result<Option<usize>, Refusal> {
     recognizing(
         (list, word, run),
-        |run| zagvirk::recognize::recognize(machine, list, word, run),
+        |run| zagvirk::recognize::recognize(Table::new(machine, list), word, run),
         |found| found.ok().flatten().unwrap_or(0),
     )
 }
@@ -105,7 +105,7 @@ pub fn list_copies_record(
 ) -> CopiesRecord {
     listing(
         (list, word, run, copies),
-        |copies| zagvirk::copies::list_copies_record(machine, list, word, run, copies),
+        |copies| zagvirk::copies::list_copies_record(Table::new(machine, list), word, run, copies),
         |found| found.copies,
     )
 }
@@ -120,7 +120,7 @@ pub fn list_copies(
 ) -> Result<Copies, Refusal> {
     listing(
         (list, word, run, copies),
-        |copies| zagvirk::copies::list_copies(machine, list, word, run, copies),
+        |copies| zagvirk::copies::list_copies(Table::new(machine, list), word, run, copies),
         |found| found.map_or(0, |listed| listed.count),
     )
 }
@@ -151,7 +151,13 @@ pub fn join_record(
 ) -> JoinedRecord {
     joining(
         (first_list, second_list, list),
-        |list| zagvirk::product::join_record(first, first_list, second, second_list, list),
+        |list| {
+            let (first, second) = (
+                Table::new(first, first_list),
+                Table::new(second, second_list),
+            );
+            zagvirk::product::join_record(first, second, list)
+        },
         |found| list_length(&found.machine),
     )
 }
@@ -166,13 +172,16 @@ pub fn join(
 ) -> Result<Machine, Refusal> {
     joining(
         (first_list, second_list, list),
-        |list| zagvirk::product::join(first, first_list, second, second_list, list),
+        |list| {
+            let (first, second) = (
+                Table::new(first, first_list),
+                Table::new(second, second_list),
+            );
+            zagvirk::product::join(first, second, list)
+        },
         |found| found.as_ref().map_or(0, list_length),
     )
 }
-
-/// A machine and its list, as a call takes them.
-pub type Lent<'a> = (&'a Machine, &'a [u16]);
 
 /// The three slices that the common-word search writes to.
 pub struct Slices<'a> {
@@ -209,28 +218,28 @@ fn searching<R>(
 }
 
 /// `zagvirk::common::common_word_record`.
-pub fn common_word_record(first: Lent, second: Lent, slices: Slices) -> CommonRecord {
+pub fn common_word_record(first: Table, second: Table, slices: Slices) -> CommonRecord {
     searching(
-        (first.1, second.1),
+        (first.list, second.list),
         slices,
         |word, first_run, second_run| {
-            zagvirk::common::common_word_record(
-                first.0, first.1, second.0, second.1, word, first_run, second_run,
-            )
+            zagvirk::common::common_word_record(first, second, word, first_run, second_run)
         },
         |found| [found.letters, found.first_entries, found.second_entries],
     )
 }
 
 /// `zagvirk::common::common_word`.
-pub fn common_word(first: Lent, second: Lent, slices: Slices) -> Result<Option<Lengths>, Refusal> {
+pub fn common_word(
+    first: Table,
+    second: Table,
+    slices: Slices,
+) -> Result<Option<Lengths>, Refusal> {
     searching(
-        (first.1, second.1),
+        (first.list, second.list),
         slices,
         |word, first_run, second_run| {
-            zagvirk::common::common_word(
-                first.0, first.1, second.0, second.1, word, first_run, second_run,
-            )
+            zagvirk::common::common_word(first, second, word, first_run, second_run)
         },
         |found| match found {
             Ok(Some(found)) => [found.letters, found.first_entries, found.second_entries],
@@ -240,12 +249,12 @@ pub fn common_word(first: Lent, second: Lent, slices: Slices) -> Result<Option<L
 }
 
 /// `zagvirk::common::find`.
-pub fn find(first: Lent, second: Lent) -> Result<Option<CommonWord>, Refusal> {
-    let kept_first = Kept::new("first list", first.1);
-    let kept_second = Kept::new("second list", second.1);
-    let found = zagvirk::common::find(first.0, first.1, second.0, second.1);
-    kept_first.same("find", first.1);
-    kept_second.same("find", second.1);
+pub fn find(first: Table, second: Table) -> Result<Option<CommonWord>, Refusal> {
+    let kept_first = Kept::new("first list", first.list);
+    let kept_second = Kept::new("second list", second.list);
+    let found = zagvirk::common::find(first, second);
+    kept_first.same("find", first.list);
+    kept_second.same("find", second.list);
     found
 }
 
@@ -299,7 +308,7 @@ fn writing<R>(
 pub fn write_record(machine: &Machine, list: &[u16], sheet: &mut [u8]) -> WrittenRecord {
     writing(
         (list, sheet),
-        |sheet| zagvirk::sheet::write_record(machine, list, sheet),
+        |sheet| zagvirk::sheet::write_record(Table::new(machine, list), sheet),
         |found| found.bytes,
     )
 }
@@ -308,7 +317,7 @@ pub fn write_record(machine: &Machine, list: &[u16], sheet: &mut [u8]) -> Writte
 pub fn write(machine: &Machine, list: &[u16], sheet: &mut [u8]) -> Result<usize, Refusal> {
     writing(
         (list, sheet),
-        |sheet| zagvirk::sheet::write(machine, list, sheet),
+        |sheet| zagvirk::sheet::write(Table::new(machine, list), sheet),
         |found| found.unwrap_or(0),
     )
 }

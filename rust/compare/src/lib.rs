@@ -13,7 +13,7 @@ use kept::Kept;
 use reference::{Machine, Record, Refusal};
 use std::sync::atomic::{AtomicUsize, Ordering};
 use std::thread;
-use zagvirk::records;
+use zagvirk::{records, Table};
 
 /// A pseudo-random generator (splitmix64).
 pub struct Rng(u64);
@@ -140,6 +140,11 @@ impl<'a> Case<'a> {
         }
     }
 
+    /// The table, as the calls take it.
+    fn table(&self) -> Table<'_> {
+        Table::new(&self.proved, self.list)
+    }
+
     /// The refusal that the reference gives, or 0.
     pub fn refusal(&self) -> u8 {
         self.judged
@@ -159,7 +164,7 @@ impl<'a> Case<'a> {
             allowed: u8::from(next.is_some()),
             config: config_of(next.unwrap_or(config)),
         };
-        let found = records::step(&self.proved, self.list, self.word, config_of(config), entry);
+        let found = records::step(self.table(), self.word, config_of(config), entry);
         self.same("step");
         if found != expected {
             panic!(
@@ -182,7 +187,7 @@ impl<'a> Case<'a> {
             accepting: u8::from(accepting),
         };
         self.kept_run.again(run);
-        let found = records::check_run(&self.proved, self.list, self.word, run);
+        let found = records::check_run(self.table(), self.word, run);
         self.same_with_run("check_run", run);
         if found != expected {
             let shown = &run[..run.len().min(200)];
@@ -198,19 +203,17 @@ impl<'a> Case<'a> {
 
     /// Compares the wrappers with enums with the reference on one configuration of the three modes, and on one run.
     pub fn wrappers(&mut self, config: reference::Config, entry: u16, run: &[u16]) {
-        let typed = zagvirk::Config {
-            position: config.position,
-            state: config.state,
-            mode: match config.mode {
-                0 => zagvirk::Mode::Normal,
-                1 => zagvirk::Mode::Buffering,
-                2 => zagvirk::Mode::Emptying,
-                _ => panic!("one of the three modes"),
-            },
-            start: config.start,
-            end: config.end,
+        let mut typed = zagvirk::Config::initial(config.state);
+        typed.position = config.position;
+        typed.mode = match config.mode {
+            0 => zagvirk::Mode::Normal,
+            1 => zagvirk::Mode::Buffering,
+            2 => zagvirk::Mode::Emptying,
+            _ => panic!("one of the three modes"),
         };
-        let found = zagvirk::step(&self.proved, self.list, self.word, typed, entry);
+        typed.start = config.start;
+        typed.end = config.end;
+        let found = zagvirk::step(self.table(), self.word, typed, entry);
         self.same("step");
         let found = found.map(|next| next.map(records::Config::from));
         let judged = self.judged.as_ref();
@@ -222,7 +225,7 @@ impl<'a> Case<'a> {
             expected.map_err(|refusal| refusal.number)
         );
         self.kept_run.again(run);
-        let found = zagvirk::check_run(&self.proved, self.list, self.word, run);
+        let found = zagvirk::check_run(self.table(), self.word, run);
         self.same_with_run("check_run", run);
         let judged = self.judged.as_ref();
         let expected = judged.map(|machine| reference::moves::accepting(machine, self.word, run));

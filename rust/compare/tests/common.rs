@@ -1,7 +1,7 @@
 //! The common-word search: the record and the whole of the three slices of each call are compared with the reference.
 //! Both runs go through the proved checker and through the reference's own.
 
-use compare::calls::{check_run, common_word, common_word_record, find, Lent, Slices};
+use compare::calls::{check_run, common_word, common_word_record, find, Slices};
 use compare::copy_chains::{begins_with, chain, cycles, every_word, short_copies};
 use compare::dense::{dense, dense_plain, doubled, Kind};
 use compare::many_copies::zones;
@@ -13,7 +13,8 @@ use reference::common::{least_letters, shortest, shortest_by, Room};
 use reference::families::{length_modulo, small_machines};
 use reference::{folder, moves, product, Machine, Record, Refusal};
 use reference::{BEGIN_BUFFERING, BEGIN_EMPTYING};
-use zagvirk::common::{needed, CommonRecord, Lengths, Needed, MOST_LETTERS};
+use zagvirk::common::{needed, CommonRecord, MOST_LETTERS};
+use zagvirk::Table;
 
 /// The stack of a thread in which the search is made.
 const STACK: usize = 512 * 1024;
@@ -172,8 +173,11 @@ impl<'a> Ready<'a> {
         }
     }
 
-    fn lent(&self) -> (Lent<'_>, Lent<'_>) {
-        ((&self.one.0, &self.one.1), (&self.two.0, &self.two.1))
+    fn lent(&self) -> (Table<'_>, Table<'_>) {
+        (
+            Table::new(&self.one.0, &self.one.1),
+            Table::new(&self.two.0, &self.two.1),
+        )
     }
 
     fn input(&self) -> String {
@@ -192,8 +196,8 @@ impl<'a> Ready<'a> {
         }
     }
 
-    /// Compares one call with slices of these lengths. Returns the numbers of elements written.
-    fn call(&self, room: Room, counts: &mut Counts) -> Option<Lengths> {
+    /// Compares one call with slices of these lengths. Returns whether a word was written.
+    fn call(&self, room: Room, counts: &mut Counts) -> bool {
         let mut lending = Lending::new(room);
         let (one, two) = self.lent();
         let found = common_word_record(one, two, lending.slices());
@@ -209,7 +213,7 @@ impl<'a> Ready<'a> {
             // That the slices are as they were is compared at the call.
             let expected = without_word(refusal);
             assert!(found == expected, "{}", differs(&expected));
-            return None;
+            return false;
         };
         let expected = CommonRecord {
             refusal: 0,
@@ -252,11 +256,7 @@ impl<'a> Ready<'a> {
         counts.most_entries = counts.most_entries.max(found.first_entries);
         let part = 100 * found.first_entries / self.needed().first_run;
         counts.fullest = counts.fullest.max(part);
-        Some(Lengths {
-            letters,
-            first_entries: found.first_entries,
-            second_entries: found.second_entries,
-        })
+        true
     }
 
     /// Compares calls with slices that are empty, that have what they need or a little more, and that have too little:
@@ -310,7 +310,7 @@ impl<'a> Ready<'a> {
                         second_run,
                     };
                     let enough = self.least.is_some() && room.holds(needed).is_ok();
-                    assert_eq!(self.call(room, counts).is_some(), enough);
+                    assert_eq!(self.call(room, counts), enough);
                 }
             }
         }
@@ -319,7 +319,7 @@ impl<'a> Ready<'a> {
     /// Compares the call with refusals as an enum, and the one with vectors of its own.
     fn wrappers(&self) {
         let (one, two) = self.lent();
-        let least = zagvirk::common::letters(one.0, one.1, two.0, two.1);
+        let least = zagvirk::common::letters(one, two);
         assert_eq!(least, Ok(self.least), "{}", self.input());
         let found = find(one, two).expect("no refusal");
         assert_eq!(found.is_some(), self.least.is_some(), "{}", self.input());
@@ -329,23 +329,14 @@ impl<'a> Ready<'a> {
         let Some(found) = found else {
             return assert_eq!(lengths, None);
         };
-        let Needed {
-            word,
-            first_run,
-            second_run,
-        } = needed(one.0, found.word.len());
+        let needed = needed(one.machine, found.word.len());
         let lent = Room {
-            word,
-            first_run,
-            second_run,
+            word: needed.word,
+            first_run: needed.first_run,
+            second_run: needed.second_run,
         };
         assert_eq!(room, lent);
-        let written = Lengths {
-            letters: found.word.len(),
-            first_entries: found.first_run.len(),
-            second_entries: found.second_run.len(),
-        };
-        assert_eq!(lengths, Some(written));
+        let written = lengths.expect("a common word");
         assert!(found.word == lending.word[..written.letters]);
         assert!(found.first_run == lending.first_run[..written.first_entries]);
         assert!(found.second_run == lending.second_run[..written.second_entries]);
@@ -598,17 +589,17 @@ fn examples_of_document_01() {
             first_run: length,
             second_run: length,
         };
-        assert_eq!(ready.call(room, &mut counts), None);
+        assert!(!ready.call(room, &mut counts));
     }
     let ready = Ready::new(&table_t, &some_two, Some(2));
     let mut lending = Lending::new(ready.needed());
     let (one, two) = ready.lent();
-    let lengths = Lengths {
-        letters: 2,
-        first_entries: 8,
-        second_entries: 3,
-    };
-    assert_eq!(common_word(one, two, lending.slices()), Ok(Some(lengths)));
+    let found = common_word(one, two, lending.slices()).expect("no refusal");
+    let found = found.expect("a common word");
+    assert_eq!(
+        (found.letters, found.first_entries, found.second_entries),
+        (2, 8, 3)
+    );
     assert_eq!(lending.word, [2, 2]);
     let run = [0, 65_533, 0, 3, 1, 65_534, 5, 65_535];
     assert_eq!(lending.first_run[..8], run);
@@ -628,17 +619,17 @@ fn examples_of_document_01() {
         (needed.word, needed.first_run, needed.second_run),
         (0, 9, 1)
     );
-    assert!(ready.call(needed, &mut counts).is_some());
+    assert!(ready.call(needed, &mut counts));
     // Marks 1, 8, 0, 10 accept 1 2 2 with no copying; marks 1, 8, 10 no word.
     let first = folder::load("marks-1-8-0-10").machine;
     let second = every_word(first.letters);
     let ready = Ready::new(&first, &second, Some(3));
-    assert!(ready.call(ready.needed(), &mut counts).is_some());
+    assert!(ready.call(ready.needed(), &mut counts));
     assert_eq!(counts.with_copies, 1);
     let first = folder::load("marks-1-8-10").machine;
     let second = every_word(first.letters);
     let ready = Ready::new(&first, &second, None);
-    assert_eq!(ready.call(ready.needed(), &mut counts), None);
+    assert!(!ready.call(ready.needed(), &mut counts));
 }
 
 /// Every machine of data/machines with plain ones.
@@ -939,7 +930,7 @@ fn judged(first: &Input, second: &Input, room: Room) -> usize {
         }
     };
     let (one, two) = (record_of(&first.0), record_of(&second.0));
-    let lent = ((&one, &first.1[..]), (&two, &second.1[..]));
+    let lent = (Table::new(&one, &first.1), Table::new(&two, &second.1));
     let mut lending = Lending::new(room);
     let found = common_word_record(lent.0, lent.1, lending.slices());
     let message = || {
@@ -1103,8 +1094,8 @@ fn order_of_refusals() {
             let (proved_one, proved_two) = (record_of(&one.0), record_of(&two.0));
             let mut lending = Lending::new(room);
             let found = common_word_record(
-                (&proved_one, &one.1),
-                (&proved_two, &two.1),
+                Table::new(&proved_one, &one.1),
+                Table::new(&proved_two, &two.1),
                 lending.slices(),
             );
             let number = match found {

@@ -5,6 +5,11 @@ use compare::{break_a_rule, filled, random_machine, random_word, record_of, tall
 use reference::{folder, moves, published, Config, Machine, Record, BEGIN_EMPTYING};
 use zagvirk::copies::{Copies, CopiesRecord};
 
+/// The number of copies and of letters stored.
+fn counted(copies: Copies) -> (usize, usize) {
+    (copies.count, copies.total)
+}
+
 /// Compares the copy list in a slice of the length. Returns the refusal or 0, and the length needed.
 fn lists(record: &Record, list: &[u16], word: &[u8], run: &[u16], length: usize) -> (u8, usize) {
     let mut expected_copies = filled(length);
@@ -108,11 +113,7 @@ fn random_runs() {
         let mut kept = vec![0; 2 * copies];
         let listed = list_copies(&record_of(&record), &list, &word, &run, &mut kept);
         let total = kept.chunks(2).map(|copy| usize::from(copy[1])).sum();
-        let expected = Copies {
-            count: copies,
-            total,
-        };
-        assert_eq!(listed, Ok(expected));
+        assert_eq!(listed.map(counted), Ok((copies, total)));
         with_letters += u64::from(total > 0);
         // Plain letters of the run and twice the total make the word.
         let (rows, _) = moves::follow(&machine, &word, &run);
@@ -209,7 +210,7 @@ fn several_copies() {
         let listed = list_copies(&record_of(&record), &list, &word, &run, &mut copies);
         let total = halves.iter().sum();
         let count = halves.len();
-        assert_eq!(listed, Ok(Copies { count, total }));
+        assert_eq!(listed.map(counted), Ok((count, total)));
         let mut expected = Vec::new();
         let mut begins = 0;
         for &half in halves {

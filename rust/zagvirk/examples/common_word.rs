@@ -2,17 +2,19 @@
 //! machines, and checks both runs with the proved `check_run`.
 
 use zagvirk::common::{find, needed};
-use zagvirk::{check_run, Machine};
+use zagvirk::{check_run, Machine, Table};
 
 fn main() {
     let doubled = Machine::new(2, 6, &[5, 0, 10]);
     let doubled_list = [0, 0, 1, 1, 0, 2, 1, 1, 1, 1, 2, 1, 2, 1, 2, 2, 2, 2];
+    let table_t = Table::new(&doubled, &doubled_list);
     let plain = Machine::new(2, 4, &[1, 2]);
     let some_two = [0, 1, 0, 0, 2, 1, 1, 1, 1, 1, 2, 1];
     let odd_ones = [0, 1, 1, 0, 2, 0, 1, 1, 0, 1, 2, 1];
     for (name, list) in [("some 2", some_two), ("odd number of 1", odd_ones)] {
         print!("table T with \"{name}\": ");
-        let common = match find(&doubled, &doubled_list, &plain, &list) {
+        let table = Table::new(&plain, &list);
+        let common = match find(table_t, table) {
             Ok(Some(common)) => common,
             Ok(None) => {
                 println!("no common word");
@@ -26,8 +28,8 @@ fn main() {
         println!("shortest common word {}", numbers(&common.word));
         println!("  run of table T: {}", numbers(&common.first_run));
         println!("  run of \"{name}\": {}", numbers(&common.second_run));
-        let first = check_run(&doubled, &doubled_list, &common.word, &common.first_run);
-        let second = check_run(&plain, &list, &common.word, &common.second_run);
+        let first = check_run(table_t, &common.word, &common.first_run);
+        let second = check_run(table, &common.word, &common.second_run);
         if first == Ok(true) && second == Ok(true) {
             println!("  both runs accept the word");
         }

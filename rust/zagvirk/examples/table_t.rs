@@ -2,12 +2,13 @@
 //! whole with the proved `check_run`.
 
 use zagvirk::{
-    check_run, step, Config, Machine, Mode, BACK_TO_NORMAL, BEGIN_BUFFERING, BEGIN_EMPTYING,
+    check_run, step, Config, Machine, Mode, Table, BACK_TO_NORMAL, BEGIN_BUFFERING, BEGIN_EMPTYING,
 };
 
 fn main() {
     let machine = Machine::new(2, 6, &[5, 0, 10]);
     let list = [0, 0, 1, 1, 0, 2, 1, 1, 1, 1, 2, 1, 2, 1, 2, 2, 2, 2];
+    let table = Table::new(&machine, &list);
     let word = [1, 2, 1, 2];
     let run = [
         0,
@@ -30,14 +31,14 @@ fn main() {
     let mut config = Config::initial(run[0] as usize);
     show("start", &config, &word);
     for &entry in &run[1..] {
-        match step(&machine, &list, &word, config, entry) {
+        match step(table, &word, config, entry) {
             Ok(Some(next)) => config = next,
             Ok(None) => return println!("entry {entry} is not allowed"),
             Err(refusal) => return println!("refused: {}", refusal.number()),
         }
         show(&entry.to_string(), &config, &word);
     }
-    match check_run(&machine, &list, &word, &run) {
+    match check_run(table, &word, &run) {
         Ok(true) => println!("the run accepts the word"),
         Ok(false) => println!("the run does not accept the word"),
         Err(refusal) => println!("refused: {}", refusal.number()),

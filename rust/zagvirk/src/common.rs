@@ -5,7 +5,7 @@
 //! - [`letters`]: the number of letters of a shortest common word, without the word.
 //! - [`find`]: the word and the runs in vectors of their own.
 
-use crate::{recognize, Machine, Refusal};
+use crate::{recognize, Machine, Refusal, Table};
 
 /// A shortest common word has at most so many letters.
 pub const MOST_LETTERS: usize = 515_970;
@@ -26,6 +26,7 @@ pub struct CommonRecord {
 
 /// How many elements of each slice were written.
 #[derive(Clone, Copy, PartialEq, Eq, Debug)]
+#[non_exhaustive]
 pub struct Lengths {
     /// The number of letters of the word.
     pub letters: usize,
@@ -54,24 +55,22 @@ extern "C" {
 
 /// Searches for a shortest common word, as [`common_word`].
 pub fn common_word_record(
-    first: &Machine,
-    first_list: &[u16],
-    second: &Machine,
-    second_list: &[u16],
+    first: Table,
+    second: Table,
     word: &mut [u8],
     first_run: &mut [u16],
     second_run: &mut [u16],
 ) -> CommonRecord {
-    // A slice's pointer is not null and is good for its length, also where that is 0. The call writes to `word`,
-    // `first_run` and `second_run` only, which do not overlap.
+    // SAFETY: a slice's pointer is not null and is good for its length, also where that is 0. The call writes to `word`,
+    // `first_run` and `second_run` only, which overlap neither with one another nor with the lists.
     unsafe {
         zagvirk_common_word(
-            *first,
-            first_list.as_ptr(),
-            first_list.len(),
-            *second,
-            second_list.as_ptr(),
-            second_list.len(),
+            *first.machine,
+            first.list.as_ptr(),
+            first.list.len(),
+            *second.machine,
+            second.list.as_ptr(),
+            second.list.len(),
             word.as_mut_ptr(),
             word.len(),
             first_run.as_mut_ptr(),
@@ -84,6 +83,7 @@ pub fn common_word_record(
 
 /// The lengths that the slices of [`common_word`] need, each in its own elements.
 #[derive(Clone, Copy, PartialEq, Eq, Debug)]
+#[non_exhaustive]
 pub struct Needed {
     pub word: usize,
     pub first_run: usize,
@@ -113,45 +113,36 @@ pub fn needed(first: &Machine, letters: usize) -> Needed {
 ///
 /// ```
 /// // Doubled words over letters 1 and 2, and the words that have a 2.
-/// use zagvirk::common::{common_word, needed, Lengths, Needed};
-/// use zagvirk::{Machine, Refusal};
+/// use zagvirk::common::{common_word, needed};
+/// use zagvirk::{Machine, Refusal, Table};
 /// let doubled = Machine::new(2, 6, &[5, 0, 10]);
 /// let doubled_list = [0, 0, 1, 1, 0, 2, 1, 1, 1, 1, 2, 1, 2, 1, 2, 2, 2, 2];
 /// let some_two = Machine::new(2, 4, &[1, 2]);
 /// let some_two_list = [0, 1, 0, 0, 2, 1, 1, 1, 1, 1, 2, 1];
-/// assert_eq!(needed(&doubled, 2), Needed { word: 2, first_run: 27, second_run: 3 });
+/// let lengths = needed(&doubled, 2);
+/// assert_eq!((lengths.word, lengths.first_run, lengths.second_run), (2, 27, 3));
 ///
 /// let (mut word, mut first_run, mut second_run) = ([0; 2], [0; 27], [0; 3]);
 /// let mut search = |word: &mut [u8]| {
-///     common_word(
-///         &doubled, &doubled_list, &some_two, &some_two_list, word, &mut first_run, &mut second_run,
-///     )
+///     let first = Table::new(&doubled, &doubled_list);
+///     let second = Table::new(&some_two, &some_two_list);
+///     common_word(first, second, word, &mut first_run, &mut second_run)
 /// };
 /// assert_eq!(search(&mut word[..1]), Err(Refusal::WordTooShort { needed: 2 }));
-/// let lengths = Lengths { letters: 2, first_entries: 8, second_entries: 3 };
-/// assert_eq!(search(&mut word), Ok(Some(lengths)));
+/// let found = search(&mut word).unwrap().expect("a common word");
+/// assert_eq!((found.letters, found.first_entries, found.second_entries), (2, 8, 3));
 /// assert_eq!(word, [2, 2]);
 /// assert_eq!(first_run[..8], [0, 65_533, 0, 3, 1, 65_534, 5, 65_535]);
 /// assert_eq!(second_run, [0, 1, 3]);
 /// ```
 pub fn common_word(
-    first: &Machine,
-    first_list: &[u16],
-    second: &Machine,
-    second_list: &[u16],
+    first: Table,
+    second: Table,
     word: &mut [u8],
     first_run: &mut [u16],
     second_run: &mut [u16],
 ) -> Result<Option<Lengths>, Refusal> {
-    let common = common_word_record(
-        first,
-        first_list,
-        second,
-        second_list,
-        word,
-        first_run,
-        second_run,
-    );
+    let common = common_word_record(first, second, word, first_run, second_run);
     Refusal::check(common.refusal, common.needed)?;
     Ok((common.found == 1).then_some(Lengths {
         letters: common.letters,
@@ -165,29 +156,16 @@ pub fn common_word(
 ///
 /// ```
 /// // Doubled words over letters 1 and 2, and the words with an odd number of 1.
-/// use zagvirk::{common, Machine};
+/// use zagvirk::{common, Machine, Table};
 /// let doubled = Machine::new(2, 6, &[5, 0, 10]);
 /// let doubled_list = [0, 0, 1, 1, 0, 2, 1, 1, 1, 1, 2, 1, 2, 1, 2, 2, 2, 2];
 /// let odd = Machine::new(2, 4, &[1, 2]);
 /// let odd_list = [0, 1, 1, 0, 2, 0, 1, 1, 0, 1, 2, 1];
-/// assert_eq!(common::letters(&doubled, &doubled_list, &odd, &odd_list), Ok(None));
+/// let doubled = Table::new(&doubled, &doubled_list);
+/// assert_eq!(common::letters(doubled, Table::new(&odd, &odd_list)), Ok(None));
 /// ```
-pub fn letters(
-    first: &Machine,
-    first_list: &[u16],
-    second: &Machine,
-    second_list: &[u16],
-) -> Result<Option<usize>, Refusal> {
-    let searched = common_word(
-        first,
-        first_list,
-        second,
-        second_list,
-        &mut [],
-        &mut [],
-        &mut [],
-    );
-    match searched {
+pub fn letters(first: Table, second: Table) -> Result<Option<usize>, Refusal> {
+    match common_word(first, second, &mut [], &mut [], &mut []) {
         // A run has at least one entry, so with empty slices a word is never written.
         Ok(_) => Ok(None),
         Err(Refusal::WordTooShort { needed }) => Ok(Some(needed)),
@@ -198,6 +176,7 @@ pub fn letters(
 
 /// A word that both machines accept, with a run of each.
 #[derive(Clone, PartialEq, Eq, Debug)]
+#[non_exhaustive]
 pub struct CommonWord {
     pub word: Vec<u8>,
     pub first_run: Vec<u16>,
@@ -210,39 +189,27 @@ pub struct CommonWord {
 ///
 /// ```
 /// // Doubled words over letters 1 and 2, and the words that have a 2.
-/// use zagvirk::{check_run, common, Machine};
+/// use zagvirk::{check_run, common, Machine, Table};
 /// let doubled = Machine::new(2, 6, &[5, 0, 10]);
 /// let doubled_list = [0, 0, 1, 1, 0, 2, 1, 1, 1, 1, 2, 1, 2, 1, 2, 2, 2, 2];
 /// let some_two = Machine::new(2, 4, &[1, 2]);
 /// let some_two_list = [0, 1, 0, 0, 2, 1, 1, 1, 1, 1, 2, 1];
-/// let found = common::find(&doubled, &doubled_list, &some_two, &some_two_list);
-/// let found = found.unwrap().expect("a common word");
+/// let doubled = Table::new(&doubled, &doubled_list);
+/// let some_two = Table::new(&some_two, &some_two_list);
+/// let found = common::find(doubled, some_two).unwrap().expect("a common word");
 /// assert_eq!(found.word, [2, 2]);
-/// assert_eq!(check_run(&doubled, &doubled_list, &found.word, &found.first_run), Ok(true));
-/// assert_eq!(check_run(&some_two, &some_two_list, &found.word, &found.second_run), Ok(true));
+/// assert_eq!(check_run(doubled, &found.word, &found.first_run), Ok(true));
+/// assert_eq!(check_run(some_two, &found.word, &found.second_run), Ok(true));
 /// ```
-pub fn find(
-    first: &Machine,
-    first_list: &[u16],
-    second: &Machine,
-    second_list: &[u16],
-) -> Result<Option<CommonWord>, Refusal> {
-    let Some(letters) = letters(first, first_list, second, second_list)? else {
+pub fn find(first: Table, second: Table) -> Result<Option<CommonWord>, Refusal> {
+    let Some(letters) = letters(first, second)? else {
         return Ok(None);
     };
-    let needed = needed(first, letters);
+    let needed = needed(first.machine, letters);
     let mut word = vec![0; needed.word];
     let mut first_run = vec![0; needed.first_run];
     let mut second_run = vec![0; needed.second_run];
-    let lengths = common_word(
-        first,
-        first_list,
-        second,
-        second_list,
-        &mut word,
-        &mut first_run,
-        &mut second_run,
-    )?;
+    let lengths = common_word(first, second, &mut word, &mut first_run, &mut second_run)?;
     Ok(lengths.map(|lengths| {
         word.truncate(lengths.letters);
         first_run.truncate(lengths.first_entries);

@@ -1,6 +1,6 @@
 //! The copy list of an accepting run.
 
-use crate::{Machine, Refusal};
+use crate::{Machine, Refusal, Table};
 
 /// The result of [`list_copies_record`]: `refusal` is 0 or the number of the refusal; `needed` is 0 but for refusal 20;
 /// `copies` and `total` are 0 after a refusal.
@@ -15,6 +15,7 @@ pub struct CopiesRecord {
 
 /// What the copy list comes with.
 #[derive(Clone, Copy, PartialEq, Eq, Debug)]
+#[non_exhaustive]
 pub struct Copies {
     /// The number of copies; the list has two elements for each.
     pub count: usize,
@@ -38,18 +39,18 @@ extern "C" {
 
 /// Lists the copies of a run, as [`list_copies`].
 pub fn list_copies_record(
-    machine: &Machine,
-    list: &[u16],
+    table: Table,
     word: &[u8],
     run: &[u16],
     copies: &mut [u16],
 ) -> CopiesRecord {
-    // A slice's pointer is not null and is good for its length, also where that is 0. The call writes to `copies` only.
+    // SAFETY: a slice's pointer is not null and is good for its length, also where that is 0. The call writes to `copies`
+    // only, which overlaps with no other slice.
     unsafe {
         zagvirk_list_copies(
-            *machine,
-            list.as_ptr(),
-            list.len(),
+            *table.machine,
+            table.list.as_ptr(),
+            table.list.len(),
             word.as_ptr(),
             word.len(),
             run.as_ptr(),
@@ -70,23 +71,23 @@ pub fn list_copies_record(
 /// Time: in proportion to the machine, the word and the run. Memory: constant.
 ///
 /// ```
-/// use zagvirk::copies::{list_copies, Copies};
-/// let machine = zagvirk::Machine::new(2, 6, &[5, 0, 10]);
+/// use zagvirk::{copies::list_copies, Machine, Table};
+/// let machine = Machine::new(2, 6, &[5, 0, 10]);
 /// let list = [0, 0, 1, 1, 0, 2, 1, 1, 1, 1, 2, 1, 2, 1, 2, 2, 2, 2];
 /// let run = [0, 65_533, 0, 2, 3, 1, 65_534, 4, 5, 65_535];
 /// let mut copies = [7; 3];
-/// let listed = list_copies(&machine, &list, &[1, 2, 1, 2], &run, &mut copies);
-/// assert_eq!(listed, Ok(Copies { count: 1, total: 2 }));
+/// let doubled = Table::new(&machine, &list);
+/// let listed = list_copies(doubled, &[1, 2, 1, 2], &run, &mut copies).unwrap();
+/// assert_eq!((listed.count, listed.total), (1, 2));
 /// assert_eq!(copies, [0, 2, 7]);
 /// ```
 pub fn list_copies(
-    machine: &Machine,
-    list: &[u16],
+    table: Table,
     word: &[u8],
     run: &[u16],
     copies: &mut [u16],
 ) -> Result<Copies, Refusal> {
-    let listed = list_copies_record(machine, list, word, run, copies);
+    let listed = list_copies_record(table, word, run, copies);
     Refusal::check(listed.refusal, listed.needed)?;
     Ok(Copies {
         count: listed.copies,

@@ -2,6 +2,7 @@
 //! accept words in which a part is repeated.
 //!
 //! - [`Machine`]: a machine's record. Its transitions stand in a list of 16-bit numbers beside it.
+//! - [`Table`]: a record and its list, as the calls take them.
 //! - [`Config`], [`Mode`]: a configuration of a run.
 //! - [`step`]: one move of a run.
 //! - [`check_run`]: whether a run accepts a word.
@@ -17,14 +18,15 @@
 //! # Example
 //!
 //! ```
-//! use zagvirk::{check_run, Machine, BACK_TO_NORMAL, BEGIN_BUFFERING, BEGIN_EMPTYING};
+//! use zagvirk::{check_run, Machine, Table, BACK_TO_NORMAL, BEGIN_BUFFERING, BEGIN_EMPTYING};
 //!
 //! // Doubled words over letters 1 and 2.
 //! let machine = Machine::new(2, 6, &[5, 0, 10]);
 //! let list = [0, 0, 1, 1, 0, 2, 1, 1, 1, 1, 2, 1, 2, 1, 2, 2, 2, 2];
+//! let doubled = Table::new(&machine, &list);
 //! let run = [0, BEGIN_BUFFERING, 0, 2, 3, 1, BEGIN_EMPTYING, 4, 5, BACK_TO_NORMAL];
-//! assert_eq!(check_run(&machine, &list, &[1, 2, 1, 2], &run), Ok(true));
-//! assert_eq!(check_run(&machine, &list, &[1, 2, 2, 1], &run), Ok(false));
+//! assert_eq!(check_run(doubled, &[1, 2, 1, 2], &run), Ok(true));
+//! assert_eq!(check_run(doubled, &[1, 2, 2, 1], &run), Ok(false));
 //! ```
 //!
 //! # Trade-offs
@@ -32,6 +34,11 @@
 //! Each call checks its machine and its word again before it moves, so a loop over [`step`] costs a pass over both for
 //! each entry; [`check_run`] does so once for a whole run. No call allocates but [`common::find`]. A call that writes
 //! does so only to the slices it takes as `&mut`: on success at their fronts, on a refusal nowhere.
+//!
+//! The stack that a thread needs for a call stands in `include/zagvirk.h`, measured: 480 KB at most, for [`recognize`].
+//!
+//! [`Refusal`], [`Config`] and what the calls hand back may get more cases and fields with later versions, so they are
+//! `#[non_exhaustive]`: a match on a refusal has a last arm for the others.
 
 pub mod common;
 pub mod copies;
@@ -42,7 +49,7 @@ mod refusal;
 pub mod sheet;
 pub mod spelling;
 
-pub use records::Machine;
+pub use records::{Machine, Table};
 pub use refusal::Refusal;
 
 /// Mark of an initial state.
@@ -76,8 +83,10 @@ pub enum Mode {
     Emptying = 2,
 }
 
-/// A configuration: the position in the word, the state, the mode, and the buffer `word[start..end]`.
+/// A configuration: the position in the word, the state, the mode, and the buffer `word[start..end]`. It is made by
+/// [`Config::initial`] and by [`step`]; its fields can be set.
 #[derive(Clone, Copy, PartialEq, Eq, Hash, Debug)]
+#[non_exhaustive]
 pub struct Config {
     pub position: usize,
     pub state: usize,
@@ -109,13 +118,12 @@ impl Config {
 ///
 /// Time: one pass over the machine and the word. Memory: constant.
 pub fn step(
-    machine: &Machine,
-    list: &[u16],
+    table: Table,
     word: &[u8],
     config: Config,
     entry: u16,
 ) -> Result<Option<Config>, Refusal> {
-    let stepped = records::step(machine, list, word, config.into(), entry);
+    let stepped = records::step(table, word, config.into(), entry);
     Refusal::check(stepped.refusal, 0)?;
     Ok((stepped.allowed == 1).then_some(Config {
         position: stepped.config.position,
@@ -138,13 +146,8 @@ pub fn step(
 /// accept.
 ///
 /// Time: one pass over the machine, the word and the run. Memory: constant.
-pub fn check_run(
-    machine: &Machine,
-    list: &[u16],
-    word: &[u8],
-    run: &[u16],
-) -> Result<bool, Refusal> {
-    let checked = records::check_run(machine, list, word, run);
+pub fn check_run(table: Table, word: &[u8], run: &[u16]) -> Result<bool, Refusal> {
+    let checked = records::check_run(table, word, run);
     Refusal::check(checked.refusal, 0)?;
     Ok(checked.accepting == 1)
 }

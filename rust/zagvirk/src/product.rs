@@ -1,6 +1,6 @@
 //! The product of a machine with a plain machine (document 01: the joined table).
 
-use crate::{Machine, Refusal};
+use crate::{Machine, Refusal, Table};
 
 /// The result of [`join_record`]: `refusal` is 0 or the number of the refusal; `needed` is 0 but for refusal 15;
 /// `machine` is all zero after a refusal.
@@ -26,22 +26,17 @@ extern "C" {
 }
 
 /// Joins two machines, as [`join`].
-pub fn join_record(
-    first: &Machine,
-    first_list: &[u16],
-    second: &Machine,
-    second_list: &[u16],
-    list: &mut [u16],
-) -> JoinedRecord {
-    // A slice's pointer is not null and is good for its length, also where that is 0. The call writes to `list` only.
+pub fn join_record(first: Table, second: Table, list: &mut [u16]) -> JoinedRecord {
+    // SAFETY: a slice's pointer is not null and is good for its length, also where that is 0. The call writes to `list`
+    // only, which overlaps with neither table's.
     unsafe {
         zagvirk_join(
-            *first,
-            first_list.as_ptr(),
-            first_list.len(),
-            *second,
-            second_list.as_ptr(),
-            second_list.len(),
+            *first.machine,
+            first.list.as_ptr(),
+            first.list.len(),
+            *second.machine,
+            second.list.as_ptr(),
+            second.list.len(),
             list.as_mut_ptr(),
             list.len(),
         )
@@ -62,23 +57,18 @@ pub fn join_record(
 ///
 /// ```
 /// // Doubled words over letters 1 and 2, joined with the words that have a 2.
-/// use zagvirk::{product, Machine};
+/// use zagvirk::{product, Machine, Table};
 /// let doubled = Machine::new(2, 6, &[5, 0, 10]);
 /// let doubled_list = [0, 0, 1, 1, 0, 2, 1, 1, 1, 1, 2, 1, 2, 1, 2, 2, 2, 2];
 /// let some_two = Machine::new(2, 4, &[1, 2]);
 /// let some_two_list = [0, 1, 0, 0, 2, 1, 1, 1, 1, 1, 2, 1];
 /// let mut list = [0; 36];
-/// let both = product::join(&doubled, &doubled_list, &some_two, &some_two_list, &mut list);
+/// let doubled = Table::new(&doubled, &doubled_list);
+/// let both = product::join(doubled, Table::new(&some_two, &some_two_list), &mut list);
 /// assert_eq!(both, Ok(Machine::new(2, 12, &[5, 4, 0, 0, 8, 10])));
 /// ```
-pub fn join(
-    first: &Machine,
-    first_list: &[u16],
-    second: &Machine,
-    second_list: &[u16],
-    list: &mut [u16],
-) -> Result<Machine, Refusal> {
-    let joined = join_record(first, first_list, second, second_list, list);
+pub fn join(first: Table, second: Table, list: &mut [u16]) -> Result<Machine, Refusal> {
+    let joined = join_record(first, second, list);
     Refusal::check(joined.refusal, joined.needed)?;
     Ok(joined.machine)
 }

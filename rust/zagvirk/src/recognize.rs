@@ -1,6 +1,6 @@
 //! Recognition: whether a machine accepts a word, with an accepting run.
 
-use crate::{Machine, Refusal};
+use crate::{Machine, Refusal, Table};
 
 /// The most letters of a word to recognize.
 pub const LONGEST_RECOGNIZED: usize = 255;
@@ -29,18 +29,14 @@ extern "C" {
 }
 
 /// Recognizes a word, as [`recognize`].
-pub fn recognize_record(
-    machine: &Machine,
-    list: &[u16],
-    word: &[u8],
-    run: &mut [u16],
-) -> RecognizedRecord {
-    // A slice's pointer is not null and is good for its length, also where that is 0. The call writes to `run` only.
+pub fn recognize_record(table: Table, word: &[u8], run: &mut [u16]) -> RecognizedRecord {
+    // SAFETY: a slice's pointer is not null and is good for its length, also where that is 0. The call writes to `run`
+    // only, which overlaps with no other slice.
     unsafe {
         zagvirk_recognize(
-            *machine,
-            list.as_ptr(),
-            list.len(),
+            *table.machine,
+            table.list.as_ptr(),
+            table.list.len(),
             word.as_ptr(),
             word.len(),
             run.as_mut_ptr(),
@@ -64,20 +60,17 @@ pub fn run_length(machine: &Machine, letters: usize) -> usize {
 ///
 /// ```
 /// use zagvirk::recognize::{recognize, run_length};
-/// let machine = zagvirk::Machine::new(2, 6, &[5, 0, 10]);
+/// use zagvirk::{check_run, Machine, Table};
+/// let machine = Machine::new(2, 6, &[5, 0, 10]);
 /// let list = [0, 0, 1, 1, 0, 2, 1, 1, 1, 1, 2, 1, 2, 1, 2, 2, 2, 2];
 /// let mut run = vec![0; run_length(&machine, 4)];
-/// let entries = recognize(&machine, &list, &[1, 2, 1, 2], &mut run).unwrap().unwrap();
-/// assert_eq!(zagvirk::check_run(&machine, &list, &[1, 2, 1, 2], &run[..entries]), Ok(true));
-/// assert_eq!(recognize(&machine, &list, &[1, 2, 2, 1], &mut run), Ok(None));
+/// let doubled = Table::new(&machine, &list);
+/// let entries = recognize(doubled, &[1, 2, 1, 2], &mut run).unwrap().unwrap();
+/// assert_eq!(check_run(doubled, &[1, 2, 1, 2], &run[..entries]), Ok(true));
+/// assert_eq!(recognize(doubled, &[1, 2, 2, 1], &mut run), Ok(None));
 /// ```
-pub fn recognize(
-    machine: &Machine,
-    list: &[u16],
-    word: &[u8],
-    run: &mut [u16],
-) -> Result<Option<usize>, Refusal> {
-    let recognized = recognize_record(machine, list, word, run);
+pub fn recognize(table: Table, word: &[u8], run: &mut [u16]) -> Result<Option<usize>, Refusal> {
+    let recognized = recognize_record(table, word, run);
     Refusal::check(recognized.refusal, recognized.needed)?;
     Ok((recognized.accepted == 1).then_some(recognized.entries))
 }

@@ -34,6 +34,28 @@ impl Machine {
     }
 }
 
+/// A machine's record and the list of its transitions, as the calls take them.
+///
+/// ```
+/// use zagvirk::{Machine, Table};
+/// let machine = Machine::new(1, 1, &[1, 2]);
+/// let list = [0, 1, 1];
+/// let table = Table::new(&machine, &list);
+/// assert_eq!(zagvirk::check_run(table, &[1], &[0, 0]), Ok(true));
+/// ```
+#[derive(Clone, Copy, PartialEq, Eq, Debug)]
+pub struct Table<'a> {
+    pub machine: &'a Machine,
+    pub list: &'a [u16],
+}
+
+impl<'a> Table<'a> {
+    /// The record and its list. Nothing is tested here: each call tests the table that it is given.
+    pub fn new(machine: &'a Machine, list: &'a [u16]) -> Table<'a> {
+        Table { machine, list }
+    }
+}
+
 /// A configuration; mode 0 is normal, 1 buffering, 2 emptying. From any other mode no move is allowed.
 #[derive(Clone, Copy, PartialEq, Eq, Hash, Debug)]
 #[repr(C)]
@@ -98,13 +120,13 @@ extern "C" {
 }
 
 /// One move, as [`crate::step`].
-pub fn step(machine: &Machine, list: &[u16], word: &[u8], config: Config, entry: u16) -> Stepped {
-    // A slice's pointer is not null and is good for its length, also where that is 0. The call only reads.
+pub fn step(table: Table, word: &[u8], config: Config, entry: u16) -> Stepped {
+    // SAFETY: a slice's pointer is not null and is good for its length, also where that is 0. The call only reads.
     unsafe {
         zagvirk_step(
-            *machine,
-            list.as_ptr(),
-            list.len(),
+            *table.machine,
+            table.list.as_ptr(),
+            table.list.len(),
             word.as_ptr(),
             word.len(),
             config,
@@ -114,13 +136,13 @@ pub fn step(machine: &Machine, list: &[u16], word: &[u8], config: Config, entry:
 }
 
 /// The run checker, as [`crate::check_run`].
-pub fn check_run(machine: &Machine, list: &[u16], word: &[u8], run: &[u16]) -> Checked {
-    // As above.
+pub fn check_run(table: Table, word: &[u8], run: &[u16]) -> Checked {
+    // SAFETY: as above; the call only reads.
     unsafe {
         zagvirk_check_run(
-            *machine,
-            list.as_ptr(),
-            list.len(),
+            *table.machine,
+            table.list.as_ptr(),
+            table.list.len(),
             word.as_ptr(),
             word.len(),
             run.as_ptr(),

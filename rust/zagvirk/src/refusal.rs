@@ -1,7 +1,9 @@
 //! Refusals: why a call turned its input down.
 
-/// Why a call turned its input down. Which refusals a call gives, and in which order, is said at the call.
+/// Why a call turned its input down. Which refusals a call gives, and in which order, is said at the call. Later versions
+/// may have more.
 #[derive(Clone, Copy, PartialEq, Eq, Hash, Debug)]
+#[non_exhaustive]
 pub enum Refusal {
     /// 1: fewer bytes are left than the next line of the sheet takes.
     LineCutShort,

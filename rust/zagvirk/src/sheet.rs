@@ -1,6 +1,6 @@
 //! Sheets: a machine as lines of decimal numbers in columns of five bytes.
 
-use crate::{Machine, Refusal};
+use crate::{Machine, Refusal, Table};
 
 /// The result of [`read_record`]: `refusal` is 0 or the number of the refusal; `needed` is 0 but for refusal 15;
 /// `machine` is all zero after a refusal.
@@ -41,18 +41,19 @@ extern "C" {
 
 /// Reads a sheet, as [`read`].
 pub fn read_record(sheet: &[u8], list: &mut [u16]) -> ReadRecord {
-    // A slice's pointer is not null and is good for its length, also where that is 0. The call writes to `list` only.
+    // SAFETY: a slice's pointer is not null and is good for its length, also where that is 0. The call writes to `list`
+    // only, which does not overlap with the sheet.
     unsafe { zagvirk_read_sheet(sheet.as_ptr(), sheet.len(), list.as_mut_ptr(), list.len()) }
 }
 
-/// Writes a sheet, as [`write`].
-pub fn write_record(machine: &Machine, list: &[u16], sheet: &mut [u8]) -> WrittenRecord {
-    // As above; the call writes to `sheet` only.
+/// Writes a sheet, as [`write()`].
+pub fn write_record(table: Table, sheet: &mut [u8]) -> WrittenRecord {
+    // SAFETY: as above; the call writes to `sheet` only, which does not overlap with the list.
     unsafe {
         zagvirk_write_sheet(
-            *machine,
-            list.as_ptr(),
-            list.len(),
+            *table.machine,
+            table.list.as_ptr(),
+            table.list.len(),
             sheet.as_mut_ptr(),
             sheet.len(),
         )
@@ -70,14 +71,15 @@ pub fn write_record(machine: &Machine, list: &[u16], sheet: &mut [u8]) -> Writte
 /// Time: in proportion to the sheet's bytes. Memory: constant.
 ///
 /// ```
+/// use zagvirk::{sheet, Machine, Table};
 /// let text = b"    2    1    1\n    0    1\n    1    2\n    0    1    1\n";
 /// let mut list = [7; 5];
-/// let machine = zagvirk::sheet::read(text, &mut list).unwrap();
-/// assert_eq!(machine, zagvirk::Machine::new(1, 1, &[1, 2]));
+/// let machine = sheet::read(text, &mut list).unwrap();
+/// assert_eq!(machine, Machine::new(1, 1, &[1, 2]));
 /// assert_eq!(list, [0, 1, 1, 7, 7]);
-/// let mut sheet = [0; 60];
-/// assert_eq!(zagvirk::sheet::write(&machine, &list, &mut sheet), Ok(54));
-/// assert_eq!(&sheet[..54], text);
+/// let mut written = [0; 60];
+/// assert_eq!(sheet::write(Table::new(&machine, &list), &mut written), Ok(54));
+/// assert_eq!(&written[..54], text);
 /// ```
 pub fn read(sheet: &[u8], list: &mut [u16]) -> Result<Machine, Refusal> {
     let read = read_record(sheet, list);
@@ -93,8 +95,8 @@ pub fn read(sheet: &[u8], list: &mut [u16]) -> Result<Machine, Refusal> {
 /// A sheet has 16 + 11 x states + 16 x transitions bytes, 64,720 at most.
 ///
 /// Time: in proportion to the sheet's bytes. Memory: constant.
-pub fn write(machine: &Machine, list: &[u16], sheet: &mut [u8]) -> Result<usize, Refusal> {
-    let written = write_record(machine, list, sheet);
+pub fn write(table: Table, sheet: &mut [u8]) -> Result<usize, Refusal> {
+    let written = write_record(table, sheet);
     Refusal::check(written.refusal, written.needed)?;
     Ok(written.bytes)
 }

@@ -23,7 +23,8 @@ extern "C" {
 
 /// Translates a written word, as [`translate`].
 pub fn translate_record(bytes: &[u8], word: &mut [u8]) -> TranslatedRecord {
-    // A slice's pointer is not null and is good for its length, also where that is 0. The call writes to `word` only.
+    // SAFETY: a slice's pointer is not null and is good for its length, also where that is 0. The call writes to `word`
+    // only, which does not overlap with the bytes.
     unsafe { zagvirk_translate(bytes.as_ptr(), bytes.len(), word.as_mut_ptr(), word.len()) }
 }
 
@@ -33,7 +34,7 @@ pub fn translate_record(bytes: &[u8], word: &mut [u8]) -> TranslatedRecord {
 /// Refuses, in this order: [`Refusal::WordTooLong`] over 255 bytes, [`Refusal::WordLetter`] for a byte with no letter,
 /// [`Refusal::WordTooShort`].
 ///
-/// Time: one pass over the bytes. Memory: constant.
+/// Time: two passes over the bytes, one to test them and one to write. Memory: constant.
 ///
 /// ```
 /// let mut word = [0; 9];
