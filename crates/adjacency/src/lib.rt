@@ -14,10 +14,13 @@ ghost use Rattle.fsbm.specs.Machine.{wellFormed};
 ghost use Rattle.adjacency.specs.Index.{Index, Sought};
 use fsbm::machine::Machine;
 
+// A number for each state of the largest machine, and one for the end.
+pub const FIRSTS: usize = 65;
+
 // first[q] is the number of transitions that leave a state below q, for each q up to the number of states: those that leave q
 // are numbered from first[q] up to, not including, first[q + 1].
 pub struct Adjacency {
-    pub first: [u16; 65],
+    pub first: [u16; FIRSTS],
 }
 
 // The first transition from k on, below n, whose number in this column (0 from, 1 letter, 2 to) is at least x; n where there
@@ -42,7 +45,7 @@ pub fn index(m: Machine, list: &[u16]) -> Adjacency
     requires { ⌜ wellFormed m (now list) ≡ true ⌝ }
     ensures { λ r. ⌜ Index m (now (list .entry)) (r .first) ⌝ }
 {
-    let mut first: [u16; 65] = [0; 65];
+    let mut first: [u16; FIRSTS] = [0; FIRSTS];
     let mut k: usize = 0;
     let mut q: usize = 0;
     while q <= m.states {

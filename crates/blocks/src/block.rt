@@ -15,13 +15,15 @@ ghost use Rattle.blocks.specs.Settling.{Scanned, Cleared, Past, Begin, B
 use crate::numbers;
 use crate::readers;
 use crate::row;
+use crate::sizes::MOST_KEYS;
+use crate::sizes::MOST_PAIRS;
+use crate::sizes::MOST_READERS;
+use crate::sizes::MOST_STATES;
+use crate::sizes::NOTHING;
 use fsbm::machine::Machine;
 
-// The number that says "no way".
-const NONE: u64 = 4611686018427387904;
-
 // The first row from k on, below n, that has a mark; n or more where there is none.
-fn scan(d: &[u64; 64], k: usize, n: usize) -> usize
+fn scan(d: &[u64; MOST_STATES], k: usize, n: usize) -> usize
     requires { ⌜ n ≤ 64 ⌝ }
     ensures { λ r. ⌜ Scanned (now (d .entry)) k n r ⌝ }
 {
@@ -36,7 +38,7 @@ fn scan(d: &[u64; 64], k: usize, n: usize) -> usize
 }
 
 // The next row below n, from k on and then from the first on, that has a mark; n or more where there is none.
-fn next_row(d: &[u64; 64], k: usize, n: usize) -> usize
+fn next_row(d: &[u64; MOST_STATES], k: usize, n: usize) -> usize
     requires { ⌜ n ≤ 64 ⌝ }
     ensures { λ r. ⌜ Scanned (now (d .entry)) 0 n r ⌝ }
 {
@@ -51,13 +53,13 @@ fn next_row(d: &[u64; 64], k: usize, n: usize) -> usize
 fn work(
     m: Machine,
     list: &[u16],
-    index: &[u16; 16065],
-    readers: &[u64; 251],
+    index: &[u16; MOST_KEYS],
+    readers: &[u64; MOST_READERS],
     g: u64,
     h: u64,
-    b: &mut [u64; 4096],
-    d: &mut [u64; 64],
-    p: &mut [u64; 64],
+    b: &mut [u64; MOST_PAIRS],
+    d: &mut [u64; MOST_STATES],
+    p: &mut [u64; MOST_STATES],
     top: u64,
 )
     requires { ⌜ Ready m (now list) (now index) h × Kind (buffering (m .marks)) g × Readers m (now list) (now readers) ⌝ }
@@ -77,19 +79,26 @@ fn work(
 }
 
 // Clears the first n numbers.
-fn clear(b: &mut [u64; 4096], n: usize)
+fn clear(b: &mut [u64; MOST_PAIRS], n: usize)
     requires { ⌜ (length (now b) ≡ 4096) × (n ≤ 4096) ⌝ }
     ensures { λ r. ⌜ Cleared n (now (b .entry)) (now (b .exit)) ⌝ }
 {
     let mut i: usize = 0;
     while i < n {
-        b[i] = NONE;
+        b[i] = NOTHING;
         i += 1;
     }
 }
 
 // Lowers the number of (q, guess) to v + 1, if v is less than top.
-fn begin(b: &mut [u64; 4096], d: &mut [u64; 64], q: usize, guess: usize, v: u64, top: u64)
+fn begin(
+    b: &mut [u64; MOST_PAIRS],
+    d: &mut [u64; MOST_STATES],
+    q: usize,
+    guess: usize,
+    v: u64,
+    top: u64,
+)
     requires { ⌜ Sized (now b) (now d) ⌝ }
     requires { ⌜ (q < 64) × (guess < 64) × (top ≤ nothing) ⌝ }
     ensures { λ r. ⌜ Lowers (Begin top q guess v) (now (b .entry)) (now (d .entry)) (now (b .exit)) (now (d .exit)) ⌝ }
@@ -102,11 +111,11 @@ fn begin(b: &mut [u64; 4096], d: &mut [u64; 64], q: usize, guess: usize, v: u64,
 
 // The same for each state of a set, with its number in costs for v.
 fn begin_all(
-    b: &mut [u64; 4096],
-    d: &mut [u64; 64],
+    b: &mut [u64; MOST_PAIRS],
+    d: &mut [u64; MOST_STATES],
     set: u64,
     guess: usize,
-    costs: &[u64; 64],
+    costs: &[u64; MOST_STATES],
     top: u64,
 )
     requires { ⌜ Sized (now b) (now d) ⌝ }
@@ -122,10 +131,10 @@ fn begin_all(
 }
 
 // A number for each state, all 0.
-fn zeros() -> [u64; 64]
+fn zeros() -> [u64; MOST_STATES]
     ensures { λ r. ⌜ length r ≡ 64 ⌝ }
 {
-    [0; 64]
+    [0; MOST_STATES]
 }
 
 // The block of the guess, for copies that begin in a buffering state of the set; costs has the least weights at which they begin. g has
@@ -136,14 +145,14 @@ fn zeros() -> [u64; 64]
 pub fn block_by(
     m: Machine,
     list: &[u16],
-    index: &[u16; 16065],
-    readers: &[u64; 251],
+    index: &[u16; MOST_KEYS],
+    readers: &[u64; MOST_READERS],
     g: u64,
     h: u64,
     guess: usize,
     set: u64,
-    costs: &[u64; 64],
-    b: &mut [u64; 4096],
+    costs: &[u64; MOST_STATES],
+    b: &mut [u64; MOST_PAIRS],
     top: u64,
 )
     requires { ⌜ Ready m (now list) (now index) h × Kind (buffering (m .marks)) g × Readers m (now list) (now readers) ⌝ }
@@ -158,22 +167,34 @@ pub fn block_by(
     work(m, list, index, readers, g, h, b, &mut d, &mut p, top);
 }
 
-// The same up to NONE, where it is not known which states can read a letter.
+// The same up to NOTHING, where it is not known which states can read a letter.
 pub fn block(
     m: Machine,
     list: &[u16],
-    index: &[u16; 16065],
+    index: &[u16; MOST_KEYS],
     g: u64,
     h: u64,
     guess: usize,
     set: u64,
-    costs: &[u64; 64],
-    b: &mut [u64; 4096],
+    costs: &[u64; MOST_STATES],
+    b: &mut [u64; MOST_PAIRS],
 )
     requires { ⌜ Ready m (now list) (now index) h × Kind (buffering (m .marks)) g ⌝ }
     requires { ⌜ (length (now b) ≡ 4096) × Past m (now b) × (guess < 64) ⌝ }
     ensures { λ r. ⌜ Block m (now (list .entry)) guess «set» (now (costs .entry)) (now (b .exit)) ⌝ }
 {
     let readers = readers::readers(m, list, h);
-    block_by(m, list, index, &readers, g, h, guess, set, costs, b, NONE);
+    block_by(
+        m,
+        list,
+        index,
+        &readers,
+        g,
+        h,
+        guess,
+        set,
+        costs,
+        b,
+        NOTHING,
+    );
 }

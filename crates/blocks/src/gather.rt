@@ -5,6 +5,9 @@ ghost use lib.ListN.{length, getD};
 ghost use Rattle.stateset.specs.Set.{In};
 ghost use Rattle.pieces.specs.Blocks.{nothing};
 ghost use Rattle.blocks.specs.Gathered.{Adding, Pick, Reach, Far, From, Near, Stay};
+use crate::sizes::MOST_KEYS;
+use crate::sizes::MOST_PAIRS;
+use crate::sizes::MOST_STATES;
 
 // The same number as an index.
 pub fn wide(x: u16) -> usize
@@ -14,7 +17,7 @@ pub fn wide(x: u16) -> usize
 }
 
 // Notes v for t in p, where t is a member of may and has no number yet or a larger one; the states that have a number then.
-fn pick(may: u64, p: &mut [u64; 64], got: u64, t: usize, v: u64) -> u64
+fn pick(may: u64, p: &mut [u64; MOST_STATES], got: u64, t: usize, v: u64) -> u64
     requires { ⌜ length (now p) ≡ 64 ⌝ }
     ensures { λ r. ⌜ Adding (Pick may t v) (now (p .entry)) got (now (p .exit)) r ⌝ }
 {
@@ -32,7 +35,15 @@ fn pick(may: u64, p: &mut [u64; 64], got: u64, t: usize, v: u64) -> u64
 }
 
 // The same for each state that a transition of lo, .., hi - 1 enters.
-fn reach(list: &[u16], lo: usize, hi: usize, may: u64, p: &mut [u64; 64], got: u64, v: u64) -> u64
+fn reach(
+    list: &[u16],
+    lo: usize,
+    hi: usize,
+    may: u64,
+    p: &mut [u64; MOST_STATES],
+    got: u64,
+    v: u64,
+) -> u64
     requires { ⌜ length (now p) ≡ 64 ⌝ }
     requires { ⌜ hi * 3 ≤ length (now list) ⌝ }
     ensures { λ r. ⌜ Adding (Reach (now (list .entry)) lo hi may v) (now (p .entry)) got (now (p .exit)) r ⌝ }
@@ -49,10 +60,10 @@ fn reach(list: &[u16], lo: usize, hi: usize, may: u64, p: &mut [u64; 64], got: u
 // The same for each state that a transition enters of the key `base`, with v + w for v, if v is less than top.
 fn far(
     list: &[u16],
-    index: &[u16; 16065],
+    index: &[u16; MOST_KEYS],
     base: usize,
     may: u64,
-    p: &mut [u64; 64],
+    p: &mut [u64; MOST_STATES],
     got: u64,
     v: u64,
     w: u64,
@@ -75,15 +86,15 @@ fn far(
 // of those less than top, and w more. The states that have a number then.
 pub fn gather(
     list: &[u16],
-    index: &[u16; 16065],
+    index: &[u16; MOST_KEYS],
     stride: usize,
     x: usize,
     w: u64,
     may: u64,
-    b: &[u64; 4096],
+    b: &[u64; MOST_PAIRS],
     s: usize,
     set: u64,
-    p: &mut [u64; 64],
+    p: &mut [u64; MOST_STATES],
     top: u64,
 ) -> u64
     requires { ⌜ length (now p) ≡ 64 ⌝ }
@@ -112,7 +123,7 @@ pub fn gather(
 }
 
 // Notes v + 1 for t in p, as pick does, if v is less than top.
-fn near(may: u64, p: &mut [u64; 64], got: u64, t: usize, v: u64, top: u64) -> u64
+fn near(may: u64, p: &mut [u64; MOST_STATES], got: u64, t: usize, v: u64, top: u64) -> u64
     requires { ⌜ (length (now p) ≡ 64) × (top ≤ nothing) ⌝ }
     ensures { λ r. ⌜ Adding (Near top may t v) (now (p .entry)) got (now (p .exit)) r ⌝ }
 {
@@ -123,7 +134,7 @@ fn near(may: u64, p: &mut [u64; 64], got: u64, t: usize, v: u64, top: u64) -> u6
 }
 
 // For each state of the set: its number in row s, if it is less than top, and 1 more. The states that have a number then.
-pub fn stay(b: &[u64; 4096], s: usize, set: u64, p: &mut [u64; 64], top: u64) -> u64
+pub fn stay(b: &[u64; MOST_PAIRS], s: usize, set: u64, p: &mut [u64; MOST_STATES], top: u64) -> u64
     requires { ⌜ length (now p) ≡ 64 ⌝ }
     requires { ⌜ (s < 64) × (top ≤ nothing) ⌝ }
     ensures { λ r. ⌜ Adding (Stay top (now (b .entry)) s (In «set»)) (now (p .entry)) 0 (now (p .exit)) r ⌝ }

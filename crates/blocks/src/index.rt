@@ -9,6 +9,7 @@ ghost use mathlib.Core.Bool.{true};
 ghost use lib.ListN.{length};
 ghost use Rattle.fsbm.specs.Machine.{wellFormed};
 ghost use Rattle.blocks.specs.Stretches.{keyOf, Found, Stretches};
+use crate::sizes::MOST_KEYS;
 use fsbm::machine::Machine;
 
 // The key of transition k.
@@ -36,7 +37,7 @@ fn seek(list: &[u16], stride: usize, k: usize, n: usize, y: usize) -> usize
 
 // Writes the index of a well-formed machine's list into starts. Where no key is, starts stays as it was.
 // Time: the keys and the transitions, each once.
-pub fn index(m: Machine, list: &[u16], starts: &mut [u16; 16065])
+pub fn index(m: Machine, list: &[u16], starts: &mut [u16; MOST_KEYS])
     requires { ⌜ wellFormed m (now list) ≡ true ⌝ }
     requires { ⌜ length (now starts) ≡ 16065 ⌝ }
     ensures { λ r. ⌜ Stretches m (now (list .entry)) (now (starts .exit)) ⌝ }

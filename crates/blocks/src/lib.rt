@@ -1,6 +1,7 @@
 // Least weights within one copy, for one guess of the state where storing ends and matching begins (a block). The two halves of a copy are
 // walked side by side, as pairs of states; a weight is letters × 2^32 + moves.
 //
+// sizes     the sizes of the search and its numbers
 // index     the transitions by state and letter
 // readers   for each letter the matching states that can read it
 // numbers   the numbers of a block, lowered and marked
@@ -15,3 +16,4 @@ pub mod index;
 pub mod numbers;
 pub mod readers;
 pub mod row;
+pub mod sizes;

@@ -3,9 +3,11 @@ ghost use Prim.Native.Nat.{_+_, _*_, _≤_, _<_};
 ghost use lib.ListN.{length};
 ghost use Rattle.stateset.specs.Set.{In};
 ghost use Rattle.blocks.specs.Numbers.{Sized, Lowers, One, Put, Enter, Spread};
+use crate::sizes::MOST_PAIRS;
+use crate::sizes::MOST_STATES;
 
 // Lowers the number of the pair (s, t) to v and marks the pair, where v is less.
-pub fn lower(b: &mut [u64; 4096], d: &mut [u64; 64], s: usize, t: usize, v: u64)
+pub fn lower(b: &mut [u64; MOST_PAIRS], d: &mut [u64; MOST_STATES], s: usize, t: usize, v: u64)
     requires { ⌜ Sized (now b) (now d) ⌝ }
     requires { ⌜ (s < 64) × (t < 64) ⌝ }
     ensures { λ r. ⌜ Lowers (One s t v) (now (b .entry)) (now (d .entry)) (now (b .exit)) (now (d .exit)) ⌝ }
@@ -19,7 +21,13 @@ pub fn lower(b: &mut [u64; 4096], d: &mut [u64; 64], s: usize, t: usize, v: u64)
 }
 
 // Lowers in row s the number of each member of got to its number in p.
-pub fn put(b: &mut [u64; 4096], d: &mut [u64; 64], s: usize, got: u64, p: &[u64; 64])
+pub fn put(
+    b: &mut [u64; MOST_PAIRS],
+    d: &mut [u64; MOST_STATES],
+    s: usize,
+    got: u64,
+    p: &[u64; MOST_STATES],
+)
     requires { ⌜ Sized (now b) (now d) ⌝ }
     requires { ⌜ s < 64 ⌝ }
     ensures { λ r. ⌜ Lowers (Put s (In got) (now (p .entry))) (now (b .entry)) (now (d .entry)) (now (b .exit)) (now (d .exit)) ⌝ }
@@ -33,7 +41,14 @@ pub fn put(b: &mut [u64; 4096], d: &mut [u64; 64], s: usize, got: u64, p: &[u64;
 }
 
 // The same, where s is a member of may.
-fn enter(b: &mut [u64; 4096], d: &mut [u64; 64], s: usize, may: u64, got: u64, p: &[u64; 64])
+fn enter(
+    b: &mut [u64; MOST_PAIRS],
+    d: &mut [u64; MOST_STATES],
+    s: usize,
+    may: u64,
+    got: u64,
+    p: &[u64; MOST_STATES],
+)
     requires { ⌜ Sized (now b) (now d) ⌝ }
     ensures { λ r. ⌜ Lowers (Enter may got (now (p .entry)) s) (now (b .entry)) (now (d .entry)) (now (b .exit)) (now (d .exit)) ⌝ }
 {
@@ -45,14 +60,14 @@ fn enter(b: &mut [u64; 4096], d: &mut [u64; 64], s: usize, may: u64, got: u64, p
 
 // The same in each row that a transition of lo, .., hi - 1 enters.
 pub fn spread(
-    b: &mut [u64; 4096],
-    d: &mut [u64; 64],
+    b: &mut [u64; MOST_PAIRS],
+    d: &mut [u64; MOST_STATES],
     list: &[u16],
     lo: usize,
     hi: usize,
     may: u64,
     got: u64,
-    p: &[u64; 64],
+    p: &[u64; MOST_STATES],
 )
     requires { ⌜ Sized (now b) (now d) ⌝ }
     requires { ⌜ hi * 3 ≤ length (now list) ⌝ }

@@ -13,10 +13,12 @@ ghost use Rattle.blocks.specs.Readers.{Readers, Covers};
 ghost use Rattle.blocks.specs.Works.{Kind, Ready, Storable, RowSo, RowOn, RowDone, Moves};
 use crate::gather;
 use crate::numbers;
+use crate::sizes::MOST_KEYS;
+use crate::sizes::MOST_PAIRS;
+use crate::sizes::MOST_READERS;
+use crate::sizes::MOST_STATES;
+use crate::sizes::PAIR;
 use fsbm::machine::Machine;
-
-// The weight of a letter that both halves of a copy read.
-const PAIR: u64 = 8589934594;
 
 // The states that a storing move from s may enter: g has the buffering states, h the matching states.
 fn storable(m: Machine, g: u64, h: u64, s: usize) -> u64
@@ -35,15 +37,15 @@ fn storable(m: Machine, g: u64, h: u64, s: usize) -> u64
 // that is in the set too. read has the members of h from which it leads to one.
 fn moved(
     list: &[u16],
-    index: &[u16; 16065],
+    index: &[u16; MOST_KEYS],
     stride: usize,
     x: usize,
     h: u64,
     read: u64,
-    b: &[u64; 4096],
+    b: &[u64; MOST_PAIRS],
     s: usize,
     set: u64,
-    p: &mut [u64; 64],
+    p: &mut [u64; MOST_STATES],
     top: u64,
 ) -> u64
     requires { ⌜ length (now p) ≡ 64 ⌝ }
@@ -62,14 +64,14 @@ fn moved(
 fn alone(
     m: Machine,
     list: &[u16],
-    index: &[u16; 16065],
-    readers: &[u64; 251],
+    index: &[u16; MOST_KEYS],
+    readers: &[u64; MOST_READERS],
     h: u64,
-    b: &mut [u64; 4096],
-    d: &mut [u64; 64],
+    b: &mut [u64; MOST_PAIRS],
+    d: &mut [u64; MOST_STATES],
     s: usize,
     set: u64,
-    p: &mut [u64; 64],
+    p: &mut [u64; MOST_STATES],
     top: u64,
 )
     requires { ⌜ Ready m (now list) (now index) h × Readers m (now list) (now readers) ⌝ }
@@ -86,16 +88,16 @@ fn alone(
 fn group(
     m: Machine,
     list: &[u16],
-    index: &[u16; 16065],
-    readers: &[u64; 251],
+    index: &[u16; MOST_KEYS],
+    readers: &[u64; MOST_READERS],
     h: u64,
     may: u64,
-    b: &mut [u64; 4096],
-    d: &mut [u64; 64],
+    b: &mut [u64; MOST_PAIRS],
+    d: &mut [u64; MOST_STATES],
     s: usize,
     set: u64,
     lo: usize,
-    p: &mut [u64; 64],
+    p: &mut [u64; MOST_STATES],
     top: u64,
 ) -> usize
     requires { ⌜ Ready m (now list) (now index) h × Storable m s may × Readers m (now list) (now readers) ⌝ }
@@ -116,17 +118,17 @@ fn group(
 fn groups(
     m: Machine,
     list: &[u16],
-    index: &[u16; 16065],
-    readers: &[u64; 251],
+    index: &[u16; MOST_KEYS],
+    readers: &[u64; MOST_READERS],
     h: u64,
     may: u64,
-    b: &mut [u64; 4096],
-    d: &mut [u64; 64],
+    b: &mut [u64; MOST_PAIRS],
+    d: &mut [u64; MOST_STATES],
     s: usize,
     set: u64,
     lo: usize,
     end: usize,
-    p: &mut [u64; 64],
+    p: &mut [u64; MOST_STATES],
     top: u64,
 ) -> usize
     requires { ⌜ Ready m (now list) (now index) h × Storable m s may × Readers m (now list) (now readers) ⌝ }
@@ -146,15 +148,15 @@ fn groups(
 pub fn row(
     m: Machine,
     list: &[u16],
-    index: &[u16; 16065],
-    readers: &[u64; 251],
+    index: &[u16; MOST_KEYS],
+    readers: &[u64; MOST_READERS],
     g: u64,
     h: u64,
-    b: &mut [u64; 4096],
-    d: &mut [u64; 64],
+    b: &mut [u64; MOST_PAIRS],
+    d: &mut [u64; MOST_STATES],
     s: usize,
     set: u64,
-    p: &mut [u64; 64],
+    p: &mut [u64; MOST_STATES],
     top: u64,
 )
     requires { ⌜ Ready m (now list) (now index) h × Kind (buffering (m .marks)) g × Readers m (now list) (now readers) ⌝ }

@@ -12,7 +12,9 @@ ghost use Rattle.fsbm.specs.declared.machine.Machine.{Machine};
 ghost use Rattle.copies.specs.Copies.{copiesOf, pairs, totalStored, copiesAnswer, copiesAfter, copiedValues, copiesValues};
 use fsbm::answer;
 use fsbm::answer::Refusal;
+use fsbm::config::BEGIN_EMPTYING;
 use fsbm::config::Config;
+use fsbm::limits::LONGEST_WORD;
 use fsbm::machine::Machine;
 use fsbm::run;
 
@@ -31,7 +33,7 @@ fn count_copies(run: &[u16]) -> usize
     while i < run.len() {
         let entry = run[i];
         i += 1;
-        if entry == 65534 {
+        if entry == BEGIN_EMPTYING {
             count += 1;
         }
     }
@@ -62,7 +64,7 @@ fn write_copies(m: Machine, list: &[u16], word: &[u8], run: &[u16], copies: &mut
         let next = v.config;
         c = next;
         i += 1;
-        if entry == 65534 {
+        if entry == BEGIN_EMPTYING {
             let stored = end - start;
             copies[k] = start as u16;
             copies[k + 1] = stored as u16;
@@ -83,7 +85,7 @@ pub fn list_copies(m: Machine, list: &[u16], word: &[u8], run: &[u16], copies: &
         × (now (copies .exit) ≡ copiesAfter m (now (list .entry)) (now (word .entry)) (now (run .entry)) (now (copies .entry)))
         × (copiedValues r ≡ copiesValues m (now (list .entry)) (now (word .entry)) (now (run .entry)) (length (now (copies .entry)))) ⌝ }
 {
-    let number = answer::table_and_word(255, m, list, word);
+    let number = answer::table_and_word(LONGEST_WORD, m, list, word);
     if number != 0 {
         return Copied::Refused(Refusal { number, needed: 0 });
     }

@@ -18,13 +18,14 @@ use crate::squares;
 use crate::walks;
 use crate::walks::Tail;
 use fsbm::config::Mode;
+use fsbm::limits::POSITIONS;
 use fsbm::machine::Machine;
 use images::Kinds;
 
 // The reached set of each place of a word, one for each place 0 to 255, and whether a state of the last is final: no before that is
 // known.
 pub struct Reached {
-    pub sets: [u64; 256],
+    pub sets: [u64; POSITIONS],
     pub accepted: bool,
 }
 
@@ -38,8 +39,8 @@ fn copies_from(
     g: u64,
     h: u64,
     word: &[u8],
-    ends: &mut [u8; 256],
-    sets: &mut [u64; 256],
+    ends: &mut [u8; POSITIONS],
+    sets: &mut [u64; POSITIONS],
     i: usize,
     starts: u64,
     last: usize,
@@ -78,8 +79,8 @@ fn pass_place(
     g: u64,
     h: u64,
     word: &[u8],
-    ends: &mut [u8; 256],
-    sets: &mut [u64; 256],
+    ends: &mut [u8; POSITIONS],
+    sets: &mut [u64; POSITIONS],
     i: usize,
 )
     requires { ⌜ Good (now targets) states g h × Rooms (now targets) states (now word) × (i ≤ length (now word)) × (length (now word) ≤ 255) × Ends (now word) (now ends) (λ d. i + d) × Fitting 256 (now sets) ⌝ }
@@ -113,7 +114,7 @@ fn pass_place(
 fn start_at(initial: u64) -> Reached
     ensures { λ r. ⌜ ((G : Graph) (w : List ℕ) → Stage G w initial (r .sets) 0) ⌝ }
 {
-    let mut sets: [u64; 256] = [0; 256];
+    let mut sets: [u64; POSITIONS] = [0; POSITIONS];
     sets[0] = initial;
     Reached {
         sets: sets,
@@ -122,12 +123,19 @@ fn start_at(initial: u64) -> Reached
 }
 
 // Completes the sets of all places of a word, from those at its start.
-fn reach_all(targets: &[u64], states: usize, g: u64, h: u64, word: &[u8], sets: &mut [u64; 256])
+fn reach_all(
+    targets: &[u64],
+    states: usize,
+    g: u64,
+    h: u64,
+    word: &[u8],
+    sets: &mut [u64; POSITIONS],
+)
     requires { ⌜ Good (now targets) states g h × Rooms (now targets) states (now word) × (length (now word) ≤ 255) × Fitting 256 (now sets) ⌝ }
     ensures { λ r. ⌜ ((q : ℕ) → Stage (graph (now (targets .entry)) states g h) (now (word .entry)) q (now (sets .entry)) 0
         → Stage (graph (now (targets .entry)) states g h) (now (word .entry)) q (now (sets .exit)) (length (now (word .entry)) + 1)) ⌝ }
 {
-    let mut ends: [u8; 256] = [0; 256];
+    let mut ends: [u8; POSITIONS] = [0; POSITIONS];
     let mut i: usize = 0;
     while i <= word.len() {
         pass_place(targets, states, g, h, word, &mut ends, sets, i);

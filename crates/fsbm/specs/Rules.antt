@@ -1,6 +1,9 @@
 -- What the rules of a table say, part by part, and where a configuration stands that a move is allowed from.
 --
--- Rules m list         == what the laws use of wellFormed
+-- Counts               == the counts of a table are within its limits
+-- Tested m list        == the tests of wellFormed, one by one
+-- tested               == wellFormed is true exactly if they hold
+-- Rules m list         == what the laws use of it
 -- rules                == wellFormed says it
 -- marked               == a state whose mark is not 0 is one of the machine's
 -- buffering-below, matching-below == so is a state of that kind
@@ -9,7 +12,7 @@
 -- placed, unplaced     == wellPlaced is true exactly if it holds
 use Prim.Native.Nat.{ℕ, suc, _*_, _-_, _/_, _%_, _≤_, _<_}
 use mathlib.Core.Path.{_≡_, subst}
-use mathlib.Core.Logic.{_⊎_, inl, inr}
+use mathlib.Core.Logic.{_↔_, _⊎_, inl, inr}
 use mathlib.Core.Bool.{Bool, true, false, cond, not, _&&_, _||_}
 use mathlib.Core.List.{List}
 use native.Mathlib.Omega.{arith}
@@ -24,6 +27,55 @@ use Rattle.fsbm.specs.Moves.{wellPlaced, bufferFits}
 use Rattle.fsbm.specs.declared.machine.Machine.{Machine}
 use Rattle.fsbm.specs.declared.config.Config.{Config}
 use Rattle.fsbm.specs.declared.config.Mode.{Mode}
+
+pub record Counts (states letters transitions : ℕ) : Type 0 where
+  pub some : 1 ≤ states
+  pub few-states : states ≤ maxStates
+  pub few-letters : letters ≤ maxLetters
+  pub few-transitions : transitions ≤ maxTransitions
+
+pub record Tested (m : Machine) (list : List ℕ) : Type 0 where
+  pub counts : Counts (m .states) (m .letters) (m .transitions)
+  pub long : m .transitions * 3 ≤ length list
+  pub marks : (q : ℕ) → q < maxStates → goodMark m q ≡ true
+  pub transitions : (k : ℕ) → k < m .transitions → goodTransition (m .states) (m .letters) list k ≡ true
+
+pub tested : (m : Machine) (list : List ℕ) → (wellFormed m list ≡ true) ↔ Tested m list
+unfolding wellFormed
+tested m list = (to, from)
+  where
+    A : Bool
+    A = allBelow maxStates (goodMark m)
+
+    B : Bool
+    B = allBelow (m .transitions) (goodTransition (m .states) (m .letters) list)
+
+    to : (leb 1 (m .states) && (leb (m .states) maxStates && (leb (m .letters) maxLetters && (leb (m .transitions) maxTransitions && (leb (m .transitions * 3) (length list) && (A && B)))))) ≡ true
+        → Tested m list
+    to e =
+        let a = and-true (leb 1 (m .states)) _ e in
+        let b = and-true (leb (m .states) maxStates) _ (a .1) in
+        let c = and-true (leb (m .letters) maxLetters) _ (b .1) in
+        let d = and-true (leb (m .transitions) maxTransitions) _ (c .1) in
+        let f = and-true (leb (m .transitions * 3) (length list)) (A && B) (d .1) in
+        let g = and-true A B (f .1) in
+        record {
+          counts = record { some = leb-true _ _ (a .0); few-states = leb-true _ _ (b .0); few-letters = leb-true _ _ (c .0); few-transitions = leb-true _ _ (d .0) };
+          long = leb-true _ _ (f .0);
+          marks = allBelow-true (goodMark m) maxStates .0 (g .0);
+          transitions = allBelow-true (goodTransition (m .states) (m .letters) list) (m .transitions) .0 (g .1);
+        }
+
+    from : Tested m list
+        → (leb 1 (m .states) && (leb (m .states) maxStates && (leb (m .letters) maxLetters && (leb (m .transitions) maxTransitions && (leb (m .transitions * 3) (length list) && (A && B)))))) ≡ true
+    from r =
+        and-both-true (leb 1 (m .states)) _ (le-leb _ _ (r .counts .some))
+        (and-both-true (leb (m .states) maxStates) _ (le-leb _ _ (r .counts .few-states))
+        (and-both-true (leb (m .letters) maxLetters) _ (le-leb _ _ (r .counts .few-letters))
+        (and-both-true (leb (m .transitions) maxTransitions) _ (le-leb _ _ (r .counts .few-transitions))
+        (and-both-true (leb (m .transitions * 3) (length list)) _ (le-leb _ _ (r .long))
+        (and-both-true A B (allBelow-true (goodMark m) maxStates .1 (r .marks))
+        (allBelow-true (goodTransition (m .states) (m .letters) list) (m .transitions) .1 (r .transitions)))))))
 
 pub record Rules (m : Machine) (list : List ℕ) : Type 0 where
   pub some-state : 1 ≤ m .states
@@ -64,27 +116,16 @@ good-rises m list k g = at (or-true (eqb (suc k) 0) (precedes (transitionAt list
     at (inr t) = let e : suc k - 1 ≡ k = omega arith in subst (λ (j : ℕ). precedes (transitionAt list j) (transitionAt list (suc k)) ≡ true) e t
 
 pub rules : (m : Machine) (list : List ℕ) → wellFormed m list ≡ true → Rules m list
-unfolding wellFormed
 rules m list h =
-    let good = goodTransition (m .states) (m .letters) list in
-    let all = allBelow maxStates (goodMark m) && allBelow (m .transitions) good in
-    let enough = leb (m .transitions * 3) (length list) in
-    let few = leb (m .transitions) maxTransitions in
-    let letters = leb (m .letters) maxLetters in
-    let (a, r₁) = and-true (leb 1 (m .states)) (leb (m .states) maxStates && (letters && (few && (enough && all)))) h in
-    let (b, r₂) = and-true (leb (m .states) maxStates) (letters && (few && (enough && all))) r₁ in
-    let (c, r₃) = and-true letters (few && (enough && all)) r₂ in
-    let (d, r₄) = and-true few (enough && all) r₃ in
-    let (e, r₅) = and-true enough all r₄ in
-    let (marks, moves) = and-true (allBelow maxStates (goodMark m)) (allBelow (m .transitions) good) r₅ in
-    let each : (k : ℕ) → k < m .transitions → Good m list k = λ k lt. good-says m list k (allBelow-true good (m .transitions) .0 moves k lt) in
+    let t = tested m list .0 h in
+    let each : (k : ℕ) → k < m .transitions → Good m list k = λ k lt. good-says m list k (t .transitions k lt) in
     record {
-      some-state = leb-true 1 (m .states) a;
-      states-fit = leb-true (m .states) maxStates b;
-      letters-fit = leb-true (m .letters) maxLetters c;
-      transitions-fit = leb-true (m .transitions) maxTransitions d;
-      list-fits = leb-true (m .transitions * 3) (length list) e;
-      marks-good = allBelow-true (goodMark m) maxStates .0 marks;
+      some-state = t .counts .some;
+      states-fit = t .counts .few-states;
+      letters-fit = t .counts .few-letters;
+      transitions-fit = t .counts .few-transitions;
+      list-fits = t .long;
+      marks-good = t .marks;
       from-below = λ k lt. each k lt .from;
       letter-below = λ k lt. each k lt .letter;
       to-below = λ k lt. each k lt .to;

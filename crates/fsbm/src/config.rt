@@ -10,9 +10,18 @@ ghost use Rattle.fsbm.specs.Moves.{wellPlaced, bufferFits, readsLetter, 
 use crate::answer;
 use crate::answer::Refusal;
 use crate::answer::Stepped;
+use crate::limits::LONGEST_CHECKED;
+use crate::limits::MAX_STATES;
 use crate::machine;
 use crate::machine::Machine;
 use crate::machine::Transition;
+
+// The entries that change the mode: begin storing, begin matching, back to normal.
+pub const BEGIN_BUFFERING: u16 = 65533;
+
+pub const BEGIN_EMPTYING: u16 = 65534;
+
+pub const BACK_TO_NORMAL: u16 = 65535;
 
 // The mode of a run: normal; buffering, which stores what it reads (document 01: storing); emptying, which matches what was
 // stored (document 01: matching).
@@ -66,7 +75,7 @@ fn advance(p: usize, x: u16) -> usize
 }
 
 // Whether neither both ends of a transition are matching nor the state q is buffering.
-fn is_open(both: bool, marks: &[u8; 64], q: usize) -> bool
+fn is_open(both: bool, marks: &[u8; MAX_STATES], q: usize) -> bool
     ensures { λ r. ⌜ r ≡ (not both && not (buffering (now (marks .entry)) q)) ⌝ }
 {
     if both {
@@ -76,7 +85,7 @@ fn is_open(both: bool, marks: &[u8; 64], q: usize) -> bool
 }
 
 // Whether the marks at its ends let a transition be taken in a mode.
-fn passes(mode: Mode, marks: &[u8; 64], t: Transition) -> bool
+fn passes(mode: Mode, marks: &[u8; MAX_STATES], t: Transition) -> bool
     ensures { λ r. ⌜ r ≡ passes (now (marks .entry)) t mode ⌝ }
 {
     let both = machine::both_matching(marks, t);
@@ -102,7 +111,7 @@ impl Config {
     }
 
     // Whether a run on a word of n letters accepts here: final, normal, the buffer empty, the word read to its end.
-    pub fn is_accepting(self, marks: &[u8; 64], n: usize) -> bool
+    pub fn is_accepting(self, marks: &[u8; MAX_STATES], n: usize) -> bool
         ensures { λ r. ⌜ r ≡ accepts (now (marks .entry)) n self ⌝ }
     {
         if !machine::is_final(marks, self.state) {
@@ -174,7 +183,7 @@ impl Config {
     }
 
     // Whether a transition leaves this state and may be taken here.
-    pub fn may_take(self, marks: &[u8; 64], word: &[u8], t: Transition) -> bool
+    pub fn may_take(self, marks: &[u8; MAX_STATES], word: &[u8], t: Transition) -> bool
         ensures { λ r. ⌜ r ≡ mayTake (now (marks .entry)) (now (word .entry)) self t ⌝ }
     {
         if t.from as usize != self.state {
@@ -222,7 +231,7 @@ impl Config {
     }
 
     // An entry that changes the mode.
-    pub fn change_mode(self, marks: &[u8; 64], entry: u16) -> Move
+    pub fn change_mode(self, marks: &[u8; MAX_STATES], entry: u16) -> Move
         ensures { λ r. ⌜ r ≡ changes (now (marks .entry)) self entry (self .mode) ⌝ }
     {
         let mode = self.mode;
@@ -233,10 +242,10 @@ impl Config {
         }
     }
 
-    fn begin_buffering(self, marks: &[u8; 64], entry: u16) -> Move
+    fn begin_buffering(self, marks: &[u8; MAX_STATES], entry: u16) -> Move
         ensures { λ r. ⌜ r ≡ changes (now (marks .entry)) self entry Normal ⌝ }
     {
-        if entry != 65533 {
+        if entry != BEGIN_BUFFERING {
             return self.stay();
         }
         if !machine::is_buffering(marks, self.state) {
@@ -257,10 +266,10 @@ impl Config {
         }
     }
 
-    fn begin_emptying(self, marks: &[u8; 64], entry: u16) -> Move
+    fn begin_emptying(self, marks: &[u8; MAX_STATES], entry: u16) -> Move
         ensures { λ r. ⌜ r ≡ changes (now (marks .entry)) self entry Buffering ⌝ }
     {
-        if entry != 65534 {
+        if entry != BEGIN_EMPTYING {
             return self.stay();
         }
         if !machine::is_matching(marks, self.state) {
@@ -278,10 +287,10 @@ impl Config {
         }
     }
 
-    fn back_to_normal(self, marks: &[u8; 64], entry: u16) -> Move
+    fn back_to_normal(self, marks: &[u8; MAX_STATES], entry: u16) -> Move
         ensures { λ r. ⌜ r ≡ changes (now (marks .entry)) self entry Emptying ⌝ }
     {
-        if entry != 65535 {
+        if entry != BACK_TO_NORMAL {
             return self.stay();
         }
         if !machine::is_matching(marks, self.state) {
@@ -307,7 +316,7 @@ impl Config {
         self,
         states: usize,
         transitions: usize,
-        marks: &[u8; 64],
+        marks: &[u8; MAX_STATES],
         list: &[u16],
         word: &[u8],
         entry: u16,
@@ -338,7 +347,7 @@ impl Config {
     pub fn step(self, m: Machine, list: &[u16], word: &[u8], entry: u16) -> Stepped
         ensures { λ r. ⌜ (r ≡ stepAnswer m (now (list .entry)) (now (word .entry)) self entry) × (steppedValues self r ≡ stepValues m (now (list .entry)) (now (word .entry)) self entry) ⌝ }
     {
-        let number = answer::table_and_word(1048576, m, list, word);
+        let number = answer::table_and_word(LONGEST_CHECKED, m, list, word);
         if number != 0 {
             return Stepped::Refused(Refusal { number, needed: 0 });
         }

@@ -6,5 +6,6 @@
 // answer    Refusal; the tests that come before every answer on a table and a word
 pub mod answer;
 pub mod config;
+pub mod limits;
 pub mod machine;
 pub mod run;

@@ -9,6 +9,9 @@ ghost use Rattle.basics.specs.Search.{allBelow};
 ghost use Rattle.fsbm.specs.Machine.{markOf, initial, final, buffering, matching, bothMatching, transitionAt};
 ghost use Rattle.fsbm.specs.Machine.{maxStates, goodMark, named, goodTransition, wellFormed};
 ghost use Rattle.fsbm.specs.declared.machine.Machine.{Machine};
+use crate::limits::MAX_LETTERS;
+use crate::limits::MAX_STATES;
+use crate::limits::MAX_TRANSITIONS;
 
 // A finite-state buffered machine without its transitions, which stand in a lent list (document 01: a table's record).
 #[repr(C)]
@@ -19,7 +22,7 @@ pub struct Machine {
     pub letters: usize,
     pub transitions: usize,
     // For each state a sum of 1 (initial), 2 (final), 4 (buffering) and 8 (matching).
-    pub marks: [u8; 64],
+    pub marks: [u8; MAX_STATES],
 }
 
 // One transition of the lent list.
@@ -30,41 +33,41 @@ pub struct Transition {
 }
 
 // The mark of state q; 0 where q is no state of any machine.
-pub fn mark(marks: &[u8; 64], q: usize) -> u8
+pub fn mark(marks: &[u8; MAX_STATES], q: usize) -> u8
     ensures { λ r. ⌜ r ≡ markOf (now (marks .entry)) q ⌝ }
 {
-    if q < 64 {
+    if q < MAX_STATES {
         return marks[q];
     }
     0
 }
 
-pub fn is_initial(marks: &[u8; 64], q: usize) -> bool
+pub fn is_initial(marks: &[u8; MAX_STATES], q: usize) -> bool
     ensures { λ r. ⌜ r ≡ initial (now (marks .entry)) q ⌝ }
 {
     mark(marks, q) % 2 == 1
 }
 
-pub fn is_final(marks: &[u8; 64], q: usize) -> bool
+pub fn is_final(marks: &[u8; MAX_STATES], q: usize) -> bool
     ensures { λ r. ⌜ r ≡ final (now (marks .entry)) q ⌝ }
 {
     mark(marks, q) / 2 % 2 == 1
 }
 
-pub fn is_buffering(marks: &[u8; 64], q: usize) -> bool
+pub fn is_buffering(marks: &[u8; MAX_STATES], q: usize) -> bool
     ensures { λ r. ⌜ r ≡ buffering (now (marks .entry)) q ⌝ }
 {
     mark(marks, q) / 4 % 2 == 1
 }
 
-pub fn is_matching(marks: &[u8; 64], q: usize) -> bool
+pub fn is_matching(marks: &[u8; MAX_STATES], q: usize) -> bool
     ensures { λ r. ⌜ r ≡ matching (now (marks .entry)) q ⌝ }
 {
     mark(marks, q) / 8 % 2 == 1
 }
 
 // Whether both ends of a transition are matching states: such a transition is taken only in emptying mode.
-pub fn both_matching(marks: &[u8; 64], t: Transition) -> bool
+pub fn both_matching(marks: &[u8; MAX_STATES], t: Transition) -> bool
     ensures { λ r. ⌜ r ≡ bothMatching (now (marks .entry)) t ⌝ }
 {
     if is_matching(marks, t.from as usize) {
@@ -125,13 +128,13 @@ fn states_for(q: u8, v: u8) -> u8
 
 // Whether the marks of all 64 states obey the rules: at most 15, never buffering and matching together (so at most 11), 0 past the
 // last state. The loop has no early exit, so that many marks can be tested at once.
-fn good_marks(states: usize, marks: &[u8; 64]) -> bool
+fn good_marks(states: usize, marks: &[u8; MAX_STATES]) -> bool
     ensures { λ r. ⌜ ((m : Machine) → m .states ≡ states → m .marks ≡ now (marks .entry) → r ≡ allBelow maxStates (goodMark m)) ⌝ }
 {
     let mut largest: u8 = 0;
     let mut needed: u8 = 0;
     let mut q: usize = 0;
-    while q < 64 {
+    while q < MAX_STATES {
         let v = marks[q];
         largest = greater(largest, v);
         needed = greater(needed, states_for(q as u8, v));
@@ -206,13 +209,13 @@ pub fn is_well_formed(m: Machine, list: &[u16]) -> bool
     if m.states < 1 {
         return false;
     }
-    if 64 < m.states {
+    if MAX_STATES < m.states {
         return false;
     }
-    if 250 < m.letters {
+    if MAX_LETTERS < m.letters {
         return false;
     }
-    if 4000 < m.transitions {
+    if MAX_TRANSITIONS < m.transitions {
         return false;
     }
     if list.len() < m.transitions * 3 {

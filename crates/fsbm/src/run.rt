@@ -10,6 +10,7 @@ use crate::answer;
 use crate::answer::Checked;
 use crate::answer::Refusal;
 use crate::config::Config;
+use crate::limits::LONGEST_CHECKED;
 use crate::machine;
 use crate::machine::Machine;
 
@@ -84,7 +85,7 @@ pub fn is_accepting_run(m: Machine, list: &[u16], word: &[u8], run: &[u16]) -> b
 pub fn check_run(m: Machine, list: &[u16], word: &[u8], run: &[u16]) -> Checked
     ensures { λ r. ⌜ (r ≡ checkAnswer m (now (list .entry)) (now (word .entry)) (now (run .entry))) × (checkedValues r ≡ checkValues m (now (list .entry)) (now (word .entry)) (now (run .entry))) ⌝ }
 {
-    let number = answer::table_and_word(1048576, m, list, word);
+    let number = answer::table_and_word(LONGEST_CHECKED, m, list, word);
     if number != 0 {
         return Checked::Refused(Refusal { number, needed: 0 });
     }

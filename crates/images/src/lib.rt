@@ -13,6 +13,7 @@ ghost use Rattle.fsbm.specs.Machine.{markOf};
 ghost use Rattle.fsbm.specs.declared.config.Mode.the-variants.{Normal, Buffering, Emptying};
 ghost use Rattle.images.specs.Graph.{Members, From, Star, graph, May, RowEdge, Edge, Free, Advance, EmptyCopy, Turn, Room, Good, KindsOf};
 use fsbm::config::Mode;
+use fsbm::limits::MAX_STATES;
 use fsbm::machine;
 
 // The set with q if yes, else the set.
@@ -42,7 +43,7 @@ pub struct Kinds {
 }
 
 // The states of each kind by their marks. Time: the states, each once.
-pub fn kinds_of(marks: &[u8; 64], states: usize) -> Kinds
+pub fn kinds_of(marks: &[u8; MAX_STATES], states: usize) -> Kinds
     requires { ⌜ states ≤ width ⌝ }
     ensures { λ r. ⌜ KindsOf (now (marks .entry)) states r ⌝ }
 {

@@ -12,26 +12,27 @@ ghost use Rattle.layers.specs.Layers.{blankRow, NoneBelow, Seeded, First
 use crate::row;
 use crate::row::NONE;
 use fsbm::config::Mode;
+use fsbm::limits::MAX_STATES;
 use fsbm::machine;
 use fsbm::machine::Machine;
 
 // The three rows of a place, the buffer empty. Where no copy ends there, that of emptying mode says none.
 pub struct Place {
-    pub normal: [u32; 64],
-    pub buffering: [u32; 64],
-    pub emptying: [u32; 64],
+    pub normal: [u32; MAX_STATES],
+    pub buffering: [u32; MAX_STATES],
+    pub emptying: [u32; MAX_STATES],
     pub ends: bool,
 }
 
 // A row that says none everywhere.
-pub fn blank() -> [u32; 64]
+pub fn blank() -> [u32; MAX_STATES]
     ensures { λ r. ⌜ r ≡ blankRow ⌝ }
 {
-    [NONE; 64]
+    [NONE; MAX_STATES]
 }
 
 // The row of the end of the word, in normal mode: 0 at the final states, none elsewhere.
-fn seeds(m: Machine) -> [u32; 64]
+fn seeds(m: Machine) -> [u32; MAX_STATES]
     requires { ⌜ m .states ≤ 64 ⌝ }
     ensures { λ r. ⌜ Seeded m (m .states) r ⌝ }
 {
@@ -47,7 +48,14 @@ fn seeds(m: Machine) -> [u32; 64]
 }
 
 // Lowers a row of buffering mode along the transitions that read nothing.
-fn close_buffering(m: Machine, list: &[u16], targets: &[u64], g: u64, h: u64, row: &mut [u32; 64])
+fn close_buffering(
+    m: Machine,
+    list: &[u16],
+    targets: &[u64],
+    g: u64,
+    h: u64,
+    row: &mut [u32; MAX_STATES],
+)
     requires { ⌜ Given m (now list) (now targets) g h ⌝ }
     ensures { λ r. ⌜ Closed m (now (list .entry)) (λ q. q < m .states) Buffering (now (row .entry)) (now (row .exit)) ⌝ }
 {
@@ -64,7 +72,14 @@ fn close_buffering(m: Machine, list: &[u16], targets: &[u64], g: u64, h: u64, ro
 }
 
 // Lowers a row of emptying mode along the transitions that read nothing: they lead from matching states.
-fn close_emptying(m: Machine, list: &[u16], targets: &[u64], g: u64, h: u64, row: &mut [u32; 64])
+fn close_emptying(
+    m: Machine,
+    list: &[u16],
+    targets: &[u64],
+    g: u64,
+    h: u64,
+    row: &mut [u32; MAX_STATES],
+)
     requires { ⌜ Given m (now list) (now targets) g h ⌝ }
     ensures { λ r. ⌜ Closed m (now (list .entry)) (λ q. q < m .states) Emptying (now (row .entry)) (now (row .exit)) ⌝ }
 {
@@ -80,8 +95,8 @@ pub fn emptying_layer(
     g: u64,
     h: u64,
     x: u16,
-    next: &[u32; 64],
-    row: &mut [u32; 64],
+    next: &[u32; MAX_STATES],
+    row: &mut [u32; MAX_STATES],
 ) -> bool
     requires { ⌜ Given m (now list) (now targets) g h × Row m (now list) (now targets) x × (now row ≡ blankRow) ⌝ }
     ensures { λ r. ⌜ EmptyingLayer m (now (list .entry)) x (now (next .entry)) (now (row .exit)) × (r ≡ false → now (row .exit) ≡ blankRow) ⌝ }
@@ -102,9 +117,9 @@ pub fn buffering_layer(
     g: u64,
     h: u64,
     x: u16,
-    next: &[u32; 64],
-    emptied: &[u32; 64],
-    row: &mut [u32; 64],
+    next: &[u32; MAX_STATES],
+    emptied: &[u32; MAX_STATES],
+    row: &mut [u32; MAX_STATES],
 ) -> bool
     requires { ⌜ Given m (now list) (now targets) g h × Row m (now list) (now targets) x × (now row ≡ blankRow) ⌝ }
     ensures { λ r. ⌜ BufferingLayer m (now (list .entry)) x (now (next .entry)) (now (emptied .entry)) (now (row .exit)) × (r ≡ false → now (row .exit) ≡ blankRow) ⌝ }
@@ -131,9 +146,9 @@ fn round(
     h: u64,
     near: u64,
     starts: u64,
-    normal: &mut [u32; 64],
-    buffering: &mut [u32; 64],
-    emptying: &mut [u32; 64],
+    normal: &mut [u32; MAX_STATES],
+    buffering: &mut [u32; MAX_STATES],
+    emptying: &mut [u32; MAX_STATES],
 ) -> bool
     requires { ⌜ Given m (now list) (now targets) g h × ((q : ℕ) → In near q → q < m .states) ⌝ }
     ensures { λ r. ⌜ Round m (now (list .entry)) near starts h (now (normal .entry)) (now (buffering .entry)) (now (emptying .entry)) (now (normal .exit)) (now (buffering .exit)) (now (emptying .exit)) r ⌝ }
@@ -161,8 +176,8 @@ fn close_shut(
     g: u64,
     h: u64,
     near: u64,
-    normal: &mut [u32; 64],
-    emptying: &mut [u32; 64],
+    normal: &mut [u32; MAX_STATES],
+    emptying: &mut [u32; MAX_STATES],
 )
     requires { ⌜ Given m (now list) (now targets) g h × ((q : ℕ) → In near q → q < m .states) ⌝ }
     ensures { λ r. ⌜ ((b : List ℕ) → ClosedPlace m (now (list .entry)) near 0 h (now (normal .entry)) b (now (emptying .entry)) (now (normal .exit)) b (now (emptying .exit))) ⌝ }
@@ -181,9 +196,9 @@ fn close_place(
     h: u64,
     near: u64,
     starts: u64,
-    normal: &mut [u32; 64],
-    buffering: &mut [u32; 64],
-    emptying: &mut [u32; 64],
+    normal: &mut [u32; MAX_STATES],
+    buffering: &mut [u32; MAX_STATES],
+    emptying: &mut [u32; MAX_STATES],
 )
     requires { ⌜ Given m (now list) (now targets) g h × ((q : ℕ) → In near q → q < m .states) ⌝ }
     ensures { λ r. ⌜ ClosedPlace m (now (list .entry)) near starts h (now (normal .entry)) (now (buffering .entry)) (now (emptying .entry)) (now (normal .exit)) (now (buffering .exit)) (now (emptying .exit)) ⌝ }
@@ -211,7 +226,7 @@ fn close_place(
 }
 
 // The row that normal mode starts from: 0 at the final states where the word is read to its end, else none.
-fn first_row(m: Machine, last: bool) -> [u32; 64]
+fn first_row(m: Machine, last: bool) -> [u32; MAX_STATES]
     requires { ⌜ m .states ≤ 64 ⌝ }
     ensures { λ r. ⌜ FirstRow m last r ⌝ }
 {
@@ -243,8 +258,8 @@ pub fn place_layer(
     near: u64,
     last: bool,
     x: u16,
-    onward: &[u32; 64],
-    storing: &[u32; 64],
+    onward: &[u32; MAX_STATES],
+    storing: &[u32; MAX_STATES],
 ) -> Place
     requires { ⌜ Given m (now list) (now targets) g h × Row m (now list) (now targets) x × ((q : ℕ) → In near q → q < m .states) ⌝ }
     ensures { λ r. ⌜ PlaceLayer m (now (list .entry)) near last x (now (onward .entry)) (now (storing .entry)) (r .normal) (r .buffering) (r .emptying)

@@ -14,6 +14,7 @@ ghost use Rattle.targets.specs.Prepared.{Row};
 ghost use Rattle.layers.specs.Costs.{none, at};
 ghost use Rattle.layers.specs.Rows.{Given, Lowered, Lowering, Through, Reads, Beside, Only, Within, Cut, Apart, Glance, Seen, LeastOf, Closed, lesserOf};
 use fsbm::config::Mode;
+use fsbm::limits::MAX_STATES;
 use fsbm::machine::Machine;
 
 // The number that says that there is no way to acceptance.
@@ -85,7 +86,7 @@ fn smaller(a: u32, b: u32) -> u32
 }
 
 // The least number of the states below a number.
-fn least_below(row: &[u32; 64], states: usize) -> u32
+fn least_below(row: &[u32; MAX_STATES], states: usize) -> u32
     requires { ⌜ states ≤ 64 ⌝ }
     ensures { λ r. ⌜ ((q : ℕ) → q < states → r ≤ at (now (row .entry)) q) ⌝ }
 {
@@ -99,7 +100,7 @@ fn least_below(row: &[u32; 64], states: usize) -> u32
 }
 
 // The row at a glance. Two loops with no branches in them: which states have a number is hard to foresee.
-fn glance(row: &[u32; 64], states: usize) -> Sum
+fn glance(row: &[u32; MAX_STATES], states: usize) -> Sum
     requires { ⌜ states ≤ 64 ⌝ }
     ensures { λ r. ⌜ Glance (now (row .entry)) states r ⌝ }
 {
@@ -117,7 +118,7 @@ fn glance(row: &[u32; 64], states: usize) -> Sum
 }
 
 // The least number of the states of a set. Time: the members of the set, each once.
-fn least_of(row: &[u32; 64], set: u64) -> u32
+fn least_of(row: &[u32; MAX_STATES], set: u64) -> u32
     ensures { λ r. ⌜ LeastOf (now (row .entry)) set r ⌝ }
 {
     let mut least = NONE;
@@ -131,7 +132,7 @@ fn least_of(row: &[u32; 64], set: u64) -> u32
 }
 
 // The same of states that have numbers, from what the row shows at a glance where that tells it.
-fn least_in(row: &[u32; 64], s: Sum, set: u64) -> u32
+fn least_in(row: &[u32; MAX_STATES], s: Sum, set: u64) -> u32
     requires { ⌜ Seen (now row) set s ⌝ }
     ensures { λ r. ⌜ LeastOf (now (row .entry)) set r ⌝ }
 {
@@ -156,7 +157,7 @@ fn lesser(v: u32, d: u32) -> u32
 }
 
 // Lowers the number of state a to v + 1 where that is less, and says whether it was.
-fn lower(row: &mut [u32; 64], a: usize, v: u32) -> bool
+fn lower(row: &mut [u32; MAX_STATES], a: usize, v: u32) -> bool
     requires { ⌜ a < 64 ⌝ }
     ensures { λ r. ⌜ Lowered (now (row .entry)) a v (now (row .exit)) r ⌝ }
 {
@@ -178,10 +179,10 @@ fn visit(
     h: u64,
     mode: Mode,
     x: u16,
-    next: &[u32; 64],
+    next: &[u32; MAX_STATES],
     s: Sum,
     a: usize,
-    row: &mut [u32; 64],
+    row: &mut [u32; MAX_STATES],
 ) -> bool
     requires { ⌜ Given m (now list) (now targets) g h × Row m (now list) (now targets) x × (a < m .states) × Glance (now next) (m .states) s ⌝ }
     ensures { λ r. ⌜ Lowering (Only (Through m (now (list .entry)) mode x (now (next .entry))) a) (now (row .entry)) (now (row .exit)) r ⌝ }
@@ -206,8 +207,8 @@ fn pass(
     mode: Mode,
     x: u16,
     set: u64,
-    next: &[u32; 64],
-    row: &mut [u32; 64],
+    next: &[u32; MAX_STATES],
+    row: &mut [u32; MAX_STATES],
 ) -> bool
     requires { ⌜ Given m (now list) (now targets) g h × Row m (now list) (now targets) x × ((q : ℕ) → In set q → q < m .states) ⌝ }
     ensures { λ r. ⌜ Lowering (Within (Through m (now (list .entry)) mode x (now (next .entry))) set) (now (row .entry)) (now (row .exit)) r ⌝ }
@@ -235,8 +236,8 @@ pub fn read(
     mode: Mode,
     x: u16,
     set: u64,
-    next: &[u32; 64],
-    row: &mut [u32; 64],
+    next: &[u32; MAX_STATES],
+    row: &mut [u32; MAX_STATES],
 ) -> bool
     requires { ⌜ Given m (now list) (now targets) g h × Row m (now list) (now targets) x × ((q : ℕ) → In set q → q < m .states) ⌝ }
     ensures { λ r. ⌜ Lowering (Within (Reads m (now (list .entry)) mode x (now (next .entry))) set) (now (row .entry)) (now (row .exit)) r ⌝ }
@@ -256,7 +257,7 @@ pub fn close(
     h: u64,
     mode: Mode,
     set: u64,
-    row: &mut [u32; 64],
+    row: &mut [u32; MAX_STATES],
 )
     requires { ⌜ Given m (now list) (now targets) g h × ((q : ℕ) → In set q → q < m .states) ⌝ }
     ensures { λ r. ⌜ Closed m (now (list .entry)) (In set) mode (now (row .entry)) (now (row .exit)) ⌝ }
@@ -275,7 +276,7 @@ pub fn close(
 
 // Lowers the numbers of the states of a set along the changes of mode into the row `next`, and says whether any number fell.
 // Time: the states of the set, each once.
-pub fn change(set: u64, next: &[u32; 64], row: &mut [u32; 64]) -> bool
+pub fn change(set: u64, next: &[u32; MAX_STATES], row: &mut [u32; MAX_STATES]) -> bool
     ensures { λ r. ⌜ Lowering (Within (Beside (now (next .entry))) set) (now (row .entry)) (now (row .exit)) r ⌝ }
 {
     let mut fell = false;
@@ -291,7 +292,7 @@ pub fn change(set: u64, next: &[u32; 64], row: &mut [u32; 64]) -> bool
 }
 
 // Whether a row says none at every state.
-pub fn is_blank(row: &[u32; 64], states: usize) -> bool
+pub fn is_blank(row: &[u32; MAX_STATES], states: usize) -> bool
     requires { ⌜ states ≤ 64 ⌝ }
     ensures { λ r. ⌜ (r ≡ true → (q : ℕ) → q < states → none ≤ at (now (row .entry)) q) ⌝ }
 {

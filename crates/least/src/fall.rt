@@ -8,13 +8,13 @@ ghost use Rattle.pieces.specs.Blocks.{nothing};
 ghost use Rattle.blocks.specs.Works.{Kind, Ready};
 ghost use Rattle.least.specs.Falls.{Falls, Single, Step, Steps, NormalFrom, Enterable};
 use blocks::gather;
+use blocks::sizes::MOST_KEYS;
+use blocks::sizes::MOST_STATES;
+use blocks::sizes::NOTHING;
 use fsbm::machine::Machine;
 
-// The number that says "no way".
-const NONE: u64 = 4611686018427387904;
-
 // Lowers the number of q to v and adds q to the set, where v is less; the set then.
-pub fn fall(d: &mut [u64; 64], got: u64, q: usize, v: u64) -> u64
+pub fn fall(d: &mut [u64; MOST_STATES], got: u64, q: usize, v: u64) -> u64
     requires { ⌜ (length (now d) ≡ 64) × (q < 64) ⌝ }
     ensures { λ r. ⌜ Falls (Single q v) (Single q v) (now (d .entry)) got (now (d .exit)) r ⌝ }
 {
@@ -36,7 +36,7 @@ pub fn weight(x: u16) -> u64
 }
 
 // The same for the state that transition k enters, if it is a member of may, with n and the weight of the transition for v.
-fn step(list: &[u16], k: usize, may: u64, n: u64, d: &mut [u64; 64], got: u64) -> u64
+fn step(list: &[u16], k: usize, may: u64, n: u64, d: &mut [u64; MOST_STATES], got: u64) -> u64
     requires { ⌜ (k * 3 + 3 ≤ length (now list)) × (n < nothing) × (length (now d) ≡ 64) ⌝ }
     ensures { λ r. ⌜ Falls (Step (now (list .entry)) k may n) (Step (now (list .entry)) k may n) (now (d .entry)) got (now (d .exit)) r ⌝ }
 {
@@ -49,7 +49,15 @@ fn step(list: &[u16], k: usize, may: u64, n: u64, d: &mut [u64; 64], got: u64) -
 }
 
 // The same for the transitions of lo, .., hi - 1.
-fn steps(list: &[u16], lo: usize, hi: usize, may: u64, n: u64, d: &mut [u64; 64], got: u64) -> u64
+fn steps(
+    list: &[u16],
+    lo: usize,
+    hi: usize,
+    may: u64,
+    n: u64,
+    d: &mut [u64; MOST_STATES],
+    got: u64,
+) -> u64
     requires { ⌜ (hi * 3 ≤ length (now list)) × (n < nothing) × (length (now d) ≡ 64) ⌝ }
     ensures { λ r. ⌜ Falls (Steps (now (list .entry)) lo hi may n) (Steps (now (list .entry)) lo hi may n) (now (d .entry)) got (now (d .exit)) r ⌝ }
 {
@@ -78,11 +86,11 @@ fn enterable(h: u64, q: usize) -> u64
 pub fn normal(
     m: Machine,
     list: &[u16],
-    index: &[u16; 16065],
+    index: &[u16; MOST_KEYS],
     g: u64,
     h: u64,
     q: usize,
-    d: &mut [u64; 64],
+    d: &mut [u64; MOST_STATES],
     got: u64,
 ) -> u64
     requires { ⌜ Ready m (now list) (now index) h × Kind (buffering (m .marks)) g ⌝ }
@@ -96,7 +104,7 @@ pub fn normal(
         return got;
     }
     let n = d[q];
-    if NONE <= n {
+    if NOTHING <= n {
         return got;
     }
     let stride = m.letters + 1;

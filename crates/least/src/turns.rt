@@ -18,12 +18,15 @@ ghost use Rattle.least.specs.Turns.{Entered, EnteredBy, NormalTurn, Lowe
 use crate::fall;
 use blocks::block;
 use blocks::readers;
+use blocks::sizes::MOST_KEYS;
+use blocks::sizes::MOST_PAIRS;
+use blocks::sizes::MOST_READERS;
+use blocks::sizes::MOST_STATES;
+use blocks::sizes::NOTHING;
+use fsbm::limits::MAX_STATES;
 use fsbm::machine;
 use fsbm::machine::Machine;
 use images::Kinds;
-
-// The number that says "no way".
-const NONE: u64 = 4611686018427387904;
 
 // The set with the state that transition k enters, if that is a matching state and transition k does not leave one. h has the matching
 // states.
@@ -59,10 +62,10 @@ pub fn ends(m: Machine, list: &[u16], h: u64) -> u64
 fn settle(
     m: Machine,
     list: &[u16],
-    index: &[u16; 16065],
+    index: &[u16; MOST_KEYS],
     g: u64,
     h: u64,
-    d: &mut [u64; 64],
+    d: &mut [u64; MOST_STATES],
     fresh: u64,
 ) -> u64
     requires { ⌜ Ready m (now list) (now index) h × Kind (buffering (m .marks)) g ⌝ }
@@ -91,7 +94,7 @@ fn greater(a: u64, b: u64) -> u64
 }
 
 // The largest number of a member of h, or the limit where that is less.
-fn largest(h: u64, d: &[u64; 64], limit: u64) -> u64
+fn largest(h: u64, d: &[u64; MOST_STATES], limit: u64) -> u64
     requires { ⌜ limit ≤ nothing ⌝ }
     ensures { λ r. ⌜ Tops limit h (now (d .entry)) r ⌝ }
 {
@@ -109,7 +112,7 @@ fn largest(h: u64, d: &[u64; 64], limit: u64) -> u64
 }
 
 // Lowers the number of z to v + 2 and adds z to the set, where that is less and v is less than top; the set then.
-fn end(d: &mut [u64; 64], got: u64, z: usize, v: u64, top: u64) -> u64
+fn end(d: &mut [u64; MOST_STATES], got: u64, z: usize, v: u64, top: u64) -> u64
     requires { ⌜ (length (now d) ≡ 64) × (z < 64) × (top ≤ nothing) ⌝ }
     ensures { λ r. ⌜ Falls (End top z v) (End top z v) (now (d .entry)) got (now (d .exit)) r ⌝ }
 {
@@ -121,11 +124,11 @@ fn end(d: &mut [u64; 64], got: u64, z: usize, v: u64, top: u64) -> u64
 
 // Notes the guess for z, where the number of z is reached along a copy with it: v is the number of the copy's last pair. Of the notes
 // nothing is promised.
-fn note(hints: &mut [u8; 64], d: &[u64; 64], guess: u8, z: usize, v: u64) {
+fn note(hints: &mut [u8; MAX_STATES], d: &[u64; MOST_STATES], guess: u8, z: usize, v: u64) {
     if 64 <= z {
         return;
     }
-    if NONE <= v {
+    if NOTHING <= v {
         return;
     }
     if d[z] == v + 2 {
@@ -136,11 +139,11 @@ fn note(hints: &mut [u8; 64], d: &[u64; 64], guess: u8, z: usize, v: u64) {
 // The same for each matching state, with its number in row guess of the block for v. h has the matching states. The guess is noted for
 // each state whose number is reached so.
 fn end_all(
-    b: &[u64; 4096],
+    b: &[u64; MOST_PAIRS],
     guess: usize,
     h: u64,
-    d: &mut [u64; 64],
-    hints: &mut [u8; 64],
+    d: &mut [u64; MOST_STATES],
+    hints: &mut [u8; MAX_STATES],
     got: u64,
     top: u64,
 ) -> u64
@@ -163,15 +166,15 @@ fn end_all(
 fn guessed(
     m: Machine,
     list: &[u16],
-    index: &[u16; 16065],
-    readers: &[u64; 251],
+    index: &[u16; MOST_KEYS],
+    readers: &[u64; MOST_READERS],
     g: u64,
     h: u64,
     guess: usize,
     set: u64,
-    b: &mut [u64; 4096],
-    d: &mut [u64; 64],
-    hints: &mut [u8; 64],
+    b: &mut [u64; MOST_PAIRS],
+    d: &mut [u64; MOST_STATES],
+    hints: &mut [u8; MAX_STATES],
     got: u64,
     limit: u64,
 ) -> u64
@@ -185,7 +188,7 @@ fn guessed(
 }
 
 // The limit, or one more than the number of the final state f, where that is less.
-fn lower_limit(marks: &[u8; 64], d: &[u64; 64], f: usize, limit: u64) -> u64
+fn lower_limit(marks: &[u8; MAX_STATES], d: &[u64; MOST_STATES], f: usize, limit: u64) -> u64
     requires { ⌜ f < 64 ⌝ }
     ensures { λ r. ⌜ Lowered (now (marks .entry)) (now (d .entry)) limit r ⌝ }
 {
@@ -203,7 +206,7 @@ fn lower_limit(marks: &[u8; 64], d: &[u64; 64], f: usize, limit: u64) -> u64
 }
 
 // The limit, or one more than the least number of a final state, where that is less: no copy of a larger number leads to a shorter word.
-fn lowered(marks: &[u8; 64], d: &[u64; 64], limit: u64) -> u64
+fn lowered(marks: &[u8; MAX_STATES], d: &[u64; MOST_STATES], limit: u64) -> u64
     ensures { λ r. ⌜ Lowered (now (marks .entry)) (now (d .entry)) limit r ⌝ }
 {
     let mut least = limit;
@@ -226,15 +229,15 @@ pub struct Turned {
 fn copies(
     m: Machine,
     list: &[u16],
-    index: &[u16; 16065],
-    readers: &[u64; 251],
+    index: &[u16; MOST_KEYS],
+    readers: &[u64; MOST_READERS],
     g: u64,
     h: u64,
     storing: u64,
     set: u64,
-    b: &mut [u64; 4096],
-    d: &mut [u64; 64],
-    hints: &mut [u8; 64],
+    b: &mut [u64; MOST_PAIRS],
+    d: &mut [u64; MOST_STATES],
+    hints: &mut [u8; MAX_STATES],
     first: u64,
 ) -> Turned
     requires { ⌜ Ready m (now list) (now index) h × Kind (buffering (m .marks)) g × Readers m (now list) (now readers) ⌝ }
@@ -268,18 +271,18 @@ fn copies(
     Turned { fresh: got, limit }
 }
 
-// The first number of q: 0 where it is initial, else NONE.
+// The first number of q: 0 where it is initial, else NOTHING.
 fn first(initial: u64, q: usize) -> u64
     ensures { λ r. ⌜ r ≡ firstOf (has initial q) ⌝ }
 {
     if stateset::member(initial, q) {
         return 0;
     }
-    NONE
+    NOTHING
 }
 
 // The first numbers of all states.
-fn start(initial: u64, d: &mut [u64; 64])
+fn start(initial: u64, d: &mut [u64; MOST_STATES])
     requires { ⌜ length (now d) ≡ 64 ⌝ }
     ensures { λ r. ⌜ First initial (now (d .exit)) ⌝ }
 {
@@ -294,13 +297,13 @@ fn start(initial: u64, d: &mut [u64; 64])
 fn turns(
     m: Machine,
     list: &[u16],
-    index: &[u16; 16065],
-    readers: &[u64; 251],
+    index: &[u16; MOST_KEYS],
+    readers: &[u64; MOST_READERS],
     kinds: Kinds,
     storing: u64,
-    b: &mut [u64; 4096],
-    d: &mut [u64; 64],
-    hints: &mut [u8; 64],
+    b: &mut [u64; MOST_PAIRS],
+    d: &mut [u64; MOST_STATES],
+    hints: &mut [u8; MAX_STATES],
 )
     requires { ⌜ Ready m (now list) (now index) (kinds .matching) × Kind (buffering (m .marks)) (kinds .buffering) × KindsOf (m .marks) (m .states) kinds × Readers m (now list) (now readers) ⌝ }
     requires { ⌜ First (kinds .initial) (now d) × (length (now b) ≡ 4096) × Past m (now b) ⌝ }
@@ -310,7 +313,7 @@ fn turns(
     let g = kinds.buffering;
     let h = kinds.matching;
     let mut fresh = kinds.initial;
-    let mut limit = NONE;
+    let mut limit = NOTHING;
     loop {
         let started = settle(m, list, index, g, h, d, fresh);
         let set = stateset::intersection(started, g);
@@ -336,7 +339,7 @@ fn turns(
     }
 }
 
-// The least weight from a start to each state in normal mode, or NONE: letters × 2^32 + moves. They are known as far as the least one of a
+// The least weight from a start to each state in normal mode, or NOTHING: letters × 2^32 + moves. They are known as far as the least one of a
 // final state; larger numbers may stand above the least weight. index is the index of the list
 // (blocks::index), kinds has its sets of states (images::kinds_of), b is a block in which nothing stands past the last state. hints gets for
 // each state a guess with which a copy reaches its number, if there is one; of it nothing is promised.
@@ -344,11 +347,11 @@ fn turns(
 pub fn costs(
     m: Machine,
     list: &[u16],
-    index: &[u16; 16065],
+    index: &[u16; MOST_KEYS],
     kinds: Kinds,
-    b: &mut [u64; 4096],
-    d: &mut [u64; 64],
-    hints: &mut [u8; 64],
+    b: &mut [u64; MOST_PAIRS],
+    d: &mut [u64; MOST_STATES],
+    hints: &mut [u8; MAX_STATES],
 )
     requires { ⌜ Ready m (now list) (now index) (kinds .matching) × Kind (buffering (m .marks)) (kinds .buffering) × KindsOf (m .marks) (m .states) kinds ⌝ }
     requires { ⌜ (length (now d) ≡ 64) × (length (now b) ≡ 4096) × Past m (now b) ⌝ }

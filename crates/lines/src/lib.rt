@@ -16,6 +16,9 @@ use images::Kinds;
 // The most bytes of a word's line: 160 letters in columns of five.
 pub const LONGEST: usize = 800;
 
+// The letters of such a line.
+const LETTERS: usize = 160;
+
 // What is printed for a word: 1 yes, 0 no, 2 turned down; and the refusal's number or 0.
 pub struct Answer {
     pub answer: u8,
@@ -91,7 +94,7 @@ pub fn answer_line(m: Machine, list: &[u16], targets: &[u64], kinds: Kinds, line
     requires { ⌜ Ready m (now list) (now targets) kinds ⌝ }
     ensures { λ r. ⌜ r ≡ lineAnswer m (now (list .entry)) (now (line .entry)) ⌝ }
 {
-    let mut word = [0u8; 160];
+    let mut word = [0u8; LETTERS];
     let refusal = read_word(m.letters, line, &mut word);
     if refusal != 0 {
         return Answer { answer: 2, refusal };

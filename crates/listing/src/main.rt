@@ -15,11 +15,16 @@ ghost use Rattle.fsbm.specs.Machine.{wellFormed};
 ghost use Rattle.lines.specs.Line.{Ready};
 ghost use Rattle.stream.specs.Pieces.{mostKept, opening};
 ghost use Rattle.listing.specs.Output.{ReadFrom, HeldAfter, NextBytes, LastBytes, Buffers, PieceListed, done};
+use fsbm::limits::LIST_LENGTH;
 use fsbm::machine::Machine;
 use images::Kinds;
 use libc::STDIN_FILENO;
 use libc::STDOUT_FILENO;
 use stream::Held;
+use targets::MOST_SETS;
+
+// The bytes of a line that are kept: one more than a word's line may have, which shows that it is too long.
+const LINE: usize = 801;
 
 // What a piece leaves: what is held, how many bytes of input came, and whether the output is closed, since a write has failed.
 pub struct Turn {
@@ -170,24 +175,24 @@ fn list_words(sheet: &[u8], m: Machine, list: &[u16], targets: &[u64], kinds: Ki
 }
 
 // Room for a line and one byte more.
-fn line_buffer() -> [u8; 801]
+fn line_buffer() -> [u8; LINE]
     ensures { λ r. ⌜ 801 ≡ length r ⌝ }
 {
-    [0; 801]
+    [0; LINE]
 }
 
 // Room for the transitions of the largest table.
-fn transition_buffer() -> [u16; 12000]
+fn transition_buffer() -> [u16; LIST_LENGTH]
     ensures { λ r. ⌜ 12000 ≡ length r ⌝ }
 {
-    [0; 12000]
+    [0; LIST_LENGTH]
 }
 
 // Room for the sets of the largest prepared table.
-fn target_buffer() -> [u64; 16130]
+fn target_buffer() -> [u64; MOST_SETS]
     ensures { λ r. ⌜ (16130 ≡ length r) × ((i : ℕ) → getD r i 0 ≡ 0) ⌝ }
 {
-    [0; 16130]
+    [0; MOST_SETS]
 }
 
 // Prepares the table once, and lists the words of standard input over it.

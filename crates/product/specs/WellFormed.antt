@@ -18,7 +18,7 @@ use Rattle.basics.specs.Search.{allBelow}
 use Rattle.basics.specs.Search.Laws.{and-both-true, allBelow-true}
 use Rattle.basics.specs.Search.Loops.{first, second}
 use Rattle.fsbm.specs.Machine.{maxStates, maxLetters, maxTransitions, markOf, initial, final, buffering, matching, transitionAt, goodMark, named, precedes, goodTransition, wellFormed}
-use Rattle.fsbm.specs.Rules.{one-kind}
+use Rattle.fsbm.specs.Rules.{one-kind, tested}
 use Rattle.fsbm.specs.declared.machine.Machine.{Machine}
 use Rattle.fsbm.specs.declared.machine.Transition.{Transition}
 use Rattle.basics.specs.Bools.{cond-elim, says-not-and}
@@ -211,20 +211,19 @@ module _ (m₁ : Machine) (l₁ : List ℕ) (m₂ : Machine) (l₂ : List ℕ) (
       (transition-named (suc k) lt) (rw (eqb·suc-zero, sub-one) (transition-rises k lt))
 
   pub joined-well-formed : wellFormed (joinedMachine m₁ l₁ m₂ l₂) (joinedTransitions m₁ l₁ m₂ l₂ ++ rest) ≡ true
-  unfolding wellFormed joinedMachine
+  unfolding joinedMachine
   joined-well-formed =
       let j = joinable m₁ l₁ m₂ l₂ fine in
-      let list = joinedTransitions m₁ l₁ m₂ l₂ ++ rest in
       let count = joinedCount m₁ l₁ m₂ l₂ in
-      let states = m₁ .states * m₂ .states in
-      let marks = allBelow maxStates (goodMark (joinedMachine m₁ l₁ m₂ l₂)) in
-      let moves = allBelow count (goodTransition states (m₁ .letters) list) in
-      let some : 1 * 1 ≤ states = mul-le-mul (j .first .some-state) (j .second .some-state) in
-      let long : count * 3 ≤ length list =
-      let both = length-append (joinedTransitions m₁ l₁ m₂ l₂) rest in let size = joined-length m₁ l₁ m₂ l₂ fine in omega arith in
-      and-both-true (leb 1 states) (leb states maxStates && (leb (m₁ .letters) maxLetters && (leb count maxTransitions && (leb (count * 3) (length list) && (marks && moves))))) (le-leb 1 states some)
-      (and-both-true (leb states maxStates) (leb (m₁ .letters) maxLetters && (leb count maxTransitions && (leb (count * 3) (length list) && (marks && moves)))) (le-leb states maxStates (j .few-states))
-      (and-both-true (leb (m₁ .letters) maxLetters) (leb count maxTransitions && (leb (count * 3) (length list) && (marks && moves))) (le-leb (m₁ .letters) maxLetters (j .first .letters-fit))
-      (and-both-true (leb count maxTransitions) (leb (count * 3) (length list) && (marks && moves)) (le-leb count maxTransitions (j .few-transitions))
-      (and-both-true (leb (count * 3) (length list)) (marks && moves) (le-leb (count * 3) (length list) long)
-      (and-both-true marks moves (allBelow-true (goodMark (joinedMachine m₁ l₁ m₂ l₂)) maxStates .1 (mark-good j)) (allBelow-true (goodTransition states (m₁ .letters) list) count .1 transition-good))))))
+      let some : 1 * 1 ≤ m₁ .states * m₂ .states = mul-le-mul (j .first .some-state) (j .second .some-state) in
+      tested (joinedMachine m₁ l₁ m₂ l₂) (joinedTransitions m₁ l₁ m₂ l₂ ++ rest) .1
+      (record {
+        counts = record { some = some; few-states = j .few-states; few-letters = j .first .letters-fit; few-transitions = j .few-transitions };
+        long =
+            let both = length-append (joinedTransitions m₁ l₁ m₂ l₂) rest in
+            let size = joined-length m₁ l₁ m₂ l₂ fine in
+            let long : count * 3 ≤ length (joinedTransitions m₁ l₁ m₂ l₂ ++ rest) = omega arith in
+            long;
+        marks = mark-good j;
+        transitions = transition-good;
+      })

@@ -7,10 +7,12 @@ ghost use Rattle.basics.specs.Search.{allBelow};
 ghost use Rattle.fsbm.specs.Machine.{transitionAt, wellFormed};
 ghost use Rattle.product.specs.Each.{sumOver, zerosOf};
 ghost use Rattle.product.specs.Product.{plainState, plainTransition, plain, letterCount, joinedCount, joinFault};
+use fsbm::limits::MAX_STATES;
+use fsbm::limits::MAX_TRANSITIONS;
 use fsbm::machine;
 use fsbm::machine::Machine;
 
-fn plain_state(marks: &[u8; 64], q: usize) -> bool
+fn plain_state(marks: &[u8; MAX_STATES], q: usize) -> bool
     ensures { λ r. ⌜ r ≡ plainState (now (marks .entry)) q ⌝ }
 {
     if machine::is_buffering(marks, q) {
@@ -20,7 +22,7 @@ fn plain_state(marks: &[u8; 64], q: usize) -> bool
 }
 
 // Whether none of the first n states is buffering or matching.
-fn plain_states(marks: &[u8; 64], n: usize) -> bool
+fn plain_states(marks: &[u8; MAX_STATES], n: usize) -> bool
     ensures { λ r. ⌜ r ≡ allBelow n (plainState (now (marks .entry))) ⌝ }
 {
     let mut q = n;
@@ -162,14 +164,14 @@ pub fn first_fault(
             transitions: 0,
         };
     }
-    if 64 < first.states * second.states {
+    if MAX_STATES < first.states * second.states {
         return Joint {
             fault: 12,
             transitions: 0,
         };
     }
     let transitions = count_joined(first, first_list, second, second_list);
-    if 4000 < transitions {
+    if MAX_TRANSITIONS < transitions {
         return Joint {
             fault: 13,
             transitions: 0,

@@ -17,6 +17,11 @@ ghost use Rattle.product.specs.Letters.{Marked, Matches, KeySet, Starts,
 ghost use Rattle.product.specs.Order.{letterKey};
 use fsbm::machine;
 
+// The keys of a state and a letter, 256 for each state, and the sets of 64 keys that hold them.
+pub const KEYS: usize = 16384;
+
+pub const KEY_SETS: usize = 256;
+
 // The key of transition k: its from-state and letter as one number.
 pub fn key(list: &[u16], k: usize) -> usize
     ensures { λ r. ⌜ r ≡ letterKey (now (list .entry)) k ⌝ }
@@ -26,14 +31,14 @@ pub fn key(list: &[u16], k: usize) -> usize
 }
 
 // The set of no keys.
-fn no_keys() -> [u64; 256]
+fn no_keys() -> [u64; KEY_SETS]
     ensures { λ r. ⌜ r ≡ zerosOf 256 ⌝ }
 {
-    [0; 256]
+    [0; KEY_SETS]
 }
 
 // The set of the keys of the first n transitions.
-pub fn key_set(list: &[u16], n: usize) -> [u64; 256]
+pub fn key_set(list: &[u16], n: usize) -> [u64; KEY_SETS]
     requires { ⌜ ((k : ℕ) → k < n → letterKey (now list) k < 16384) ⌝ }
     ensures { λ r. ⌜ KeySet (now (list .entry)) n r ⌝ }
 {
@@ -48,14 +53,14 @@ pub fn key_set(list: &[u16], n: usize) -> [u64; 256]
 }
 
 // A number for each key, all 0.
-pub fn no_starts() -> [u16; 16384]
+pub fn no_starts() -> [u16; KEYS]
     ensures { λ r. ⌜ r ≡ zerosOf 16384 ⌝ }
 {
-    [0; 16384]
+    [0; KEYS]
 }
 
 // Notes at the key of each of the first n transitions the first of them that has it: the last transition is noted first.
-pub fn note_starts(list: &[u16], n: usize, starts: &mut [u16; 16384])
+pub fn note_starts(list: &[u16], n: usize, starts: &mut [u16; KEYS])
     requires { ⌜ length (now starts) ≡ 16384 ⌝ }
     requires { ⌜ (n ≤ 4000) × ((k : ℕ) → k < n → letterKey (now list) k < 16384) ⌝ }
     ensures { λ r. ⌜ Starts (now (list .entry)) n (now (starts .exit)) ⌝ }
@@ -69,7 +74,13 @@ pub fn note_starts(list: &[u16], n: usize, starts: &mut [u16; 16384])
 
 // Word w, of four, of the letters by which state p of the first moves at state r of the second: epsilon, by which it moves alone, and
 // those that r has too.
-fn common_word(first: &[u64; 256], p: usize, second: &[u64; 256], r: usize, w: usize) -> u64
+fn common_word(
+    first: &[u64; KEY_SETS],
+    p: usize,
+    second: &[u64; KEY_SETS],
+    r: usize,
+    w: usize,
+) -> u64
     requires { ⌜ (p < 64) × (r < 64) × (w < 4) ⌝ }
     ensures { λ v. ⌜ ((c : ℕ) → c < 64 → In v c ↔ (Marked (now (first .entry)) (p * 256 + (w * 64 + c)) × Matches (now (second .entry)) r (w * 64 + c))) ⌝ }
 {
@@ -82,7 +93,12 @@ fn common_word(first: &[u64; 256], p: usize, second: &[u64; 256], r: usize, w: u
 }
 
 // The letters by which state p of the first moves at state r of the second.
-pub fn common_letters(first: &[u64; 256], p: usize, second: &[u64; 256], r: usize) -> [u64; 4]
+pub fn common_letters(
+    first: &[u64; KEY_SETS],
+    p: usize,
+    second: &[u64; KEY_SETS],
+    r: usize,
+) -> [u64; 4]
     requires { ⌜ (p < 64) × (r < 64) ⌝ }
     ensures { λ v. ⌜ Common (now (first .entry)) p (now (second .entry)) r v ⌝ }
 {

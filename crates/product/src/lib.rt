@@ -10,6 +10,7 @@ ghost use lib.ListN.{length};
 ghost use Rattle.fsbm.specs.Answers.{noMachine};
 ghost use Rattle.product.specs.Product.{joinAnswer, joinAfter};
 use fsbm::answer::Refusal;
+use fsbm::limits::MAX_STATES;
 use fsbm::machine::Machine;
 
 pub mod fault;
@@ -33,7 +34,7 @@ fn refused(number: u8, needed: usize) -> Product
             states: 0,
             letters: 0,
             transitions: 0,
-            marks: [0; 64],
+            marks: [0; MAX_STATES],
         },
     }
 }

@@ -4,6 +4,7 @@ ghost use mathlib.Core.Path.{_≡_};
 ghost use mathlib.Core.Bool.{cond, _&&_};
 ghost use Rattle.product.specs.Each.{zerosOf};
 ghost use Rattle.product.specs.Product.{pairMark, joinedMark, joinedMarks};
+use fsbm::limits::MAX_STATES;
 use fsbm::machine;
 use fsbm::machine::Machine;
 
@@ -28,7 +29,7 @@ fn flag(b: bool, v: u8) -> u8
 }
 
 // The mark of the pair (p, r): initial and final where both states are, buffering and matching as p.
-fn pair_mark(first: &[u8; 64], p: usize, second: &[u8; 64], r: usize) -> u8
+fn pair_mark(first: &[u8; MAX_STATES], p: usize, second: &[u8; MAX_STATES], r: usize) -> u8
     ensures { λ v. ⌜ v ≡ pairMark (now (first .entry)) p (now (second .entry)) r ⌝ }
 {
     let initial = flag(
@@ -65,21 +66,21 @@ fn joined_mark(first: Machine, second: Machine, q: usize) -> u8
 }
 
 // 64 zeros.
-fn zeros() -> [u8; 64]
+fn zeros() -> [u8; MAX_STATES]
     ensures { λ r. ⌜ r ≡ zerosOf 64 ⌝ }
 {
-    [0; 64]
+    [0; MAX_STATES]
 }
 
 // The marks of all 64 states.
-pub fn joined_marks(first: Machine, second: Machine) -> [u8; 64]
+pub fn joined_marks(first: Machine, second: Machine) -> [u8; MAX_STATES]
     requires { ⌜ first .states * second .states ≤ 64 ⌝ }
     requires { ⌜ 1 ≤ second .states ⌝ }
     ensures { λ r. ⌜ r ≡ joinedMarks first second ⌝ }
 {
     let mut marks = zeros();
     let mut q: usize = 0;
-    while q < 64 {
+    while q < MAX_STATES {
         marks[q] = joined_mark(first, second, q);
         q += 1;
     }

@@ -16,6 +16,8 @@ ghost use Rattle.product.specs.Letters.{Indexed, Searching, NextMove};
 ghost use Rattle.product.specs.Order.{Lower, Block, Moving};
 ghost use Rattle.product.specs.Product.{jointMoves, flat, joinedFrom, joinedTransitions, joinFault};
 use crate::letters;
+use crate::letters::KEY_SETS;
+use crate::letters::KEYS;
 use fsbm::machine;
 use fsbm::machine::Machine;
 use fsbm::machine::Transition;
@@ -93,7 +95,7 @@ fn write_letter(
 fn write_moves(
     t: Transition,
     second_list: &[u16],
-    starts: &[u16; 16384],
+    starts: &[u16; KEYS],
     count: usize,
     n: u16,
     r: u16,
@@ -128,7 +130,7 @@ fn write_moves(
 // The first transition from i up to hi, all from state p, whose letter is in the set; hi where there is none.
 fn next_move(
     list: &[u16],
-    starts: &[u16; 16384],
+    starts: &[u16; KEYS],
     letters: &[u64; 4],
     p: usize,
     i: usize,
@@ -156,12 +158,12 @@ fn next_move(
 fn write_pair(
     first: Machine,
     first_list: &[u16],
-    first_starts: &[u16; 16384],
-    first_keys: &[u64; 256],
+    first_starts: &[u16; KEYS],
+    first_keys: &[u64; KEY_SETS],
     second: Machine,
     second_list: &[u16],
-    second_starts: &[u16; 16384],
-    second_keys: &[u64; 256],
+    second_starts: &[u16; KEYS],
+    second_keys: &[u64; KEY_SETS],
     p: usize,
     span: Span,
     r: usize,
@@ -204,12 +206,12 @@ fn write_pair(
 fn write_row(
     first: Machine,
     first_list: &[u16],
-    first_starts: &[u16; 16384],
-    first_keys: &[u64; 256],
+    first_starts: &[u16; KEYS],
+    first_keys: &[u64; KEY_SETS],
     second: Machine,
     second_list: &[u16],
-    second_starts: &[u16; 16384],
-    second_keys: &[u64; 256],
+    second_starts: &[u16; KEYS],
+    second_keys: &[u64; KEY_SETS],
     p: usize,
     span: Span,
     list: &mut [u16],

@@ -13,9 +13,16 @@ use decide::places;
 use decide::places::Reached;
 use fsbm::answer;
 use fsbm::answer::Refusal;
+use fsbm::limits::LONGEST_WORD;
 use fsbm::machine::Machine;
 use images::Kinds;
 use runs::walk;
+use targets::MOST_SETS;
+
+// The sets of a small and of a medium table: what is cleared for a word goes by the smallest of the sizes that is enough.
+const SMALL: usize = 160;
+
+const MEDIUM: usize = 2048;
 
 // The answer of recognize: turned down, no, or yes with the number of entries of the run.
 pub enum Recognized {
@@ -65,7 +72,7 @@ fn answer_small(m: Machine, list: &[u16], word: &[u8], needed: usize, run: &mut 
         × (setOf (m .states) (m .letters) (m .states) ≤ 160) ⌝ }
     ensures { λ r. ⌜ Recognition m (now (list .entry)) (now (word .entry)) (now (run .entry)) (now (run .exit)) r ⌝ }
 {
-    let mut targets: [u64; 160] = [0; 160];
+    let mut targets: [u64; SMALL] = [0; SMALL];
     let kinds = images::kinds_of(&m.marks, m.states);
     let reached = reach(m, list, &mut targets, kinds, word);
     if !reached.accepted {
@@ -86,7 +93,7 @@ fn answer_medium(
         × (setOf (m .states) (m .letters) (m .states) ≤ 2048) ⌝ }
     ensures { λ r. ⌜ Recognition m (now (list .entry)) (now (word .entry)) (now (run .entry)) (now (run .exit)) r ⌝ }
 {
-    let mut targets: [u64; 2048] = [0; 2048];
+    let mut targets: [u64; MEDIUM] = [0; MEDIUM];
     answer_with(m, list, &mut targets, word, needed, run)
 }
 
@@ -95,7 +102,7 @@ fn answer_large(m: Machine, list: &[u16], word: &[u8], needed: usize, run: &mut 
         × (setOf (m .states) (m .letters) (m .states) ≤ 16130) ⌝ }
     ensures { λ r. ⌜ Recognition m (now (list .entry)) (now (word .entry)) (now (run .entry)) (now (run .exit)) r ⌝ }
 {
-    let mut targets: [u64; 16130] = [0; 16130];
+    let mut targets: [u64; MOST_SETS] = [0; MOST_SETS];
     answer_with(m, list, &mut targets, word, needed, run)
 }
 
@@ -119,7 +126,7 @@ fn is_too_short(room: usize, needed: usize) -> bool
 pub fn recognize(m: Machine, list: &[u16], word: &[u8], run: &mut [u16]) -> Recognized
     ensures { λ r. ⌜ Recognition m (now (list .entry)) (now (word .entry)) (now (run .entry)) (now (run .exit)) r ⌝ }
 {
-    let number = answer::table_and_word(255, m, list, word);
+    let number = answer::table_and_word(LONGEST_WORD, m, list, word);
     if number != 0 {
         return Recognized::Refused(Refusal { number, needed: 0 });
     }
@@ -128,10 +135,10 @@ pub fn recognize(m: Machine, list: &[u16], word: &[u8], run: &mut [u16]) -> Reco
         return Recognized::Refused(Refusal { number: 17, needed });
     }
     let sets = targets::sets_of(m);
-    if sets <= 160 {
+    if sets <= SMALL {
         return answer_small(m, list, word, needed, run);
     }
-    if sets <= 2048 {
+    if sets <= MEDIUM {
         return answer_medium(m, list, word, needed, run);
     }
     answer_large(m, list, word, needed, run)

@@ -15,9 +15,15 @@ ghost use Rattle.images.specs.Graph.{KindsOf};
 ghost use Rattle.decide.specs.Covers.{Covers};
 ghost use Rattle.tables.specs.Tables.{nearOf, Known, Sized, Sizes, PlaceRows};
 ghost use Rattle.runs.specs.Walk.{Ready, changeEntry, Tried, Scanned, Entered, Fresh, Refreshed, Started, Written};
+use adjacency::FIRSTS;
 use decide::places::Reached;
+use fsbm::config::BACK_TO_NORMAL;
+use fsbm::config::BEGIN_BUFFERING;
+use fsbm::config::BEGIN_EMPTYING;
 use fsbm::config::Config;
 use fsbm::config::Mode;
+use fsbm::limits::MAX_STATES;
+use fsbm::limits::POSITIONS;
 use fsbm::machine;
 use fsbm::machine::Machine;
 use images::Kinds;
@@ -26,7 +32,7 @@ use tables::copy;
 use tables::table;
 
 // The number of state q in row i of a table.
-fn number(t: &[[u32; 64]], i: usize, q: usize) -> u32
+fn number(t: &[[u32; MAX_STATES]], i: usize, q: usize) -> u32
     requires { ⌜ (i < length (now t)) × (q < 64) ⌝ }
     ensures { λ r. ⌜ r ≡ getD (getD (now (t .entry)) i []) q 0 ⌝ }
 {
@@ -37,12 +43,12 @@ fn number(t: &[[u32; 64]], i: usize, q: usize) -> u32
 fn cost(
     m: Machine,
     list: &[u16],
-    sets: &[u64; 256],
+    sets: &[u64; POSITIONS],
     word: &[u8],
     c: Config,
-    t: &[[u32; 64]],
-    emptied: &[[u32; 64]],
-    stored: &[[u32; 64]],
+    t: &[[u32; MAX_STATES]],
+    emptied: &[[u32; MAX_STATES]],
+    stored: &[[u32; MAX_STATES]],
 ) -> u32
     requires { ⌜ (m .states ≤ 64) × (wellPlaced (m .states) (length (now word)) c ≡ true) × Ready m (now list) (now sets) (now word) (now t) (now emptied) (now stored) c ⌝ }
     ensures { λ r. ⌜ Best m (now (list .entry)) (nearOf m (now (word .entry)) (now (sets .entry))) (published (now (word .entry)) c) r ⌝ }
@@ -72,12 +78,12 @@ fn cost(
 fn leads(
     m: Machine,
     list: &[u16],
-    sets: &[u64; 256],
+    sets: &[u64; POSITIONS],
     word: &[u8],
     c: Config,
-    t: &[[u32; 64]],
-    emptied: &[[u32; 64]],
-    stored: &[[u32; 64]],
+    t: &[[u32; MAX_STATES]],
+    emptied: &[[u32; MAX_STATES]],
+    stored: &[[u32; MAX_STATES]],
     d: u32,
     k: usize,
 ) -> bool
@@ -110,13 +116,13 @@ fn wide(x: u16) -> usize
 fn scan(
     m: Machine,
     list: &[u16],
-    first: &[u16; 65],
-    sets: &[u64; 256],
+    first: &[u16; FIRSTS],
+    sets: &[u64; POSITIONS],
     word: &[u8],
     c: Config,
-    t: &[[u32; 64]],
-    emptied: &[[u32; 64]],
-    stored: &[[u32; 64]],
+    t: &[[u32; MAX_STATES]],
+    emptied: &[[u32; MAX_STATES]],
+    stored: &[[u32; MAX_STATES]],
     d: u32,
 ) -> usize
     requires { ⌜ (wellFormed m (now list) ≡ true) × (wellPlaced (m .states) (length (now word)) c ≡ true) × Ready m (now list) (now sets) (now word) (now t) (now emptied) (now stored) c
@@ -140,9 +146,9 @@ fn change_entry(mode: Mode) -> u16
     ensures { λ r. ⌜ r ≡ changeEntry mode ⌝ }
 {
     match mode {
-        Mode::Normal => 65533,
-        Mode::Buffering => 65534,
-        Mode::Emptying => 65535,
+        Mode::Normal => BEGIN_BUFFERING,
+        Mode::Buffering => BEGIN_EMPTYING,
+        Mode::Emptying => BACK_TO_NORMAL,
     }
 }
 
@@ -150,13 +156,13 @@ fn change_entry(mode: Mode) -> u16
 fn entry(
     m: Machine,
     list: &[u16],
-    first: &[u16; 65],
-    sets: &[u64; 256],
+    first: &[u16; FIRSTS],
+    sets: &[u64; POSITIONS],
     word: &[u8],
     c: Config,
-    t: &[[u32; 64]],
-    emptied: &[[u32; 64]],
-    stored: &[[u32; 64]],
+    t: &[[u32; MAX_STATES]],
+    emptied: &[[u32; MAX_STATES]],
+    stored: &[[u32; MAX_STATES]],
     d: u32,
 ) -> u16
     requires { ⌜ (wellFormed m (now list) ≡ true) × (wellPlaced (m .states) (length (now word)) c ≡ true) × Ready m (now list) (now sets) (now word) (now t) (now emptied) (now stored) c
@@ -178,30 +184,30 @@ fn refresh(
     targets: &[u64],
     g: u64,
     h: u64,
-    sets: &[u64; 256],
+    sets: &[u64; POSITIONS],
     word: &[u8],
     c: Config,
     e: u16,
-    t: &[[u32; 64]],
-    emptied: &mut [[u32; 64]],
-    stored: &mut [[u32; 64]],
+    t: &[[u32; MAX_STATES]],
+    emptied: &mut [[u32; MAX_STATES]],
+    stored: &mut [[u32; MAX_STATES]],
 )
     requires { ⌜ Known m (now list) (now targets) g h (now word) × Fresh m (now list) (now sets) (now word) (now t) (now emptied) (now stored) c e ⌝ }
     ensures { λ r. ⌜ Refreshed m (now (list .entry)) (now (sets .entry)) (now (word .entry)) (now (t .entry)) (now (emptied .entry)) (now (emptied .exit)) (now (stored .entry)) (now (stored .exit)) c ⌝ }
 {
-    if e < 65533 {
+    if e < BEGIN_BUFFERING {
         return;
     }
     let p = c.position;
     let start = c.start;
     let end = c.end;
-    if e == 65533 {
+    if e == BEGIN_BUFFERING {
         if start < word.len() {
             copy::buffering_rows(m, list, targets, g, h, sets, word, t, start, stored);
         }
         return;
     }
-    if e == 65534 {
+    if e == BEGIN_EMPTYING {
         let d = end - start;
         let last = copy::load(t, (p + d) * 3 + 2);
         copy::emptying_rows(m, list, targets, g, h, sets, word, last, p + d, d, emptied);
@@ -215,14 +221,14 @@ fn walk(
     targets: &[u64],
     g: u64,
     h: u64,
-    sets: &[u64; 256],
-    first: &[u16; 65],
+    sets: &[u64; POSITIONS],
+    first: &[u16; FIRSTS],
     word: &[u8],
     q: usize,
     moves: u32,
-    t: &[[u32; 64]],
-    emptied: &mut [[u32; 64]],
-    stored: &mut [[u32; 64]],
+    t: &[[u32; MAX_STATES]],
+    emptied: &mut [[u32; MAX_STATES]],
+    stored: &mut [[u32; MAX_STATES]],
     run: &mut [u16],
 ) -> usize
     requires { ⌜ (wellFormed m (now list) ≡ true) × (q < m .states) × (initial (m .marks) q ≡ true) × Sized (now word) (now t) (now emptied) (now stored)
@@ -261,7 +267,7 @@ fn walk(
 }
 
 // The better start of b (the number of states: none yet) and q.
-fn better(m: Machine, row: &[u32; 64], b: usize, q: usize) -> usize
+fn better(m: Machine, row: &[u32; MAX_STATES], b: usize, q: usize) -> usize
     requires { ⌜ (m .states ≤ 64) × (q < m .states) × Started m (now row) q b ⌝ }
     ensures { λ r. ⌜ Started m (now (row .entry)) (q + 1) r ⌝ }
 {
@@ -278,7 +284,7 @@ fn better(m: Machine, row: &[u32; 64], b: usize, q: usize) -> usize
 }
 
 // The first initial state with the least number of a row; the number of states where no state is initial.
-fn start(m: Machine, row: &[u32; 64]) -> usize
+fn start(m: Machine, row: &[u32; MAX_STATES]) -> usize
     requires { ⌜ m .states ≤ 64 ⌝ }
     ensures { λ r. ⌜ Started m (now (row .entry)) (m .states) r ⌝ }
 {
@@ -298,13 +304,13 @@ fn write_with(
     targets: &[u64],
     g: u64,
     h: u64,
-    sets: &[u64; 256],
+    sets: &[u64; POSITIONS],
     word: &[u8],
-    t: &mut [[u32; 64]],
-    ends: &mut [[u32; 64]],
+    t: &mut [[u32; MAX_STATES]],
+    ends: &mut [[u32; MAX_STATES]],
     left: &mut [u16],
-    emptied: &mut [[u32; 64]],
-    stored: &mut [[u32; 64]],
+    emptied: &mut [[u32; MAX_STATES]],
+    stored: &mut [[u32; MAX_STATES]],
     run: &mut [u16],
 ) -> usize
     requires { ⌜ (wellFormed m (now list) ≡ true) × (length (now word) ≤ 255) × (accepted m (now list) (now word) ≡ true) × (runBound m (length (now word)) ≤ length (now run))
@@ -336,40 +342,40 @@ fn write_with(
 }
 
 // The tables of a word of at most 15 letters, of at most 63, and of at most 255.
-fn few_places() -> [[u32; 64]; 48] {
-    [[NONE; 64]; 48]
+fn few_places() -> [[u32; MAX_STATES]; 48] {
+    [[NONE; MAX_STATES]; 48]
 }
 
-fn few_ends() -> [[u32; 64]; 16] {
-    [[NONE; 64]; 16]
+fn few_ends() -> [[u32; MAX_STATES]; 16] {
+    [[NONE; MAX_STATES]; 16]
 }
 
-fn few_rows() -> [[u32; 64]; 8] {
-    [[NONE; 64]; 8]
+fn few_rows() -> [[u32; MAX_STATES]; 8] {
+    [[NONE; MAX_STATES]; 8]
 }
 
-fn some_places() -> [[u32; 64]; 192] {
-    [[NONE; 64]; 192]
+fn some_places() -> [[u32; MAX_STATES]; 192] {
+    [[NONE; MAX_STATES]; 192]
 }
 
-fn some_ends() -> [[u32; 64]; 64] {
-    [[NONE; 64]; 64]
+fn some_ends() -> [[u32; MAX_STATES]; 64] {
+    [[NONE; MAX_STATES]; 64]
 }
 
-fn some_rows() -> [[u32; 64]; 32] {
-    [[NONE; 64]; 32]
+fn some_rows() -> [[u32; MAX_STATES]; 32] {
+    [[NONE; MAX_STATES]; 32]
 }
 
-fn all_places() -> [[u32; 64]; 768] {
-    [[NONE; 64]; 768]
+fn all_places() -> [[u32; MAX_STATES]; 768] {
+    [[NONE; MAX_STATES]; 768]
 }
 
-fn all_ends() -> [[u32; 64]; 256] {
-    [[NONE; 64]; 256]
+fn all_ends() -> [[u32; MAX_STATES]; 256] {
+    [[NONE; MAX_STATES]; 256]
 }
 
-fn all_rows() -> [[u32; 64]; 128] {
-    [[NONE; 64]; 128]
+fn all_rows() -> [[u32; MAX_STATES]; 128] {
+    [[NONE; MAX_STATES]; 128]
 }
 
 // write_run for a word of more than 63 letters.
@@ -379,7 +385,7 @@ fn write_long(
     targets: &[u64],
     g: u64,
     h: u64,
-    sets: &[u64; 256],
+    sets: &[u64; POSITIONS],
     word: &[u8],
     run: &mut [u16],
 ) -> usize
@@ -389,7 +395,7 @@ fn write_long(
 {
     let mut t = all_places();
     let mut ends = all_ends();
-    let mut left: [u16; 256] = [0; 256];
+    let mut left: [u16; POSITIONS] = [0; POSITIONS];
     let mut emptied = all_rows();
     let mut stored = all_rows();
     write_with(
@@ -416,7 +422,7 @@ fn write_medium(
     targets: &[u64],
     g: u64,
     h: u64,
-    sets: &[u64; 256],
+    sets: &[u64; POSITIONS],
     word: &[u8],
     run: &mut [u16],
 ) -> usize
@@ -453,7 +459,7 @@ fn write_short(
     targets: &[u64],
     g: u64,
     h: u64,
-    sets: &[u64; 256],
+    sets: &[u64; POSITIONS],
     word: &[u8],
     run: &mut [u16],
 ) -> usize
@@ -490,7 +496,7 @@ fn write_sized(
     targets: &[u64],
     g: u64,
     h: u64,
-    sets: &[u64; 256],
+    sets: &[u64; POSITIONS],
     word: &[u8],
     run: &mut [u16],
 ) -> usize

@@ -6,9 +6,14 @@ ghost use Rattle.common.specs.Common.{CommonWord};
 ghost use Rattle.search.specs.Weighed.{Weighed};
 use crate::best;
 use crate::write;
+use blocks::sizes::MOST_KEYS;
+use blocks::sizes::MOST_PAIRS;
+use blocks::sizes::MOST_STATES;
+use blocks::sizes::NOTHING;
 use common::Common;
 use common::Lengths;
 use fsbm::answer::Refusal;
+use fsbm::limits::MAX_STATES;
 use fsbm::machine::Machine;
 
 // The weight of a letter: a least weight is letters × 2^32 + moves.
@@ -47,12 +52,12 @@ pub fn answer(
     second_list: &[u16],
     m: Machine,
     list: &[u16],
-    index: &[u16; 16065],
+    index: &[u16; MOST_KEYS],
     starts: u64,
     ends: u64,
-    d: &[u64; 64],
-    hints: &[u8; 64],
-    b: &mut [u64; 4096],
+    d: &[u64; MOST_STATES],
+    hints: &[u8; MAX_STATES],
+    b: &mut [u64; MOST_PAIRS],
     f: usize,
     word: &mut [u8],
     first_run: &mut [u16],
@@ -62,7 +67,7 @@ pub fn answer(
     ensures { λ r. ⌜ CommonWord first (now («first_list» .entry)) second (now («second_list» .entry)) (now (word .entry)) (now (word .exit)) (now («first_run» .entry)) (now («first_run» .exit)) (now («second_run» .entry)) (now («second_run» .exit)) r ⌝ }
 {
     let c = best::cost(d, f);
-    if best::NOTHING <= c {
+    if NOTHING <= c {
         return Common::NoCommonWord;
     }
     let n = letters_of(c);

@@ -10,7 +10,12 @@ ghost use Rattle.blocks.specs.Settling.{Blank};
 ghost use Rattle.common.specs.Common.{CommonWord};
 ghost use Rattle.search.specs.Joined.{Joined};
 use blocks::index;
+use blocks::sizes::MOST_KEYS;
+use blocks::sizes::MOST_PAIRS;
+use blocks::sizes::MOST_STATES;
+use blocks::sizes::NOTHING;
 use common::Common;
+use fsbm::limits::LIST_LENGTH;
 use fsbm::machine::Machine;
 use least::turns;
 
@@ -19,31 +24,31 @@ pub mod best;
 mod write;
 
 // Room for the transitions of every product.
-fn no_transitions() -> [u16; 12000]
+fn no_transitions() -> [u16; LIST_LENGTH]
     ensures { λ r. ⌜ 12000 ≡ length r ⌝ }
 {
-    [0; 12000]
+    [0; LIST_LENGTH]
 }
 
 // Room for the index of every product.
-fn no_index() -> [u16; 16065]
+fn no_index() -> [u16; MOST_KEYS]
     ensures { λ r. ⌜ 16065 ≡ length r ⌝ }
 {
-    [0; 16065]
+    [0; MOST_KEYS]
 }
 
 // A block in which nothing stands.
-fn no_block() -> [u64; 4096]
+fn no_block() -> [u64; MOST_PAIRS]
     ensures { λ r. ⌜ Blank r ⌝ }
 {
-    [best::NOTHING; 4096]
+    [NOTHING; MOST_PAIRS]
 }
 
 // Room for a number of each state.
-fn no_numbers() -> [u64; 64]
+fn no_numbers() -> [u64; MOST_STATES]
     ensures { λ r. ⌜ 64 ≡ length r ⌝ }
 {
-    [0; 64]
+    [0; MOST_STATES]
 }
 
 // A shortest common word of two machines whose product is m, its transitions at the front of list.
@@ -69,7 +74,7 @@ fn search(
     index::index(m, list, &mut starts);
     let mut b = no_block();
     let mut d = no_numbers();
-    let mut hints = [0u8; 64];
+    let mut hints = [0u8; MOST_STATES];
     turns::costs(m, list, &starts, kinds, &mut b, &mut d, &mut hints);
     let f = best::best(&m.marks, &d);
     answer::answer(

@@ -2,15 +2,19 @@
 ghost use mathlib.Core.Path.{_≡_};
 ghost use lib.ListN.{length};
 ghost use Rattle.search.specs.Runs.{Writable, Runs};
+use blocks::sizes::MOST_KEYS;
+use blocks::sizes::MOST_PAIRS;
+use blocks::sizes::MOST_STATES;
+use fsbm::limits::MAX_STATES;
 use fsbm::machine::Machine;
 use least::turns;
 use shortest::into;
 
 // Room for the entries of the storing half of a copy.
-fn no_entries() -> [u16; 4096]
+fn no_entries() -> [u16; MOST_PAIRS]
     ensures { λ r. ⌜ 4096 ≡ length r ⌝ }
 {
-    [0; 4096]
+    [0; MOST_PAIRS]
 }
 
 // Writes the word, and the runs of the first and of the second machine; each fills its slice. m is the product, list its transitions,
@@ -24,12 +28,12 @@ pub fn write_runs(
     second_list: &[u16],
     m: Machine,
     list: &[u16],
-    index: &[u16; 16065],
+    index: &[u16; MOST_KEYS],
     starts: u64,
     ends: u64,
-    d: &[u64; 64],
-    hints: &[u8; 64],
-    b: &mut [u64; 4096],
+    d: &[u64; MOST_STATES],
+    hints: &[u8; MAX_STATES],
+    b: &mut [u64; MOST_PAIRS],
     f: usize,
     word: &mut [u8],
     run: &mut [u16],

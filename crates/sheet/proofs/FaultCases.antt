@@ -21,7 +21,8 @@ use Rattle.sheet.specs.Series.Laws.{or-none, or-fault, first-at, first-n
 use Rattle.sheet.specs.Format.{stateStart, transitionStart}
 use Rattle.sheet.specs.Reading.{unless, columnAt, columnFault, lineFault, countsFault, headerFault, markFault, stateFault, transitionIn, orderFault, transitionFault}
 use Rattle.sheet.specs.Reading.{restFault, firstFault}
-use Rattle.sheet.specs.Reading.Laws.{Counts, header-none, header-first, rest-of}
+use Rattle.fsbm.specs.Rules.{Counts}
+use Rattle.sheet.specs.Reading.Laws.{header-none, header-first, rest-of}
 
 -- the numbers of columns that were read
 pub record Held (s : List ℕ) (i c : ℕ) (numbers : List ℕ) : Type 0 where

@@ -6,6 +6,9 @@ ghost use Rattle.fsbm.specs.Machine.{named, precedes};
 ghost use Rattle.sheet.specs.Series.{firstOf};
 ghost use Rattle.sheet.specs.Reading.{asTransition, orderFault};
 ghost use Rattle.sheet.specs.Reading.{columnAt, countsFault, headerFault, markFault, stateFault, transitionFault, firstFault};
+use fsbm::limits::MAX_LETTERS;
+use fsbm::limits::MAX_STATES;
+use fsbm::limits::MAX_TRANSITIONS;
 
 // The three numbers of a transition's line, as they stand in the sheet.
 pub struct Line {
@@ -37,13 +40,13 @@ fn counts_fault(states: usize, letters: usize, transitions: usize) -> u8
     if states < 1 {
         return 3;
     }
-    if 64 < states {
+    if MAX_STATES < states {
         return 3;
     }
-    if 250 < letters {
+    if MAX_LETTERS < letters {
         return 3;
     }
-    if 4000 < transitions {
+    if MAX_TRANSITIONS < transitions {
         return 3;
     }
     0

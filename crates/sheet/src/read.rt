@@ -7,6 +7,7 @@ ghost use Rattle.fsbm.specs.Answers.{refusal, noMachine};
 ghost use Rattle.sheet.specs.Reading.{columnAt, firstFault, marksOf, transitionsOf, readAnswer, readList};
 use crate::faults;
 use fsbm::answer::Refusal;
+use fsbm::limits::MAX_STATES;
 use fsbm::machine::Machine;
 
 // The answer of read_sheet: refusal.number is 0 where the sheet was read. After a refusal every field of the machine is 0.
@@ -25,17 +26,17 @@ fn refused(number: u8, needed: usize) -> Sheet
             states: 0,
             letters: 0,
             transitions: 0,
-            marks: [0; 64],
+            marks: [0; MAX_STATES],
         },
     }
 }
 
 // The marks of the states, and 0 past the last one, of a sheet without fault.
-fn read_marks(sheet: &[u8], states: usize) -> [u8; 64]
+fn read_marks(sheet: &[u8], states: usize) -> [u8; MAX_STATES]
     requires { ⌜ (firstFault (now sheet) ≡ 0) × (states ≡ columnAt (now sheet) 0) ⌝ }
     ensures { λ r. ⌜ r ≡ marksOf (now (sheet .entry)) (columnAt (now (sheet .entry)) 0) ⌝ }
 {
-    let mut marks: [u8; 64] = [0; 64];
+    let mut marks: [u8; MAX_STATES] = [0; MAX_STATES];
     let mut at: usize = 21;
     let mut q: usize = 0;
     while q < states {

@@ -9,6 +9,7 @@ ghost use Rattle.fsbm.specs.Machine.{transitionAt};
 ghost use Rattle.sheet.specs.Format.{Short, lineOf, stateLine, transitionLine};
 ghost use Rattle.sheet.specs.Writing.{writeAnswer, writeSheet, writtenValues, writeValues};
 use fsbm::answer::Refusal;
+use fsbm::limits::MAX_STATES;
 use fsbm::machine;
 use fsbm::machine::Machine;
 
@@ -51,7 +52,7 @@ fn write_transition(sheet: &mut [u8], at: usize, from: u16, letter: u16, to: u16
 }
 
 // The lines of the states, written after line one.
-fn write_states(sheet: &mut [u8], marks: &[u8; 64], states: usize)
+fn write_states(sheet: &mut [u8], marks: &[u8; MAX_STATES], states: usize)
     requires { ⌜ (states ≤ 64) × (16 + 11 * states ≤ length (now sheet)) ⌝ }
     ensures { λ r. ⌜ now (sheet .exit) ≡ put 16 (now (sheet .entry)) (eachBelow states (stateLine (now (marks .entry)))) ⌝ }
 {

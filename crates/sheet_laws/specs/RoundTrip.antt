@@ -24,6 +24,7 @@ use Rattle.basics.specs.Search.{allBelow}
 use Rattle.basics.specs.Search.Laws.{and-true, and-both-true, allBelow-true}
 use Rattle.columns.specs.Column.{noNumber}
 use Rattle.fsbm.specs.Machine.{markOf, transitionAt, goodMark, named, precedes, goodTransition, wellFormed, maxStates}
+use Rattle.fsbm.specs.Rules.{Counts, Tested, tested}
 use Rattle.fsbm.specs.Answers.{refusal, noMachine}
 use Rattle.fsbm.specs.declared.machine.Machine.{Machine}
 use Rattle.fsbm.specs.declared.machine.Transition.{Transition}
@@ -35,55 +36,13 @@ use Rattle.sheet.specs.Series.Laws.{each-length, each-same, each-drop, each-ele
 use Rattle.sheet.specs.Format.{lineOf, stateStart, transitionStart, sheetLength, headerLine, stateLine, transitionLine, sheetOf}
 use Rattle.sheet.specs.Reading.{columnAt, firstFault, stateFault, transitionFault, transitionIn, marksOf, machineOf, numbersIn, transitionsOf}
 use Rattle.sheet.specs.Reading.{readRefusal, readAnswer, readList}
-use Rattle.sheet.specs.Reading.Laws.{GoodLine, Counts, GoodState, GoodTransition, Sound, state-none, transition-none, no-fault, goodFlags}
+use Rattle.sheet.specs.Reading.Laws.{GoodLine, GoodState, GoodTransition, Sound, state-none, transition-none, no-fault, goodFlags}
 use Rattle.sheet.specs.Writing.{writeRefusal, writeAnswer, writeSheet}
 use Rattle.sheet_laws.specs.Lines.{line-number, line-good, line-written, three-part, each-getD, all-zero}
 
 pub record Table (m : Machine) (list : List ℕ) : Type 0 where
   pub obeys : wellFormed m list ≡ true
   pub marked : length (m .marks) ≡ 64
-
--- what the rules say, one by one
-record Rules (m : Machine) (list : List ℕ) : Type 0 where
-  counts : Counts (m .states) (m .letters) (m .transitions)
-  long : m .transitions * 3 ≤ length list
-  marks : (q : ℕ) → q < 64 → goodMark m q ≡ true
-  transitions : (k : ℕ) → k < m .transitions → goodTransition (m .states) (m .letters) list k ≡ true
-
-rules : (m : Machine) (list : List ℕ) → (wellFormed m list ≡ true) ↔ Rules m list
-unfolding wellFormed
-rules m list = (to, from)
-  where
-    A : Bool
-    A = allBelow maxStates (goodMark m)
-
-    B : Bool
-    B = allBelow (m .transitions) (goodTransition (m .states) (m .letters) list)
-
-    to : (leb 1 (m .states) && (leb (m .states) 64 && (leb (m .letters) 250 && (leb (m .transitions) 4000 && (leb (m .transitions * 3) (length list) && (A && B)))))) ≡ true → Rules m list
-    to e =
-        let a = and-true (leb 1 (m .states)) _ e in
-        let b = and-true (leb (m .states) 64) _ (a .1) in
-        let c = and-true (leb (m .letters) 250) _ (b .1) in
-        let d = and-true (leb (m .transitions) 4000) _ (c .1) in
-        let f = and-true (leb (m .transitions * 3) (length list)) (A && B) (d .1) in
-        let g = and-true A B (f .1) in
-        record {
-          counts = record { some = leb-true _ _ (a .0); few-states = leb-true _ _ (b .0); few-letters = leb-true _ _ (c .0); few-transitions = leb-true _ _ (d .0) };
-          long = leb-true _ _ (f .0);
-          marks = allBelow-true (goodMark m) maxStates .0 (g .0);
-          transitions = allBelow-true (goodTransition (m .states) (m .letters) list) (m .transitions) .0 (g .1);
-        }
-
-    from : Rules m list → (leb 1 (m .states) && (leb (m .states) 64 && (leb (m .letters) 250 && (leb (m .transitions) 4000 && (leb (m .transitions * 3) (length list) && (A && B)))))) ≡ true
-    from r =
-        and-both-true (leb 1 (m .states)) _ (le-leb _ _ (r .counts .some))
-        (and-both-true (leb (m .states) 64) _ (le-leb _ _ (r .counts .few-states))
-        (and-both-true (leb (m .letters) 250) _ (le-leb _ _ (r .counts .few-letters))
-        (and-both-true (leb (m .transitions) 4000) _ (le-leb _ _ (r .counts .few-transitions))
-        (and-both-true (leb (m .transitions * 3) (length list)) _ (le-leb _ _ (r .long))
-        (and-both-true A B (allBelow-true (goodMark m) maxStates .1 (r .marks))
-        (allBelow-true (goodTransition (m .states) (m .letters) list) (m .transitions) .1 (r .transitions)))))))
 
 -- Written and read
 
@@ -98,7 +57,7 @@ sheet-length m list =
     let c = each-length 16 (transitionLine list) (transition-wide list) (m .transitions) in
     omega (arith, length-append (headerLine m) (states ++ transitions), length-append states transitions)
 
-module _ (m : Machine) (list : List ℕ) (r : Rules m list) where
+module _ (m : Machine) (list : List ℕ) (r : Tested m list) where
   S : List ℕ
   S = sheetOf m list
 
@@ -322,8 +281,8 @@ module _ (m : Machine) (list : List ℕ) (r : Rules m list) where
       back = all-zero (drop (m .states) (m .marks)) (64 - m .states) (length-drop (m .states) (m .marks) ∙ ap (λ (n : ℕ). n - m .states) w) past
 
 module _ (m : Machine) (list : List ℕ) (t : Table m list) where
-  ruled : Rules m list
-  ruled = rules m list .0 (t .obeys)
+  ruled : Tested m list
+  ruled = tested m list .0 (t .obeys)
 
   pub written-sound : firstFault (sheetOf m list) ≡ 0
   unfolding S
@@ -492,7 +451,7 @@ module _ (s rest : List ℕ) (sound : Sound s) where
       let c = counted .few-states in
       omega (arith, length-append (eachBelow n (λ k. columnAt s (stateStart k + 5) ∷ [])) (replicate (64 - n) 0), length-replicate {A = ℕ} (64 - n) 0)
 
-  sheet-rules : Rules (machineOf s) list
+  sheet-rules : Tested (machineOf s) list
   unfolding machineOf n t list transitionsOf
   sheet-rules =
       record {
@@ -541,7 +500,7 @@ module _ (s : List ℕ) (none : firstFault s ≡ 0) (rest : List ℕ) where
 
   pub sound-table : Table (machineOf s) (transitionsOf s ++ rest)
   unfolding list n machineOf
-  sound-table = record { obeys = rules (machineOf s) (transitionsOf s ++ rest) .1 (sheet-rules s rest (no-fault s .0 none)); marked = marks-wide s rest (no-fault s .0 none) }
+  sound-table = record { obeys = tested (machineOf s) (transitionsOf s ++ rest) .1 (sheet-rules s rest (no-fault s .0 none)); marked = marks-wide s rest (no-fault s .0 none) }
 
 -- a byte string is read without fault exactly if it is the sheet of some table
 pub sheet-iff-table : (s : List ℕ) → (firstFault s ≡ 0) ↔ ((m : Machine) × (list : List ℕ) × Table m list × (s ≡ sheetOf m list))

@@ -4,7 +4,14 @@ ghost use mathlib.Core.Path.{_≡_};
 ghost use lib.ListN.{length};
 ghost use Rattle.shortest.specs.Copy.{begunTest, MatchedReady, Matched, StoredReady, Stored, Going, Gone, CopyReady, Stepped};
 use crate::find;
+use crate::into::LINKS;
 use crate::put;
+use blocks::sizes::MOST_PAIRS;
+use blocks::sizes::MOST_STATES;
+use fsbm::config::BACK_TO_NORMAL;
+use fsbm::config::BEGIN_BUFFERING;
+use fsbm::config::BEGIN_EMPTYING;
+use fsbm::limits::MAX_STATES;
 use fsbm::machine;
 use fsbm::machine::Machine;
 
@@ -26,7 +33,14 @@ pub struct Place {
 }
 
 // Whether a copy with the guess h has just begun at the pair (s, t), and this makes the pair's number.
-fn begun(marks: &[u8; 64], d: &[u64; 64], b: &[u64; 4096], h: usize, s: usize, t: usize) -> bool
+fn begun(
+    marks: &[u8; MAX_STATES],
+    d: &[u64; MOST_STATES],
+    b: &[u64; MOST_PAIRS],
+    h: usize,
+    s: usize,
+    t: usize,
+) -> bool
     requires { ⌜ (s < 64) × (t < 64) ⌝ }
     ensures { λ r. ⌜ r ≡ begunTest (now (marks .entry)) (now (d .entry)) (now (b .entry)) h s t ⌝ }
 {
@@ -59,7 +73,7 @@ fn matched(list: &[u16], n: usize, k: usize, word: &mut [u8], run: &mut [u16], w
 }
 
 // Keeps a move of the storing half by transition k, one of n, where there is one.
-fn stored(list: &[u16], n: usize, k: usize, later: &mut [u16; 4096], w: Walk) -> Walk
+fn stored(list: &[u16], n: usize, k: usize, later: &mut [u16; MOST_PAIRS], w: Walk) -> Walk
     requires { ⌜ StoredReady n k w ⌝ }
     ensures { λ r. ⌜ Stored (now (list .entry)) n k (now (later .entry)) w (now (later .exit)) r ⌝ }
 {
@@ -83,16 +97,16 @@ fn stored(list: &[u16], n: usize, k: usize, later: &mut [u16; 4096], w: Walk) ->
 fn walk_back(
     m: Machine,
     list: &[u16],
-    links: &[u16; 4064],
-    d: &[u64; 64],
-    b: &[u64; 4096],
+    links: &[u16; LINKS],
+    d: &[u64; MOST_STATES],
+    b: &[u64; MOST_PAIRS],
     h: usize,
     z: usize,
     word: &mut [u8],
     i: usize,
     run: &mut [u16],
     r: usize,
-    later: &mut [u16; 4096],
+    later: &mut [u16; MOST_PAIRS],
 ) -> Walk
     requires { ⌜ Going m (now list) (now links) (now d) (now b) h z (now word) i (now run) r (now later) ⌝ }
     ensures { λ w. ⌜ Gone m (now (list .entry)) (now (d .entry)) (now (b .entry)) h z (now (word .entry)) i (now (run .entry)) r (now (word .exit)) (now (run .exit)) (now (later .exit)) w ⌝ }
@@ -117,29 +131,29 @@ fn walk_back(
 pub fn copy(
     m: Machine,
     list: &[u16],
-    links: &[u16; 4064],
-    d: &[u64; 64],
-    b: &[u64; 4096],
+    links: &[u16; LINKS],
+    d: &[u64; MOST_STATES],
+    b: &[u64; MOST_PAIRS],
     h: usize,
     z: usize,
     word: &mut [u8],
     i: usize,
     run: &mut [u16],
     r: usize,
-    later: &mut [u16; 4096],
+    later: &mut [u16; MOST_PAIRS],
 ) -> Place
     requires { ⌜ CopyReady m (now list) (now links) (now d) (now b) h z (now word) i (now run) r (now later) ⌝ }
     ensures { λ p. ⌜ Stepped m (now (list .entry)) (now (d .entry)) z (now (word .entry)) i (now (run .entry)) r (now (word .exit)) (now (run .exit)) p × (length (now (later .exit)) ≡ 4096) ⌝ }
 {
-    run[r - 1] = 65535;
+    run[r - 1] = BACK_TO_NORMAL;
     let w = walk_back(m, list, links, d, b, h, z, word, i, run, r - 1, later);
     let j = w.letter;
     let e = w.entry - 1;
-    run[e] = 65534;
+    run[e] = BEGIN_EMPTYING;
     put::again(word, j, i - j);
     put::unload(later, w.kept, run, e);
     let f = e - w.kept - 1;
-    run[f] = 65533;
+    run[f] = BEGIN_BUFFERING;
     Place {
         state: w.storing,
         letter: j - (i - j),

@@ -8,13 +8,15 @@ ghost use Rattle.fsbm.specs.Machine.{wellFormed, transitionAt};
 ghost use Rattle.pieces.specs.Blocks.{costOf, cell};
 ghost use Rattle.shortest.specs.Into.{Into};
 ghost use Rattle.shortest.specs.Find.{Finds, Tried, normalTest, NormalFits, storeTest, StoreFits, matchTest, MatchFits, LetterStep, LetterFits, Backs};
+use crate::into::LINKS;
 use blocks::gather;
+use blocks::sizes::MOST_PAIRS;
+use blocks::sizes::MOST_STATES;
+use blocks::sizes::PAIR;
+use fsbm::limits::MAX_STATES;
 use fsbm::machine;
 use fsbm::machine::Machine;
 use least::fall;
-
-// The weight of a move of both halves by a letter.
-pub const PAIR: u64 = 8589934594;
 
 // The moves of a pair's two halves, each by its transition; the number of transitions says that the half stands still.
 pub struct Halves {
@@ -33,7 +35,7 @@ pub fn makes(v: u64, w: u64, want: u64) -> bool
 }
 
 // The number of the pair (s, t) in a block.
-pub fn number(b: &[u64; 4096], s: usize, t: usize) -> u64
+pub fn number(b: &[u64; MOST_PAIRS], s: usize, t: usize) -> u64
     requires { ⌜ (s < 64) × (t < 64) ⌝ }
     ensures { λ r. ⌜ r ≡ cell (now (b .entry)) s t ⌝ }
 {
@@ -41,7 +43,7 @@ pub fn number(b: &[u64; 4096], s: usize, t: usize) -> u64
 }
 
 // The number of a state.
-pub fn cost(d: &[u64; 64], q: usize) -> u64
+pub fn cost(d: &[u64; MOST_STATES], q: usize) -> u64
     requires { ⌜ q < 64 ⌝ }
     ensures { λ r. ⌜ r ≡ costOf (now (d .entry)) q ⌝ }
 {
@@ -49,7 +51,13 @@ pub fn cost(d: &[u64; 64], q: usize) -> u64
 }
 
 // Whether transition k is taken in normal mode and its weight and the number where it begins make the number that is wanted.
-fn normal_fits(marks: &[u8; 64], list: &[u16], d: &[u64; 64], want: u64, k: usize) -> bool
+fn normal_fits(
+    marks: &[u8; MAX_STATES],
+    list: &[u16],
+    d: &[u64; MOST_STATES],
+    want: u64,
+    k: usize,
+) -> bool
     requires { ⌜ transitionAt (now list) k .from < 64 ⌝ }
     ensures { λ r. ⌜ r ≡ normalTest (now (marks .entry)) (now (list .entry)) (now (d .entry)) want k ⌝ }
 {
@@ -66,9 +74,9 @@ fn normal_fits(marks: &[u8; 64], list: &[u16], d: &[u64; 64], want: u64, k: usiz
 
 // The same of a transition by epsilon in buffering mode, for a pair whose matching half is in t.
 fn store_fits(
-    marks: &[u8; 64],
+    marks: &[u8; MAX_STATES],
     list: &[u16],
-    b: &[u64; 4096],
+    b: &[u64; MOST_PAIRS],
     t: usize,
     want: u64,
     k: usize,
@@ -91,9 +99,9 @@ fn store_fits(
 
 // The same of a transition by x in emptying mode, with the weight w, for a pair whose storing half is in s.
 fn match_fits(
-    marks: &[u8; 64],
+    marks: &[u8; MAX_STATES],
     list: &[u16],
-    b: &[u64; 4096],
+    b: &[u64; MOST_PAIRS],
     s: usize,
     x: u16,
     w: u64,
@@ -115,7 +123,13 @@ fn match_fits(
 
 // A transition into q in normal mode whose weight and the number where it begins make the number of q; the number of transitions where
 // there is none.
-pub fn find_normal(m: Machine, list: &[u16], links: &[u16; 4064], d: &[u64; 64], q: usize) -> usize
+pub fn find_normal(
+    m: Machine,
+    list: &[u16],
+    links: &[u16; LINKS],
+    d: &[u64; MOST_STATES],
+    q: usize,
+) -> usize
     requires { ⌜ (wellFormed m (now list) ≡ true) × Into m (now list) (now links) × (q < 64) ⌝ }
     ensures { λ r. ⌜ Finds (m .transitions) (NormalFits m (now (list .entry)) (now (d .entry)) q) r ⌝ }
 {
@@ -134,8 +148,8 @@ pub fn find_normal(m: Machine, list: &[u16], links: &[u16; 4064], d: &[u64; 64],
 fn find_store(
     m: Machine,
     list: &[u16],
-    links: &[u16; 4064],
-    b: &[u64; 4096],
+    links: &[u16; LINKS],
+    b: &[u64; MOST_PAIRS],
     s: usize,
     t: usize,
     want: u64,
@@ -157,8 +171,8 @@ fn find_store(
 fn find_match(
     m: Machine,
     list: &[u16],
-    links: &[u16; 4064],
-    b: &[u64; 4096],
+    links: &[u16; LINKS],
+    b: &[u64; MOST_PAIRS],
     s: usize,
     t: usize,
     x: u16,
@@ -183,8 +197,8 @@ fn find_match(
 fn letter_fits(
     m: Machine,
     list: &[u16],
-    links: &[u16; 4064],
-    b: &[u64; 4096],
+    links: &[u16; LINKS],
+    b: &[u64; MOST_PAIRS],
     t: usize,
     want: u64,
     k: usize,
@@ -213,8 +227,8 @@ fn letter_fits(
 fn find_letter(
     m: Machine,
     list: &[u16],
-    links: &[u16; 4064],
-    b: &[u64; 4096],
+    links: &[u16; LINKS],
+    b: &[u64; MOST_PAIRS],
     s: usize,
     t: usize,
     want: u64,
@@ -236,8 +250,8 @@ fn find_letter(
 pub fn back(
     m: Machine,
     list: &[u16],
-    links: &[u16; 4064],
-    b: &[u64; 4096],
+    links: &[u16; LINKS],
+    b: &[u64; MOST_PAIRS],
     s: usize,
     t: usize,
 ) -> Halves

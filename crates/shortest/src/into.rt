@@ -6,10 +6,15 @@ ghost use Rattle.shortest.specs.Into.{Into};
 use fsbm::machine;
 use fsbm::machine::Machine;
 
+// A link for each state and for each transition of the largest machine, and what stands where there is none.
+pub const LINKS: usize = 4064;
+
+const NO_LINK: u16 = 65535;
+
 // The first 64 links are the first transition into each state, the others for each transition the next one into the same state. What
 // is at least the count says that there is none.
 pub struct Entering {
-    pub links: [u16; 4064],
+    pub links: [u16; LINKS],
 }
 
 // The lists of a well-formed machine.
@@ -18,7 +23,7 @@ pub fn into(m: Machine, list: &[u16]) -> Entering
     requires { ⌜ wellFormed m (now list) ≡ true ⌝ }
     ensures { λ r. ⌜ Into m (now (list .entry)) (r .links) ⌝ }
 {
-    let mut links: [u16; 4064] = [65535; 4064];
+    let mut links: [u16; LINKS] = [NO_LINK; LINKS];
     let mut k = m.transitions;
     while 0 < k {
         k -= 1;

@@ -2,6 +2,7 @@
 ghost use Prim.Native.Nat.{_+_, _≤_, _<_};
 ghost use lib.ListN.{length};
 ghost use Rattle.shortest.specs.Put.{PutReady, Put, Again, Unloaded};
+use blocks::sizes::MOST_PAIRS;
 use fsbm::machine;
 
 // Puts the entry of transition k before place r of the run, and its letter, if it has one, before place i of the word. Returns the place
@@ -32,7 +33,7 @@ pub fn again(word: &mut [u8], i: usize, n: usize)
 }
 
 // Puts the first c entries of later before place r, the first of them last.
-pub fn unload(later: &[u16; 4096], c: usize, run: &mut [u16], r: usize)
+pub fn unload(later: &[u16; MOST_PAIRS], c: usize, run: &mut [u16], r: usize)
     requires { ⌜ (c ≤ 4096) × (c ≤ r) × (r ≤ length (now run)) ⌝ }
     ensures { λ u. ⌜ Unloaded (now (later .entry)) c (now (run .entry)) r (now (run .exit)) ⌝ }
 {

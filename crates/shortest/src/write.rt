@@ -7,8 +7,13 @@ ghost use Rattle.shortest.specs.Write.{Read, Searching, TriedGuess, Copy
 use crate::copy;
 use crate::copy::Place;
 use crate::find;
+use crate::into::LINKS;
 use crate::put;
 use blocks::block;
+use blocks::sizes::MOST_KEYS;
+use blocks::sizes::MOST_PAIRS;
+use blocks::sizes::MOST_STATES;
+use fsbm::limits::MAX_STATES;
 use fsbm::machine;
 use fsbm::machine::Machine;
 
@@ -31,12 +36,12 @@ fn read(list: &[u16], k: usize, word: &mut [u8], i: usize, run: &mut [u16], r: u
 fn try_guess(
     m: Machine,
     list: &[u16],
-    index: &[u16; 16065],
+    index: &[u16; MOST_KEYS],
     starts: u64,
     ends: u64,
     middles: u64,
-    d: &[u64; 64],
-    b: &mut [u64; 4096],
+    d: &[u64; MOST_STATES],
+    b: &mut [u64; MOST_PAIRS],
     q: usize,
     h: usize,
 ) -> bool
@@ -54,12 +59,12 @@ fn try_guess(
 fn guess(
     m: Machine,
     list: &[u16],
-    index: &[u16; 16065],
+    index: &[u16; MOST_KEYS],
     starts: u64,
     ends: u64,
     middles: u64,
-    d: &[u64; 64],
-    b: &mut [u64; 4096],
+    d: &[u64; MOST_STATES],
+    b: &mut [u64; MOST_PAIRS],
     q: usize,
     first: usize,
 ) -> usize
@@ -82,20 +87,20 @@ fn guess(
 fn step(
     m: Machine,
     list: &[u16],
-    links: &[u16; 4064],
-    index: &[u16; 16065],
+    links: &[u16; LINKS],
+    index: &[u16; MOST_KEYS],
     starts: u64,
     ends: u64,
     middles: u64,
-    d: &[u64; 64],
-    hints: &[u8; 64],
-    b: &mut [u64; 4096],
+    d: &[u64; MOST_STATES],
+    hints: &[u8; MAX_STATES],
+    b: &mut [u64; MOST_PAIRS],
     q: usize,
     word: &mut [u8],
     i: usize,
     run: &mut [u16],
     r: usize,
-    later: &mut [u16; 4096],
+    later: &mut [u16; MOST_PAIRS],
 ) -> Place
     requires { ⌜ StepReady m (now list) (now links) (now index) starts ends middles (now d) (now b) q (now word) i (now run) r (now later) ⌝ }
     ensures { λ p. ⌜ StepDone m (now (list .entry)) (now (index .entry)) starts ends middles (now (d .entry)) (now (b .exit)) q (now (word .entry)) i (now (run .entry)) r (now (word .exit)) (now (run .exit)) (now (later .exit)) p ⌝ }
@@ -126,18 +131,18 @@ fn step(
 pub fn write(
     m: Machine,
     list: &[u16],
-    links: &[u16; 4064],
-    index: &[u16; 16065],
+    links: &[u16; LINKS],
+    index: &[u16; MOST_KEYS],
     starts: u64,
     ends: u64,
     middles: u64,
-    d: &[u64; 64],
-    hints: &[u8; 64],
-    b: &mut [u64; 4096],
+    d: &[u64; MOST_STATES],
+    hints: &[u8; MAX_STATES],
+    b: &mut [u64; MOST_PAIRS],
     f: usize,
     word: &mut [u8],
     run: &mut [u16],
-    later: &mut [u16; 4096],
+    later: &mut [u16; MOST_PAIRS],
 )
     requires { ⌜ WriteReady m (now list) (now links) (now index) starts ends middles (now d) (now b) f (now later) × Aim m (now list) (now d) f (length (now word)) (length (now run)) ⌝ }
     ensures { λ u. ⌜ Shortest m (now (list .entry)) f (now (word .exit)) (now (run .exit)) ⌝ }

@@ -2,6 +2,7 @@
 ghost use Prim.Native.Nat.{_<_};
 ghost use Rattle.split.specs.Split.{FirstReady, FirstPart, SecondReady, SecondPart, Joined, Split};
 use crate::lookup;
+use fsbm::config::BEGIN_BUFFERING;
 use fsbm::machine;
 use fsbm::machine::Machine;
 
@@ -10,7 +11,7 @@ fn first_part(m: Machine, first: &[u16], list: &[u16], n: u16, e: u16) -> u16
     requires { ⌜ FirstReady m (now first) (now list) n e ⌝ }
     ensures { λ r. ⌜ FirstPart m (now (first .entry)) (now (list .entry)) n e r ⌝ }
 {
-    if 65533 <= e {
+    if BEGIN_BUFFERING <= e {
         return e;
     }
     let t = machine::transition_at(list, e as usize);
@@ -31,7 +32,7 @@ fn second_part(
     requires { ⌜ SecondReady m (now second) (now list) n e p (now other) ⌝ }
     ensures { λ r. ⌜ SecondPart m (now (second .entry)) (now (list .entry)) n e p (now (other .entry)) r (now (other .exit)) ⌝ }
 {
-    if 65533 <= e {
+    if BEGIN_BUFFERING <= e {
         return p;
     }
     let t = machine::transition_at(list, e as usize);

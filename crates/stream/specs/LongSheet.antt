@@ -18,7 +18,8 @@ use Rattle.fsbm.specs.declared.machine.Transition.{Transition}
 use Rattle.sheet.specs.Series.{orElse, firstOf}
 use Rattle.sheet.specs.Format.{stateStart, transitionStart}
 use Rattle.sheet.specs.Reading.{columnAt, unless, columnFault, lineFault, countsFault, headerFault, markFault, stateFault, transitionIn, orderFault, transitionFault, restFault, firstFault}
-use Rattle.sheet.specs.Reading.Laws.{Counts, header-none, rest-of, header-first, no-fault}
+use Rattle.fsbm.specs.Rules.{Counts}
+use Rattle.sheet.specs.Reading.Laws.{header-none, rest-of, header-first, no-fault}
 use Rattle.stream.specs.Listing.{refusedSheet, listing}
 use Rattle.stream.specs.Pieces.Laws.{opening-bad}
 use Rattle.stream.specs.Whole.{listing-refused}

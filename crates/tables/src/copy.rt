@@ -12,12 +12,15 @@ ghost use Rattle.tables.specs.Halves.{SharedFrom};
 ghost use Rattle.fsbm.specs.declared.machine.Machine.{Machine};
 ghost use Rattle.tables.specs.Tables.{Known, rowAt, PlaceRows, EmptyRow, EmptyingRows, BufferingRows, ChangeLayer, Wound, EndRow, Ends, Idle, Skipped, EndedRow, ChangedRow, StoredRow, StoringRow, StartingRow};
 use crate::halves;
+use crate::halves::HALVES;
+use fsbm::limits::MAX_STATES;
+use fsbm::limits::POSITIONS;
 use fsbm::machine::Machine;
 use layers::layer;
 
 // A row. Where it is not live, it is blank.
 pub struct Layer {
-    pub row: [u32; 64],
+    pub row: [u32; MAX_STATES],
     pub live: bool,
 }
 
@@ -29,14 +32,14 @@ pub struct Tail {
 }
 
 // Row i of a table.
-pub fn load(t: &[[u32; 64]], i: usize) -> [u32; 64]
+pub fn load(t: &[[u32; MAX_STATES]], i: usize) -> [u32; MAX_STATES]
     requires { ⌜ i < length (now t) ⌝ }
     ensures { λ r. ⌜ r ≡ getD (now (t .entry)) i [] ⌝ }
 {
     t[i]
 }
 
-pub fn save(t: &mut [[u32; 64]], i: usize, row: [u32; 64])
+pub fn save(t: &mut [[u32; MAX_STATES]], i: usize, row: [u32; MAX_STATES])
     requires { ⌜ i < length (now t) ⌝ }
     ensures { λ r. ⌜ now (t .exit) ≡ set (now (t .entry)) i row ⌝ }
 {
@@ -66,12 +69,12 @@ pub fn emptying_rows(
     targets: &[u64],
     g: u64,
     h: u64,
-    sets: &[u64; 256],
+    sets: &[u64; POSITIONS],
     word: &[u8],
-    last: [u32; 64],
+    last: [u32; MAX_STATES],
     e: usize,
     d: usize,
-    rows: &mut [[u32; 64]],
+    rows: &mut [[u32; MAX_STATES]],
 )
     requires { ⌜ Known m (now list) (now targets) g h (now word) × (d ≤ e) × (e ≤ length (now word)) × (d < length (now rows)) × EmptyRow m (now list) (now sets) (now word) e 0 last ⌝ }
     ensures { λ r. ⌜ EmptyingRows m (now (list .entry)) (now (sets .entry)) (now (word .entry)) e d (now (rows .entry)) (now (rows .exit)) ⌝ }
@@ -96,12 +99,12 @@ fn wind(
     targets: &[u64],
     g: u64,
     h: u64,
-    sets: &[u64; 256],
+    sets: &[u64; POSITIONS],
     word: &[u8],
     e: usize,
     r: usize,
     d: usize,
-    row: &mut [u32; 64],
+    row: &mut [u32; MAX_STATES],
 ) -> Tail
     requires { ⌜ Known m (now list) (now targets) g h (now word) × (r ≤ d) × (d ≤ e) × (e ≤ length (now word)) × EmptyRow m (now list) (now sets) (now word) e r (now row) ⌝ }
     ensures { λ t. ⌜ Wound m (now (list .entry)) (now (sets .entry)) (now (word .entry)) e d t (now (row .exit)) ⌝ }
@@ -126,7 +129,13 @@ fn wind(
 }
 
 // Keeps what was wound for the end e, and hands its row on.
-fn keep(tail: Tail, row: &[u32; 64], e: usize, ends: &mut [[u32; 64]], left: &mut [u16]) -> Layer
+fn keep(
+    tail: Tail,
+    row: &[u32; MAX_STATES],
+    e: usize,
+    ends: &mut [[u32; MAX_STATES]],
+    left: &mut [u16],
+) -> Layer
     requires { ⌜ (e < length (now ends)) × (e < length (now left)) × (e ≤ 255) × (tail .left ≤ e) ⌝ }
     ensures { λ r. ⌜ ((m : Machine) (list sets w : List ℕ) (d : ℕ) → d ≤ e → Wound m list sets w e d tail (now (row .entry)) → EndedRow m list sets w e d (now (ends .entry)) (now (ends .exit)) (now (left .entry)) (now (left .exit)) r) ⌝ }
 {
@@ -150,12 +159,12 @@ fn ended_row(
     targets: &[u64],
     g: u64,
     h: u64,
-    sets: &[u64; 256],
+    sets: &[u64; POSITIONS],
     word: &[u8],
-    t: &[[u32; 64]],
+    t: &[[u32; MAX_STATES]],
     e: usize,
     d: usize,
-    ends: &mut [[u32; 64]],
+    ends: &mut [[u32; MAX_STATES]],
     left: &mut [u16],
 ) -> Layer
     requires { ⌜ Known m (now list) (now targets) g h (now word) × (d ≤ e) × (e ≤ length (now word)) × (length (now word) ≤ 255) × (length (now word) * 3 + 3 ≤ length (now t))
@@ -179,7 +188,7 @@ fn ended_row(
 }
 
 // Whether no copy of the k letters from i on goes on: they do not stand there twice, or the end is known to be blank.
-fn is_idle(i: usize, k: usize, counts: &[u16; 128], left: &[u16]) -> bool
+fn is_idle(i: usize, k: usize, counts: &[u16; HALVES], left: &[u16]) -> bool
     requires { ⌜ (0 < k) × (k < 128) × (i + k + k < length (now left)) ⌝ }
     ensures { λ r. ⌜ ((w : List ℕ) → i + k + k ≤ length w → SharedFrom w i (now (counts .entry)) → r ≡ true → Idle w i (now (left .entry)) k) ⌝ }
 {
@@ -197,7 +206,7 @@ fn is_idle(i: usize, k: usize, counts: &[u16; 128], left: &[u16]) -> bool
 }
 
 // The largest number of letters up to d such that a copy of so many letters from i on is not idle; 0 where there is none.
-fn skip_idle(i: usize, d: usize, counts: &[u16; 128], left: &[u16]) -> usize
+fn skip_idle(i: usize, d: usize, counts: &[u16; HALVES], left: &[u16]) -> usize
     requires { ⌜ (d < 128) × (i + d + d < length (now left)) ⌝ }
     ensures { λ r. ⌜ ((w : List ℕ) → i + d + d ≤ length w → SharedFrom w i (now (counts .entry)) → Skipped w i d (now (left .entry)) r) ⌝ }
 {
@@ -218,13 +227,13 @@ fn change_row(
     targets: &[u64],
     g: u64,
     h: u64,
-    sets: &[u64; 256],
+    sets: &[u64; POSITIONS],
     word: &[u8],
-    t: &[[u32; 64]],
+    t: &[[u32; MAX_STATES]],
     i: usize,
     d: usize,
-    counts: &[u16; 128],
-    ends: &mut [[u32; 64]],
+    counts: &[u16; HALVES],
+    ends: &mut [[u32; MAX_STATES]],
     left: &mut [u16],
 ) -> Layer
     requires { ⌜ Known m (now list) (now targets) g h (now word) × (0 < d) × (i + d + d ≤ length (now word)) × (length (now word) ≤ 255) × (length (now word) * 3 + 3 ≤ length (now t))
@@ -259,11 +268,11 @@ fn stored_row(
     g: u64,
     h: u64,
     x: u16,
-    next: &[u32; 64],
+    next: &[u32; MAX_STATES],
     goes: bool,
-    change: &[u32; 64],
+    change: &[u32; MAX_STATES],
     turns: bool,
-    row: &mut [u32; 64],
+    row: &mut [u32; MAX_STATES],
 ) -> bool
     requires { ⌜ Given m (now list) (now targets) g h × Row m (now list) (now targets) x × (now row ≡ blankRow) ⌝ }
     ensures { λ r. ⌜ StoredRow m (now (list .entry)) x (record { row = now (next .entry); live = goes }) (record { row = now (change .entry); live = turns }) (record { row = now (row .exit); live = r }) ⌝ }
@@ -283,12 +292,12 @@ fn storing_row(
     targets: &[u64],
     g: u64,
     h: u64,
-    sets: &[u64; 256],
+    sets: &[u64; POSITIONS],
     word: &[u8],
-    t: &[[u32; 64]],
+    t: &[[u32; MAX_STATES]],
     i: usize,
-    counts: &[u16; 128],
-    ends: &mut [[u32; 64]],
+    counts: &[u16; HALVES],
+    ends: &mut [[u32; MAX_STATES]],
     left: &mut [u16],
 ) -> Layer
     requires { ⌜ Known m (now list) (now targets) g h (now word) × (i < length (now word)) × (length (now word) ≤ 255) × (length (now word) * 3 + 3 ≤ length (now t))
@@ -344,13 +353,13 @@ pub fn starting_row(
     targets: &[u64],
     g: u64,
     h: u64,
-    sets: &[u64; 256],
+    sets: &[u64; POSITIONS],
     word: &[u8],
-    t: &[[u32; 64]],
+    t: &[[u32; MAX_STATES]],
     i: usize,
     starts: u64,
-    counts: &[u16; 128],
-    ends: &mut [[u32; 64]],
+    counts: &[u16; HALVES],
+    ends: &mut [[u32; MAX_STATES]],
     left: &mut [u16],
 ) -> Layer
     requires { ⌜ Known m (now list) (now targets) g h (now word) × (i < length (now word)) × (length (now word) ≤ 255) × (length (now word) * 3 + 3 ≤ length (now t))
@@ -370,9 +379,9 @@ fn fresh_change(
     targets: &[u64],
     g: u64,
     h: u64,
-    sets: &[u64; 256],
+    sets: &[u64; POSITIONS],
     word: &[u8],
-    t: &[[u32; 64]],
+    t: &[[u32; MAX_STATES]],
     i: usize,
     d: usize,
 ) -> Layer
@@ -399,11 +408,11 @@ pub fn buffering_rows(
     targets: &[u64],
     g: u64,
     h: u64,
-    sets: &[u64; 256],
+    sets: &[u64; POSITIONS],
     word: &[u8],
-    t: &[[u32; 64]],
+    t: &[[u32; MAX_STATES]],
     i: usize,
-    stored: &mut [[u32; 64]],
+    stored: &mut [[u32; MAX_STATES]],
 )
     requires { ⌜ Known m (now list) (now targets) g h (now word) × (i < length (now word)) × (length (now word) * 3 + 3 ≤ length (now t)) × (length (now word) / 2 < length (now stored))
         × ((p : ℕ) → i < p → p ≤ length (now word) → PlaceRows m (now list) (now sets) (now word) (now t) p) ⌝ }

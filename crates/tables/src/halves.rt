@@ -3,6 +3,9 @@ ghost use Prim.Native.Nat.{_+_, _≤_, _<_};
 ghost use lib.ListN.{length};
 ghost use Rattle.tables.specs.Halves.{Matched, Shared, SharedFrom};
 
+// How many lengths the half of a square can have in a word that is recognized, 0 among them.
+pub const HALVES: usize = 128;
+
 // Whether the d letters from i on stand a second time after themselves.
 pub fn halves_match(word: &[u8], i: usize, d: usize) -> bool
     requires { ⌜ i + d + d ≤ length (now word) ⌝ }
@@ -31,7 +34,7 @@ fn longer(word: &[u8], i: usize, d: usize, count: u16) -> u16
 
 // Brings the counts from position i + 1 to position i: for each distance below 128 how many letters from i on are those that stand
 // so much later. A stretch of d letters stands a second time after itself just if the count of d is at least d.
-pub fn count_shared(word: &[u8], i: usize, counts: &mut [u16; 128])
+pub fn count_shared(word: &[u8], i: usize, counts: &mut [u16; HALVES])
     requires { ⌜ (i < length (now word)) × (length (now word) ≤ 255) × SharedFrom (now word) (i + 1) (now counts) ⌝ }
     ensures { λ r. ⌜ SharedFrom (now (word .entry)) i (now (counts .exit)) ⌝ }
 {

@@ -11,12 +11,15 @@ ghost use Rattle.tables.specs.Halves.{SharedFrom};
 ghost use Rattle.tables.specs.Tables.{Known, putPlace, Placed, Sizes, Filling, Filled};
 use crate::copy;
 use crate::halves;
+use crate::halves::HALVES;
+use fsbm::limits::MAX_STATES;
+use fsbm::limits::POSITIONS;
 use fsbm::machine::Machine;
 use layers::layer;
 use layers::layer::Place;
 
 // Puts the rows of position p into the table.
-fn put_place(t: &mut [[u32; 64]], p: usize, place: Place)
+fn put_place(t: &mut [[u32; MAX_STATES]], p: usize, place: Place)
     requires { ⌜ p * 3 + 3 ≤ length (now t) ⌝ }
     ensures { λ r. ⌜ now (t .exit) ≡ putPlace (now (t .entry)) p place ⌝ }
 {
@@ -29,7 +32,13 @@ fn put_place(t: &mut [[u32; 64]], p: usize, place: Place)
 }
 
 // Puts the rows of position p into the table, and has the copies that end there begin with them, or be blank where none goes on.
-fn place_rows(p: usize, place: Place, t: &mut [[u32; 64]], ends: &mut [[u32; 64]], left: &mut [u16])
+fn place_rows(
+    p: usize,
+    place: Place,
+    t: &mut [[u32; MAX_STATES]],
+    ends: &mut [[u32; MAX_STATES]],
+    left: &mut [u16],
+)
     requires { ⌜ (p * 3 + 3 ≤ length (now t)) × (p < length (now ends)) × (p < length (now left)) ⌝ }
     ensures { λ r. ⌜ Placed p place (now (t .entry)) (now (t .exit)) (now (ends .entry)) (now (ends .exit)) (now (left .entry)) (now (left .exit)) ⌝ }
 {
@@ -56,7 +65,7 @@ fn unreached() -> Place
 }
 
 // The states that runs reach at position p in normal mode.
-fn near_at(m: Machine, sets: &[u64; 256], p: usize) -> u64
+fn near_at(m: Machine, sets: &[u64; POSITIONS], p: usize) -> u64
     requires { ⌜ p ≤ 255 ⌝ }
     ensures { λ r. ⌜ (r ≡ bitAnd (getD (now (sets .entry)) p 0) (below (m .states))) × ((q : ℕ) → In r q → q < m .states) ⌝ }
 {
@@ -70,10 +79,10 @@ fn fill_end(
     targets: &[u64],
     g: u64,
     h: u64,
-    sets: &[u64; 256],
+    sets: &[u64; POSITIONS],
     word: &[u8],
-    t: &mut [[u32; 64]],
-    ends: &mut [[u32; 64]],
+    t: &mut [[u32; MAX_STATES]],
+    ends: &mut [[u32; MAX_STATES]],
     left: &mut [u16],
 )
     requires { ⌜ Known m (now list) (now targets) g h (now word) × (length (now word) ≤ 255) × Sizes (now word) (now t) (now ends) (now left) ⌝ }
@@ -93,13 +102,13 @@ fn fill_place(
     targets: &[u64],
     g: u64,
     h: u64,
-    sets: &[u64; 256],
+    sets: &[u64; POSITIONS],
     word: &[u8],
     p: usize,
-    t: &mut [[u32; 64]],
-    ends: &mut [[u32; 64]],
+    t: &mut [[u32; MAX_STATES]],
+    ends: &mut [[u32; MAX_STATES]],
     left: &mut [u16],
-    counts: &mut [u16; 128],
+    counts: &mut [u16; HALVES],
 )
     requires { ⌜ Known m (now list) (now targets) g h (now word) × (p < length (now word)) × (length (now word) ≤ 255)
         × Filling m (now list) (now sets) (now word) (p + 1) (now t) (now ends) (now left) (now counts) ⌝ }
@@ -151,16 +160,16 @@ pub fn fill(
     targets: &[u64],
     g: u64,
     h: u64,
-    sets: &[u64; 256],
+    sets: &[u64; POSITIONS],
     word: &[u8],
-    t: &mut [[u32; 64]],
-    ends: &mut [[u32; 64]],
+    t: &mut [[u32; MAX_STATES]],
+    ends: &mut [[u32; MAX_STATES]],
     left: &mut [u16],
 )
     requires { ⌜ Known m (now list) (now targets) g h (now word) × (length (now word) ≤ 255) × Sizes (now word) (now t) (now ends) (now left) ⌝ }
     ensures { λ r. ⌜ Filled m (now (list .entry)) (now (sets .entry)) (now (word .entry)) (now (t .exit)) ⌝ }
 {
-    let mut counts: [u16; 128] = [0; 128];
+    let mut counts: [u16; HALVES] = [0; HALVES];
     fill_end(m, list, targets, g, h, sets, word, t, ends, left);
     let mut p = word.len();
     while 0 < p {

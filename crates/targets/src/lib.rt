@@ -19,8 +19,14 @@ ghost use Rattle.targets.specs.Prepared.{Prepared, Lettered, Whole, Want
 use fsbm::machine::Machine;
 use images::Kinds;
 
+// The sets of the largest machine's table.
+pub const MOST_SETS: usize = 16130;
+
+// How many numbers a byte can hold.
+const BYTES: usize = 256;
+
 // How many sets the table of a machine has: the first two, a closure for each state, and one for each state and letter, letter 0 among
-// them. That of the largest machine has 16,130.
+// them.
 pub fn sets_of(m: Machine) -> usize
     requires { ⌜ (m .states ≤ 64) × (m .letters ≤ 250) ⌝ }
     ensures { λ r. ⌜ r ≡ setOf (m .states) (m .letters) (m .states) ⌝ }
@@ -29,10 +35,10 @@ pub fn sets_of(m: Machine) -> usize
 }
 
 // The letters of a word, marked by 1.
-fn letters_of(word: &[u8]) -> [u8; 256]
+fn letters_of(word: &[u8]) -> [u8; BYTES]
     ensures { λ r. ⌜ ((i : ℕ) → i < length (now (word .entry)) → 0 < getD r (getD (now (word .entry)) i 0) 0) ⌝ }
 {
-    let mut wanted: [u8; 256] = [0; 256];
+    let mut wanted: [u8; BYTES] = [0; BYTES];
     let mut i: usize = 0;
     while i < word.len() {
         wanted[word[i] as usize] = 1;
@@ -42,7 +48,7 @@ fn letters_of(word: &[u8]) -> [u8; 256]
 }
 
 // Whether the table has a row for the letter x: letter 0 has one.
-fn is_wanted(wanted: &[u8; 256], x: usize) -> bool
+fn is_wanted(wanted: &[u8; BYTES], x: usize) -> bool
     requires { ⌜ x < 256 ⌝ }
     ensures { λ r. ⌜ (r ≡ true) ↔ Wanted (now (wanted .entry)) x ⌝ }
 {
@@ -56,7 +62,7 @@ fn is_wanted(wanted: &[u8; 256], x: usize) -> bool
 }
 
 // Adds transition number k to the table, where its letter is wanted.
-fn put(m: Machine, list: &[u16], wanted: &[u8; 256], targets: &mut [u64], k: usize)
+fn put(m: Machine, list: &[u16], wanted: &[u8; BYTES], targets: &mut [u64], k: usize)
     requires { ⌜ Inside m (now list) k × Filled m (now list) (now wanted) (now targets) k ⌝ }
     ensures { λ r. ⌜ Filled m (now (list .entry)) (now (wanted .entry)) (now (targets .exit)) (k + 1) ⌝ }
 {
@@ -71,7 +77,7 @@ fn put(m: Machine, list: &[u16], wanted: &[u8; 256], targets: &mut [u64], k: usi
 }
 
 // Fills the rows of the wanted letters in a table of zeros.
-fn fill_rows(m: Machine, list: &[u16], wanted: &[u8; 256], targets: &mut [u64])
+fn fill_rows(m: Machine, list: &[u16], wanted: &[u8; BYTES], targets: &mut [u64])
     requires { ⌜ (wellFormed m (now list) ≡ true) × (setOf (m .states) (m .letters) (m .states) ≤ length (now targets)) × ((i : ℕ) → getD (now targets) i 0 ≡ 0) ⌝ }
     ensures { λ r. ⌜ Filled m (now (list .entry)) (now (wanted .entry)) (now (targets .exit)) (m .transitions) ⌝ }
 {
@@ -107,7 +113,7 @@ fn sources(targets: &[u64], states: usize) -> u64
 }
 
 // Fills a table of zeros: the rows of the wanted letters, and as its first set the states that have epsilon transitions.
-fn fill(m: Machine, list: &[u16], wanted: &[u8; 256], targets: &mut [u64])
+fn fill(m: Machine, list: &[u16], wanted: &[u8; BYTES], targets: &mut [u64])
     requires { ⌜ (wellFormed m (now list) ≡ true) × (setOf (m .states) (m .letters) (m .states) ≤ length (now targets)) × ((i : ℕ) → getD (now targets) i 0 ≡ 0) ⌝ }
     ensures { λ r. ⌜ Made m (now (list .entry)) (now (wanted .entry)) (now (targets .exit)) ⌝ }
 {
@@ -146,7 +152,7 @@ pub fn prepare(m: Machine, list: &[u16], kinds: Kinds, targets: &mut [u64])
         × KindsOf (m .marks) (m .states) kinds ⌝ }
     ensures { λ r. ⌜ Whole m (now (list .entry)) (now (targets .exit)) × ((p : ℕ) → p < m .states → In (getD (now (targets .exit)) 1 0) p) ⌝ }
 {
-    let all: [u8; 256] = [1; 256];
+    let all: [u8; BYTES] = [1; BYTES];
     fill(m, list, &all, targets);
     close_states(m.states, kinds.buffering, kinds.matching, targets);
 }

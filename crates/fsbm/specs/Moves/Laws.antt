@@ -93,20 +93,20 @@ module _ (marks : List ℕ) (t : Transition) where
   unfolding passes
   passes-normal = (
     λ h.
-    let (apart, free) = and-true (not (bothMatching marks t)) (not (buffering marks (t .from))) h in
-    (not-and-says (matching marks (t .from)) (matching marks (t .to)) apart, not-says (buffering marks (t .from)) free),
+        let (apart, free) = and-true (not (bothMatching marks t)) (not (buffering marks (t .from))) h in
+        (not-and-says (matching marks (t .from)) (matching marks (t .to)) apart, not-says (buffering marks (t .from)) free),
     λ z.
-    and-both-true (not (bothMatching marks t)) (not (buffering marks (t .from))) (says-not-and (matching marks (t .from)) (matching marks (t .to)) (z .0)) (says-not (buffering marks (t .from)) (z .1)),
+        and-both-true (not (bothMatching marks t)) (not (buffering marks (t .from))) (says-not-and (matching marks (t .from)) (matching marks (t .to)) (z .0)) (says-not (buffering marks (t .from)) (z .1)),
   )
 
   pub passes-buffering : (passes marks t Buffering ≡ true) ↔ (((matching marks (t .from) ≡ true) × (matching marks (t .to) ≡ true) → ⊥) × (buffering marks (t .to) ≡ true → ⊥))
   unfolding passes
   passes-buffering = (
     λ h.
-    let (apart, free) = and-true (not (bothMatching marks t)) (not (buffering marks (t .to))) h in
-    (not-and-says (matching marks (t .from)) (matching marks (t .to)) apart, not-says (buffering marks (t .to)) free),
+        let (apart, free) = and-true (not (bothMatching marks t)) (not (buffering marks (t .to))) h in
+        (not-and-says (matching marks (t .from)) (matching marks (t .to)) apart, not-says (buffering marks (t .to)) free),
     λ z.
-    and-both-true (not (bothMatching marks t)) (not (buffering marks (t .to))) (says-not-and (matching marks (t .from)) (matching marks (t .to)) (z .0)) (says-not (buffering marks (t .to)) (z .1)),
+        and-both-true (not (bothMatching marks t)) (not (buffering marks (t .to))) (says-not-and (matching marks (t .from)) (matching marks (t .to)) (z .0)) (says-not (buffering marks (t .to)) (z .1)),
   )
 
   pub passes-emptying : (passes marks t Emptying ≡ true) ↔ ((matching marks (t .from) ≡ true) × (matching marks (t .to) ≡ true))

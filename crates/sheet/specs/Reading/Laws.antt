@@ -17,6 +17,7 @@ use lib.Dec.{leb, eqb}
 use borrow.Author.Tests.{leb-true, eqb-true, eqb-false, not-true, le-leb, eq-eqb, ne-eqb}
 use Rattle.columns.specs.Column.{noNumber}
 use Rattle.basics.specs.Search.Laws.{true-or-false, and-true, and-both-true}
+use Rattle.fsbm.specs.Rules.{Counts}
 use Rattle.fsbm.specs.Machine.{named, precedes}
 use Rattle.fsbm.specs.declared.machine.Transition.{Transition}
 use Rattle.sheet.specs.Series.{orElse, firstOf}
@@ -78,12 +79,6 @@ module _ (s : List ℕ) (n i : ℕ) where
           )
 
 -- counts in their ranges
-pub record Counts (states letters transitions : ℕ) : Type 0 where
-  pub some : 1 ≤ states
-  pub few-states : states ≤ 64
-  pub few-letters : letters ≤ 250
-  pub few-transitions : transitions ≤ 4000
-
 pub counts-none : (a b d : ℕ) → (countsFault a b d ≡ 0) ↔ Counts a b d
 unfolding countsFault
 counts-none a b d = (to, from)

@@ -1,0 +1,17 @@
+// The sizes of the search, which are those of the machine that is searched, and its numbers.
+
+// The most states, and pairs of states.
+pub const MOST_STATES: usize = 64;
+
+pub const MOST_PAIRS: usize = 4096;
+
+// One more than the most pairs of a state and a letter, letter 0 among them, and the most letters with letter 0.
+pub const MOST_KEYS: usize = 16065;
+
+pub const MOST_READERS: usize = 251;
+
+// A weight of this size and above says that nothing leads there.
+pub const NOTHING: u64 = 4611686018427387904;
+
+// The weight of a letter that both halves of a copy read: two letters and two moves.
+pub const PAIR: u64 = 8589934594;
