@@ -7,9 +7,6 @@ use Rattle.fsbm.specs.Rules.{rules}
 use Rattle.adjacency.specs.Index.Laws.{Built, built-start, built-turn, built-index}
 use Rattle.adjacency.proofs.index.Statement.{statement}
 use Rattle.adjacency.proofs.index.Tie as tie
-use Rattle.adjacency.proofs.index.Reads as reads
-use Rattle.adjacency.proofs.index.Lts as lts
-use Rattle.adjacency.proofs.seek.Reads as seek-reads
 
 abbrev Inv-loop : tie.InvT-loop
 Inv-loop m list first₀ k₀ q₀ first k q = (wellFormed m list ≡ true) × Built m list first k q

@@ -5,8 +5,6 @@ use lib.ListN.{length}
 use Rattle.adjacency.specs.Index.{column}
 use Rattle.adjacency.proofs.seek.Statement.{statement}
 use Rattle.adjacency.proofs.seek.Tie as tie
-use Rattle.adjacency.proofs.seek.Reads as reads
-use Rattle.adjacency.proofs.seek.Lts as lts
 
 abbrev Inv-loop : tie.InvT-loop
 Inv-loop list column k n x r₀ r = (k ≤ r) × (r ≤ n) × (n * 3 ≤ length list) × ((t : ℕ) → t < r → k ≤ t → Rattle.adjacency.specs.Index.column list column t < x)

@@ -2,8 +2,6 @@ use Rattle.columns.proofs.Passes.{space, digit-of}
 use native.Mathlib.Omega.{arith}
 use Rattle.columns.proofs.digit_or_space.Statement.{statement}
 use Rattle.columns.proofs.digit_or_space.Tie as tie
-use Rattle.columns.proofs.digit_or_space.Reads as reads
-use Rattle.columns.proofs.digit_or_space.Lts as lts
 
 returns : tie.Need-returns
 returns c = space (c .before .args .n) (c .if1 .taken)

@@ -3,8 +3,6 @@ use Rattle.basics.specs.Search.Loops.{pass, stop}
 use mathlib.Core.Path.{refl}
 use Rattle.columns.proofs.is_digit.Statement.{statement}
 use Rattle.columns.proofs.is_digit.Tie as tie
-use Rattle.columns.proofs.is_digit.Reads as reads
-use Rattle.columns.proofs.is_digit.Lts as lts
 
 returns : tie.Need-returns
 returns c = stop _ (lt-leb 48 _ (c .if1 .taken))

@@ -8,8 +8,6 @@ use Rattle.columns.specs.Column.{digits, passFrom, found}
 use Rattle.columns.proofs.Passes.{goes-on, breaks, digits-low, digits-high, digits-more, power-fits, power-more}
 use Rattle.columns.proofs.more_digits.Statement.{statement}
 use Rattle.columns.proofs.more_digits.Tie as tie
-use Rattle.columns.proofs.more_digits.Reads as reads
-use Rattle.columns.proofs.more_digits.Lts as lts
 
 abbrev Inv-loop : tie.InvT-loop
 Inv-loop bytes at end first v₀ i₀ v i = (at ≤ i) × (i ≤ end) × (v < 10 ^ (i - at + 1)) × (found (passFrom (digits v) (take (end - i) (drop i bytes))) ≡ found (passFrom (digits first) (take (end - at) (drop at bytes))))

@@ -7,9 +7,6 @@ use Rattle.columns.specs.Column.{blank, nought, digits, passFrom, found,
 use Rattle.columns.proofs.Passes.{goes-on, breaks, nought-last, nought-more, blank-end, blank-low, blank-high, blank-nought, blank-first, blank-space, column-start}
 use Rattle.columns.proofs.number.Statement.{statement}
 use Rattle.columns.proofs.number.Tie as tie
-use Rattle.columns.proofs.number.Reads as reads
-use Rattle.columns.proofs.number.Lts as lts
-use Rattle.columns.proofs.more_digits.Reads as more-digits-reads
 
 abbrev Inv-loop : tie.InvT-loop
 Inv-loop bytes at width end i₀ i = (at ≤ i) × (i ≤ end) × (found (passFrom blank (take (end - i) (drop i bytes))) ≡ columnNumber (take width (drop at bytes)))

@@ -3,10 +3,6 @@ use mathlib.Core.Path.{_∙_}
 use borrow.Author.Needs.{needs}
 use Rattle.columns.proofs.number_in_five.Statement.{statement}
 use Rattle.columns.proofs.number_in_five.Tie as tie
-use Rattle.columns.proofs.number_in_five.Reads as reads
-use Rattle.columns.proofs.number_in_five.Lts as lts
-use Rattle.columns.proofs.number.Reads as number-reads
-use Rattle.columns.proofs.number_in_three.Reads as number-in-three-reads
 
 shared-slice-read-if1 : tie.Need-shared-slice-read-if1
 shared-slice-read-if1 c = search needs

@@ -4,9 +4,6 @@ use native.Mathlib.Omega.{arith}
 use borrow.Author.Needs.{needs}
 use Rattle.columns.proofs.number_in_one.Statement.{statement}
 use Rattle.columns.proofs.number_in_one.Tie as tie
-use Rattle.columns.proofs.number_in_one.Reads as reads
-use Rattle.columns.proofs.number_in_one.Lts as lts
-use Rattle.columns.proofs.is_digit.Reads as is-digit-reads
 
 is-digit-requires : tie.Need-is-digit-requires
 is-digit-requires c κs = search needs

@@ -6,10 +6,6 @@ use native.Mathlib.Omega.{arith}
 use borrow.Author.Needs.{needs}
 use Rattle.columns.proofs.number_in_three.Statement.{statement}
 use Rattle.columns.proofs.number_in_three.Tie as tie
-use Rattle.columns.proofs.number_in_three.Reads as reads
-use Rattle.columns.proofs.number_in_three.Lts as lts
-use Rattle.columns.proofs.is_digit.Reads as is-digit-reads
-use Rattle.columns.proofs.number_in_two.Reads as number-in-two-reads
 
 number-in-two-requires : tie.Need-number-in-two-requires
 number-in-two-requires c κs = search needs

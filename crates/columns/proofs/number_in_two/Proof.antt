@@ -6,10 +6,6 @@ use native.Mathlib.Omega.{arith}
 use borrow.Author.Needs.{needs}
 use Rattle.columns.proofs.number_in_two.Statement.{statement}
 use Rattle.columns.proofs.number_in_two.Tie as tie
-use Rattle.columns.proofs.number_in_two.Reads as reads
-use Rattle.columns.proofs.number_in_two.Lts as lts
-use Rattle.columns.proofs.is_digit.Reads as is-digit-reads
-use Rattle.columns.proofs.number_in_one.Reads as number-in-one-reads
 
 number-in-one-requires : tie.Need-number-in-one-requires
 number-in-one-requires c κs = search needs

@@ -2,8 +2,6 @@ use Rattle.columns.proofs.Short.{short-is}
 use borrow.Author.Needs.{needs}
 use Rattle.columns.proofs.short_number.Statement.{statement}
 use Rattle.columns.proofs.short_number.Tie as tie
-use Rattle.columns.proofs.short_number.Reads as reads
-use Rattle.columns.proofs.short_number.Lts as lts
 
 add-hundreds : tie.Need-add-hundreds
 add-hundreds c = search needs

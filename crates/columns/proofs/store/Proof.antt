@@ -4,8 +4,6 @@ use Rattle.columns.proofs.Passes.{five-put}
 use borrow.Author.Needs.{needs}
 use Rattle.columns.proofs.store.Statement.{statement}
 use Rattle.columns.proofs.store.Tie as tie
-use Rattle.columns.proofs.store.Reads as reads
-use Rattle.columns.proofs.store.Lts as lts
 
 slice-write-bytes : tie.Need-slice-write-bytes
 slice-write-bytes c = search needs

@@ -4,10 +4,6 @@ use Rattle.columns.proofs.Passes.{column-five, space, digit-of}
 use borrow.Author.Needs.{needs}
 use Rattle.columns.proofs.write_number.Statement.{statement}
 use Rattle.columns.proofs.write_number.Tie as tie
-use Rattle.columns.proofs.write_number.Reads as reads
-use Rattle.columns.proofs.write_number.Lts as lts
-use Rattle.columns.proofs.digit.Reads as digit-reads
-use Rattle.columns.proofs.store.Reads as store-reads
 
 digit-requires : tie.Need-digit-requires
 digit-requires c κs = search needs

@@ -4,11 +4,6 @@ use native.Mathlib.Omega.{arith}
 use borrow.Author.Needs.{needs}
 use Rattle.columns.proofs.write_short.Statement.{statement}
 use Rattle.columns.proofs.write_short.Tie as tie
-use Rattle.columns.proofs.write_short.Reads as reads
-use Rattle.columns.proofs.write_short.Lts as lts
-use Rattle.columns.proofs.digit_by.Reads as digit-by-reads
-use Rattle.columns.proofs.digit_or_space.Reads as digit-or-space-reads
-use Rattle.columns.proofs.store.Reads as store-reads
 
 digit-by-requires : tie.Need-digit-by-requires
 digit-by-requires c κs = search needs

@@ -5,8 +5,6 @@ use lib.ListN.{length, drop}
 use Rattle.copies.proofs.CopyCases.{marksIn, marks-hit, marks-miss, marks-end, count-is}
 use Rattle.copies.proofs.count_copies.Statement.{statement}
 use Rattle.copies.proofs.count_copies.Tie as tie
-use Rattle.copies.proofs.count_copies.Reads as reads
-use Rattle.copies.proofs.count_copies.Lts as lts
 
 abbrev Inv-loop : tie.InvT-loop
 Inv-loop run count₀ i₀ count i = (count ≤ i) × (count + marksIn (drop i run) ≡ marksIn (drop 1 run))

@@ -6,12 +6,6 @@ use Rattle.copies.proofs.CopyCases.{count-few, refused-early, refused-r
 use borrow.Author.Needs.{needs}
 use Rattle.copies.proofs.list_copies.Statement.{statement}
 use Rattle.copies.proofs.list_copies.Tie as tie
-use Rattle.copies.proofs.list_copies.Reads as reads
-use Rattle.copies.proofs.list_copies.Lts as lts
-use Rattle.copies.proofs.count_copies.Reads as count-copies-reads
-use Rattle.copies.proofs.write_copies.Reads as write-copies-reads
-use Rattle.fsbm.proofs.answer.table_and_word.Reads as table-and-word-reads
-use Rattle.fsbm.proofs.run.is_accepting_run.Reads as is-accepting-run-reads
 
 table-and-word-requires : tie.Need-table-and-word-requires
 table-and-word-requires c κs = search needs

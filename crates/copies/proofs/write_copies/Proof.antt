@@ -7,10 +7,6 @@ use borrow.Author.Needs.{needs}
 use Rattle.copies.proofs.CopyCases.{Writing, writing-start, writing-copy, writing-other, writing-end, slice-length, copy-room, some-entry}
 use Rattle.copies.proofs.write_copies.Statement.{statement}
 use Rattle.copies.proofs.write_copies.Tie as tie
-use Rattle.copies.proofs.write_copies.Reads as reads
-use Rattle.copies.proofs.write_copies.Lts as lts
-use Rattle.fsbm.proofs.config.Config.moved.Reads as moved-reads
-use Rattle.fsbm.proofs.config.Config.start_at.Reads as start-at-reads
 
 abbrev Inv-loop : tie.InvT-loop
 Inv-loop list word run copies₀ m c₀ k₀ total₀ i₀ copies c k total i = Writing m list word run copies₀ copies c k total i

@@ -2,10 +2,6 @@ use Rattle.emptiness.specs.Reached.Laws.{apart-is}
 use borrow.Author.Needs.{needs}
 use Rattle.emptiness.proofs.apart.Statement.{statement}
 use Rattle.emptiness.proofs.apart.Tie as tie
-use Rattle.emptiness.proofs.apart.Reads as reads
-use Rattle.emptiness.proofs.apart.Lts as lts
-use Rattle.emptiness.proofs.with_next.Reads as with-next-reads
-use Rattle.stateset.proofs.member.Reads as member-reads
 
 member-requires : tie.Need-member-requires
 member-requires c κs = search needs

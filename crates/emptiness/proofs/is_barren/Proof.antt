@@ -6,11 +6,6 @@ use Rattle.fsbm.specs.Rules.{rules}
 use Rattle.emptiness.specs.Reached.Laws.{Begun, begun-more, same-empty}
 use Rattle.emptiness.proofs.is_barren.Statement.{statement}
 use Rattle.emptiness.proofs.is_barren.Tie as tie
-use Rattle.emptiness.proofs.is_barren.Reads as reads
-use Rattle.emptiness.proofs.is_barren.Lts as lts
-use Rattle.emptiness.proofs.pass.Reads as pass-reads
-use Rattle.emptiness.proofs.same.Reads as same-reads
-use Rattle.stateset.proofs.intersection.Reads as intersection-reads
 
 abbrev Inv-loop : tie.InvT-loop
 Inv-loop m list kinds g h s₀ left₀ s left = Begun (kinds .initial) s

@@ -4,11 +4,6 @@ use Rattle.emptiness.specs.Reached.Laws.{moved-from, moved-to, moved-bot
 use borrow.Author.Needs.{needs}
 use Rattle.emptiness.proofs.moved.Statement.{statement}
 use Rattle.emptiness.proofs.moved.Tie as tie
-use Rattle.emptiness.proofs.moved.Reads as reads
-use Rattle.emptiness.proofs.moved.Lts as lts
-use Rattle.emptiness.proofs.apart.Reads as apart-reads
-use Rattle.emptiness.proofs.with_next.Reads as with-next-reads
-use Rattle.stateset.proofs.member.Reads as member-reads
 
 member-requires : tie.Need-member-requires
 member-requires c κs = search needs

@@ -5,10 +5,6 @@ use Rattle.emptiness.specs.Reached.{Swept}
 use Rattle.emptiness.specs.Reached.Laws.{swept-start, swept-more, swept-end}
 use Rattle.emptiness.proofs.pass.Statement.{statement}
 use Rattle.emptiness.proofs.pass.Tie as tie
-use Rattle.emptiness.proofs.pass.Reads as reads
-use Rattle.emptiness.proofs.pass.Lts as lts
-use Rattle.emptiness.proofs.with_changes.Reads as with-changes-reads
-use Rattle.emptiness.proofs.with_move.Reads as with-move-reads
 
 abbrev Inv-loop : tie.InvT-loop
 Inv-loop list n g h all₀ k₀ all k = Swept list k g h all₀ all

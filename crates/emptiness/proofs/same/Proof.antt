@@ -4,8 +4,6 @@ use Rattle.basics.specs.Search.Laws.{not-both}
 use borrow.Author.Tests.{eqb-true}
 use Rattle.emptiness.proofs.same.Statement.{statement}
 use Rattle.emptiness.proofs.same.Tie as tie
-use Rattle.emptiness.proofs.same.Reads as reads
-use Rattle.emptiness.proofs.same.Lts as lts
 
 returns : tie.Need-returns
 returns c = λ e. absurd (not-both e refl)

@@ -2,10 +2,6 @@ use Rattle.emptiness.specs.Reached.Laws.{changed-is}
 use borrow.Author.Needs.{needs}
 use Rattle.emptiness.proofs.with_changes.Statement.{statement}
 use Rattle.emptiness.proofs.with_changes.Tie as tie
-use Rattle.emptiness.proofs.with_changes.Reads as reads
-use Rattle.emptiness.proofs.with_changes.Lts as lts
-use Rattle.stateset.proofs.intersection.Reads as intersection-reads
-use Rattle.stateset.proofs.union.Reads as union-reads
 
 intersection-requires : tie.Need-intersection-requires
 intersection-requires c κs = search needs

@@ -3,9 +3,6 @@ use Prim.Native.Nat.{_+_, _*_}
 use borrow.Author.Needs.{needs}
 use Rattle.emptiness.proofs.with_move.Statement.{statement}
 use Rattle.emptiness.proofs.with_move.Tie as tie
-use Rattle.emptiness.proofs.with_move.Reads as reads
-use Rattle.emptiness.proofs.with_move.Lts as lts
-use Rattle.emptiness.proofs.moved.Reads as moved-reads
 
 mul-moved : tie.Need-mul-moved
 mul-moved c = search needs

@@ -4,10 +4,6 @@ use Rattle.emptiness.specs.Reached.Laws.{next-barred, next-other, next-i
 use borrow.Author.Needs.{needs}
 use Rattle.emptiness.proofs.with_next.Statement.{statement}
 use Rattle.emptiness.proofs.with_next.Tie as tie
-use Rattle.emptiness.proofs.with_next.Reads as reads
-use Rattle.emptiness.proofs.with_next.Lts as lts
-use Rattle.stateset.proofs.add.Reads as add-reads
-use Rattle.stateset.proofs.member.Reads as member-reads
 
 returns : tie.Need-returns
 returns c = next-barred _ _ _ _ (c .if1 .taken)

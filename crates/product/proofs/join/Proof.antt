@@ -7,12 +7,6 @@ use Rattle.product.proofs.JoinCases.{refused-fault, refused-room, long-
 use borrow.Author.Needs.{needs}
 use Rattle.product.proofs.join.Statement.{statement}
 use Rattle.product.proofs.join.Tie as tie
-use Rattle.product.proofs.join.Reads as reads
-use Rattle.product.proofs.join.Lts as lts
-use Rattle.product.proofs.fault.first_fault.Reads as first-fault-reads
-use Rattle.product.proofs.marks.joined_marks.Reads as joined-marks-reads
-use Rattle.product.proofs.refused.Reads as refused-reads
-use Rattle.product.proofs.write.write_product.Reads as write-product-reads
 
 first-fault-requires : tie.Need-first-fault-requires
 first-fault-requires c κs = search needs

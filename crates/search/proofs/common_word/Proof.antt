@@ -3,11 +3,6 @@ use Rattle.search.proofs.SearchCases.{join-refuses, join-gives, fault}
 use borrow.Author.Needs.{needs}
 use Rattle.search.proofs.common_word.Statement.{statement}
 use Rattle.search.proofs.common_word.Tie as tie
-use Rattle.search.proofs.common_word.Reads as reads
-use Rattle.search.proofs.common_word.Lts as lts
-use Rattle.product.proofs.join.Reads as join-reads
-use Rattle.search.proofs.no_transitions.Reads as no-transitions-reads
-use Rattle.search.proofs.search.Reads as search-reads
 
 no-transitions-requires : tie.Need-no-transitions-requires
 no-transitions-requires c κs = search needs

@@ -6,17 +6,6 @@ use Rattle.search.proofs.BarrenCases.{barren-past}
 use borrow.Author.Needs.{needs}
 use Rattle.search.proofs.search.Statement.{statement}
 use Rattle.search.proofs.search.Tie as tie
-use Rattle.search.proofs.search.Reads as reads
-use Rattle.search.proofs.search.Lts as lts
-use Rattle.blocks.proofs.index.index.Reads as index-reads
-use Rattle.emptiness.proofs.is_barren.Reads as is-barren-reads
-use Rattle.images.proofs.kinds_of.Reads as kinds-of-reads
-use Rattle.least.proofs.turns.costs.Reads as costs-reads
-use Rattle.search.proofs.answer.answer.Reads as answer-reads
-use Rattle.search.proofs.best.best.Reads as best-reads
-use Rattle.search.proofs.no_block.Reads as no-block-reads
-use Rattle.search.proofs.no_index.Reads as no-index-reads
-use Rattle.search.proofs.no_numbers.Reads as no-numbers-reads
 
 kinds-of-requires : tie.Need-kinds-of-requires
 kinds-of-requires c κs = rules ((c .before .before .before .before .before .before .before .before) .args .t5) (((c .before .before .before .before .before .before .before .before) .args .list) .now) (joined-good ((c .before .before .before .before .before .before .before .before) .pre)) .states-fit

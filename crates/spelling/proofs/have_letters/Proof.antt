@@ -10,9 +10,6 @@ use Rattle.spelling.specs.Spelling.{hasLetter}
 use Rattle.spelling.proofs.SpellingCases.{letter-none, letter-some}
 use Rattle.spelling.proofs.have_letters.Statement.{statement}
 use Rattle.spelling.proofs.have_letters.Tie as tie
-use Rattle.spelling.proofs.have_letters.Reads as reads
-use Rattle.spelling.proofs.have_letters.Lts as lts
-use Rattle.spelling.proofs.letter.Reads as letter-reads
 
 abbrev Inv-loop : tie.InvT-loop
 Inv-loop bytes i₀ i = (i ≤ length bytes) × (allIn hasLetter (drop i bytes) ≡ allIn hasLetter bytes)

@@ -3,8 +3,6 @@ use Rattle.spelling.proofs.SpellingCases.{letters, letter-rule}
 use borrow.Author.Needs.{needs}
 use Rattle.spelling.proofs.letter.Statement.{statement}
 use Rattle.spelling.proofs.letter.Tie as tie
-use Rattle.spelling.proofs.letter.Reads as reads
-use Rattle.spelling.proofs.letter.Lts as lts
 
 array-read-result : tie.Need-array-read-result
 array-read-result c = search needs

@@ -3,10 +3,6 @@ use Rattle.spelling.proofs.SpellingCases.{translate-long, translate-unk
 use borrow.Author.Needs.{needs}
 use Rattle.spelling.proofs.translate.Statement.{statement}
 use Rattle.spelling.proofs.translate.Tie as tie
-use Rattle.spelling.proofs.translate.Reads as reads
-use Rattle.spelling.proofs.translate.Lts as lts
-use Rattle.spelling.proofs.have_letters.Reads as have-letters-reads
-use Rattle.spelling.proofs.write_letters.Reads as write-letters-reads
 
 returns : tie.Need-returns
 returns c = translate-says _ _ _ _ (translate-long ((c .before .before .before .args .bytes) .now) ((c .before .before .before .args .word) .now) (c .if1 .taken))

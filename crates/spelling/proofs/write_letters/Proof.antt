@@ -8,9 +8,6 @@ use Rattle.spelling.specs.Spelling.{letterOf}
 use Rattle.spelling.proofs.SpellingCases.{letters-more, letters-done}
 use Rattle.spelling.proofs.write_letters.Statement.{statement}
 use Rattle.spelling.proofs.write_letters.Tie as tie
-use Rattle.spelling.proofs.write_letters.Reads as reads
-use Rattle.spelling.proofs.write_letters.Lts as lts
-use Rattle.spelling.proofs.letter.Reads as letter-reads
 
 abbrev Inv-loop : tie.InvT-loop
 Inv-loop bytes word₀ i₀ word i = (i ≤ length bytes) × (length word ≡ length word₀) × (word ≡ map letterOf (take i bytes) ++ drop i word₀)

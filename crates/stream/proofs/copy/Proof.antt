@@ -6,8 +6,6 @@ use Rattle.basics.specs.Lists.{put, put-none}
 use Rattle.stream.proofs.PieceCases.{copied-more, copied}
 use Rattle.stream.proofs.copy.Statement.{statement}
 use Rattle.stream.proofs.copy.Tie as tie
-use Rattle.stream.proofs.copy.Reads as reads
-use Rattle.stream.proofs.copy.Lts as lts
 
 abbrev Inv-loop : tie.InvT-loop
 Inv-loop bytes out₀ i₀ out i = (i ≤ length bytes) × (out ≡ put 0 out₀ (take i bytes)) × (length out ≡ length out₀)

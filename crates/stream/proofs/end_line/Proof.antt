@@ -6,10 +6,6 @@ use Rattle.stream.proofs.PieceCases.{line-printed}
 use borrow.Author.Needs.{needs}
 use Rattle.stream.proofs.end_line.Statement.{statement}
 use Rattle.stream.proofs.end_line.Tie as tie
-use Rattle.stream.proofs.end_line.Reads as reads
-use Rattle.stream.proofs.end_line.Lts as lts
-use Rattle.lines.proofs.answer_line.Reads as answer-line-reads
-use Rattle.lines.proofs.write_line.Reads as write-line-reads
 
 add-words : tie.Need-add-words
 add-words c = search needs

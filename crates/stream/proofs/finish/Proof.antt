@@ -2,9 +2,6 @@ use Rattle.stream.proofs.PieceCases.{end-full, end-empty, end-last}
 use borrow.Author.Needs.{needs}
 use Rattle.stream.proofs.finish.Statement.{statement}
 use Rattle.stream.proofs.finish.Tie as tie
-use Rattle.stream.proofs.finish.Reads as reads
-use Rattle.stream.proofs.finish.Lts as lts
-use Rattle.stream.proofs.end_line.Reads as end-line-reads
 
 returns : tie.Need-returns
 returns c = end-full ((c .before .before .before .before .before .before) .args .m) ((c .before .before .before .before .before .before) .args .list .now) ((c .before .before .before .before .before .before) .args .line .now) ((c .before .before .before .before .before .before) .args .out .now) ((c .before .before .before .before .before .before) .args .held) ((c) .if1 .taken)

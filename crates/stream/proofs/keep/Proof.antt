@@ -2,8 +2,6 @@ use Rattle.stream.proofs.PieceCases.{kept-full, kept-more}
 use borrow.Author.Needs.{needs}
 use Rattle.stream.proofs.keep.Statement.{statement}
 use Rattle.stream.proofs.keep.Tie as tie
-use Rattle.stream.proofs.keep.Reads as reads
-use Rattle.stream.proofs.keep.Lts as lts
 
 returns : tie.Need-returns
 returns c = kept-full ((c .before) .args .line .now) ((c .before) .args .kept) ((c .before) .args .b) ((c .before) .pre) ((c) .if1 .taken)

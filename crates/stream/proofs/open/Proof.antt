@@ -2,11 +2,6 @@ use Rattle.stream.proofs.PieceCases.{open-refused, open-good}
 use borrow.Author.Needs.{needs}
 use Rattle.stream.proofs.open.Statement.{statement}
 use Rattle.stream.proofs.open.Tie as tie
-use Rattle.stream.proofs.open.Reads as reads
-use Rattle.stream.proofs.open.Lts as lts
-use Rattle.sheet.proofs.read.read_sheet.Reads as read-sheet-reads
-use Rattle.stream.proofs.write_header.Reads as write-header-reads
-use Rattle.stream.proofs.write_refused.Reads as write-refused-reads
 
 read-sheet-requires : tie.Need-read-sheet-requires
 read-sheet-requires c κs = search needs

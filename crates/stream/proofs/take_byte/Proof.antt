@@ -2,10 +2,6 @@ use Rattle.stream.proofs.PieceCases.{byte-full, byte-end, byte-more}
 use borrow.Author.Needs.{needs}
 use Rattle.stream.proofs.take_byte.Statement.{statement}
 use Rattle.stream.proofs.take_byte.Tie as tie
-use Rattle.stream.proofs.take_byte.Reads as reads
-use Rattle.stream.proofs.take_byte.Lts as lts
-use Rattle.stream.proofs.end_line.Reads as end-line-reads
-use Rattle.stream.proofs.keep.Reads as keep-reads
 
 returns : tie.Need-returns
 returns c = byte-full ((c .before .before .before .before .before .before) .args .m) ((c .before .before .before .before .before .before) .args .list .now) ((c .before .before .before .before .before .before) .args .b) ((c .before .before .before .before .before .before) .args .p) ((c .before .before .before .before .before .before) .args .line .now) ((c .before .before .before .before .before .before) .args .out .now) ((c) .if1 .taken) ((c .before .before .before .before .before .before) .pre .1 .within)

@@ -6,9 +6,6 @@ use Rattle.stream.specs.Calls.{PieceTaken}
 use Rattle.stream.proofs.PieceCases.{piece-none, piece-lent, piece-more, piece-done}
 use Rattle.stream.proofs.take_piece.Statement.{statement}
 use Rattle.stream.proofs.take_piece.Tie as tie
-use Rattle.stream.proofs.take_piece.Reads as reads
-use Rattle.stream.proofs.take_piece.Lts as lts
-use Rattle.stream.proofs.take_byte.Reads as take-byte-reads
 
 abbrev Inv-loop : tie.InvT-loop
 Inv-loop m list targets kinds piece line₀ out₀ p₀ i₀ line out p i = (i ≤ length piece) × PieceTaken m list (take i piece) (p₀ .held) line₀ out₀ p line out × (length line ≡ length line₀) × (length out ≡ length out₀)

@@ -2,9 +2,6 @@ use Rattle.stream.specs.Listing.{header}
 use borrow.Author.Needs.{needs}
 use Rattle.stream.proofs.write_header.Statement.{statement}
 use Rattle.stream.proofs.write_header.Tie as tie
-use Rattle.stream.proofs.write_header.Reads as reads
-use Rattle.stream.proofs.write_header.Lts as lts
-use Rattle.stream.proofs.copy.Reads as copy-reads
 
 slice-aggregate-copy : tie.Need-slice-aggregate-copy
 slice-aggregate-copy c = search needs

@@ -5,10 +5,6 @@ use Rattle.stream.proofs.PieceCases.{refused-written}
 use borrow.Author.Needs.{needs}
 use Rattle.stream.proofs.write_refused.Statement.{statement}
 use Rattle.stream.proofs.write_refused.Tie as tie
-use Rattle.stream.proofs.write_refused.Reads as reads
-use Rattle.stream.proofs.write_refused.Lts as lts
-use Rattle.columns.proofs.write_number.Reads as write-number-reads
-use Rattle.stream.proofs.copy.Reads as copy-reads
 
 slice-aggregate-copy : tie.Need-slice-aggregate-copy
 slice-aggregate-copy c = search needs

@@ -2,9 +2,6 @@ use native.Mathlib.Omega.{arith}
 use Rattle.blocks.specs.Settling.Laws.{begin-not, begin-is}
 use Rattle.blocks.proofs.block.begin.Statement.{statement}
 use Rattle.blocks.proofs.block.begin.Tie as tie
-use Rattle.blocks.proofs.block.begin.Reads as reads
-use Rattle.blocks.proofs.block.begin.Lts as lts
-use Rattle.blocks.proofs.numbers.lower.Reads as lower-reads
 
 returns : tie.Need-returns
 returns c = begin-not _ _ _ _ _ _ (c .if1 .taken)

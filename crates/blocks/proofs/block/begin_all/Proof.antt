@@ -9,11 +9,6 @@ use Rattle.blocks.specs.Settling.{Begins}
 use Rattle.blocks.specs.Settling.Laws.{begins-start, begins-more, begins-end}
 use Rattle.blocks.proofs.block.begin_all.Statement.{statement}
 use Rattle.blocks.proofs.block.begin_all.Tie as tie
-use Rattle.blocks.proofs.block.begin_all.Reads as reads
-use Rattle.blocks.proofs.block.begin_all.Lts as lts
-use Rattle.blocks.proofs.block.begin.Reads as begin-reads
-use Rattle.stateset.proofs.lowest.Reads as lowest-reads
-use Rattle.stateset.proofs.without_lowest.Reads as without-lowest-reads
 
 abbrev Inv-loop : tie.InvT-loop
 Inv-loop b₀ d₀ set guess costs top rest₀ b d rest = Rest set rest × Lowers (Begins top guess (Left set rest) costs) b₀ d₀ b d

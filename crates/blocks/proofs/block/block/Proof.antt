@@ -1,10 +1,6 @@
 use native.Mathlib.Omega.{arith}
 use Rattle.blocks.proofs.block.block.Statement.{statement}
 use Rattle.blocks.proofs.block.block.Tie as tie
-use Rattle.blocks.proofs.block.block.Reads as reads
-use Rattle.blocks.proofs.block.block.Lts as lts
-use Rattle.blocks.proofs.block.block_by.Reads as block-by-reads
-use Rattle.blocks.proofs.readers.readers.Reads as readers-reads
 
 readers-requires : tie.Need-readers-requires
 readers-requires c κs = ((c .before) .pre .0 .0 .good, (c .before) .pre .0 .0 .matches)

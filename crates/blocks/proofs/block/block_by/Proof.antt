@@ -6,13 +6,6 @@ use Rattle.blocks.specs.Settling.Laws.{block-done}
 use borrow.Author.Needs.{needs}
 use Rattle.blocks.proofs.block.block_by.Statement.{statement}
 use Rattle.blocks.proofs.block.block_by.Tie as tie
-use Rattle.blocks.proofs.block.block_by.Reads as reads
-use Rattle.blocks.proofs.block.block_by.Lts as lts
-use Rattle.blocks.proofs.block.begin_all.Reads as begin-all-reads
-use Rattle.blocks.proofs.block.clear.Reads as clear-reads
-use Rattle.blocks.proofs.block.work.Reads as work-reads
-use Rattle.blocks.proofs.block.zeros.Reads as zeros-reads
-use Rattle.stateset.proofs.intersection.Reads as intersection-reads
 
 mul-clear : tie.Need-mul-clear
 mul-clear c = omega (arith, ready-states ((c .before .before .before) .pre .0 .0))

@@ -4,8 +4,6 @@ use Rattle.blocks.specs.Settling.{Cleared}
 use Rattle.blocks.specs.Settling.Laws.{clear-start, clear-more, clear-end}
 use Rattle.blocks.proofs.block.clear.Statement.{statement}
 use Rattle.blocks.proofs.block.clear.Tie as tie
-use Rattle.blocks.proofs.block.clear.Reads as reads
-use Rattle.blocks.proofs.block.clear.Lts as lts
 
 abbrev Inv-loop : tie.InvT-loop
 Inv-loop b₀ n i₀ b i = (i ≤ n) × Cleared i b₀ b

@@ -5,8 +5,6 @@ use lib.ListN.{getD}
 use Rattle.blocks.specs.Settling.Laws.{scan-found, scan-none, scan-on}
 use Rattle.blocks.proofs.block.scan.Statement.{statement}
 use Rattle.blocks.proofs.block.scan.Tie as tie
-use Rattle.blocks.proofs.block.scan.Reads as reads
-use Rattle.blocks.proofs.block.scan.Lts as lts
 
 abbrev Inv-loop : tie.InvT-loop
 Inv-loop d k n r₀ r = (q : ℕ) → k ≤ q → q < r → getD d q 0 ≡ 0

@@ -9,10 +9,6 @@ use Rattle.blocks.specs.Settling.{WorkOn}
 use Rattle.blocks.specs.Settling.Laws.{take-none, take-row, take-less, work-done}
 use Rattle.blocks.proofs.block.work.Statement.{statement}
 use Rattle.blocks.proofs.block.work.Tie as tie
-use Rattle.blocks.proofs.block.work.Reads as reads
-use Rattle.blocks.proofs.block.work.Lts as lts
-use Rattle.blocks.proofs.block.next_row.Reads as next-row-reads
-use Rattle.blocks.proofs.row.row.Reads as row-reads
 
 abbrev Inv-loop : tie.InvT-loop
 Inv-loop m list index readers g h b₀ d₀ p₀ top s₀ b d p s = (length p ≡ 64) × Sized b d × WorkOn m list top b₀ d₀ b d

@@ -3,10 +3,6 @@ use borrow.Author.Needs.{needs}
 use Rattle.blocks.specs.Gathered.Laws.{far-none, far-reach}
 use Rattle.blocks.proofs.gather.far.Statement.{statement}
 use Rattle.blocks.proofs.gather.far.Tie as tie
-use Rattle.blocks.proofs.gather.far.Reads as reads
-use Rattle.blocks.proofs.gather.far.Lts as lts
-use Rattle.blocks.proofs.gather.reach.Reads as reach-reads
-use Rattle.blocks.proofs.gather.wide.Reads as wide-reads
 
 returns : tie.Need-returns
 returns c = far-none _ _ _ _ _ _ _ _ _ (omega (arith, (c .before .before) .fits .got)) (c .if1 .taken)

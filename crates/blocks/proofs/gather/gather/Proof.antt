@@ -9,12 +9,6 @@ use Rattle.blocks.specs.Numbers.Laws.{Left, Rest, rest-start, rest-more,
 use Rattle.blocks.specs.Stretches.Laws.{key-fits}
 use Rattle.blocks.proofs.gather.gather.Statement.{statement}
 use Rattle.blocks.proofs.gather.gather.Tie as tie
-use Rattle.blocks.proofs.gather.gather.Reads as reads
-use Rattle.blocks.proofs.gather.gather.Lts as lts
-use Rattle.blocks.proofs.gather.far.Reads as far-reads
-use Rattle.stateset.proofs.empty.Reads as empty-reads
-use Rattle.stateset.proofs.lowest.Reads as lowest-reads
-use Rattle.stateset.proofs.without_lowest.Reads as without-lowest-reads
 
 abbrev Inv-loop : tie.InvT-loop
 Inv-loop list index stride x w may b s set p₀ top got₀ rest₀ p got rest = Rest set rest × Adding (From list index top stride x w may b s (Left set rest)) p₀ 0 p got

@@ -2,9 +2,6 @@ use native.Mathlib.Omega.{arith}
 use Rattle.blocks.specs.Gathered.Laws.{near-none, near-pick}
 use Rattle.blocks.proofs.gather.near.Statement.{statement}
 use Rattle.blocks.proofs.gather.near.Tie as tie
-use Rattle.blocks.proofs.gather.near.Reads as reads
-use Rattle.blocks.proofs.gather.near.Lts as lts
-use Rattle.blocks.proofs.gather.pick.Reads as pick-reads
 
 returns : tie.Need-returns
 returns c = near-none _ _ _ _ _ _ (omega (arith, (c .before) .fits .got)) (c .if1 .taken)

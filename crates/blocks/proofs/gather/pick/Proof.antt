@@ -7,10 +7,6 @@ use Rattle.blocks.specs.Gathered.Laws.{pick-shut, pick-keeps, pick-lower
 use borrow.Author.Needs.{needs}
 use Rattle.blocks.proofs.gather.pick.Statement.{statement}
 use Rattle.blocks.proofs.gather.pick.Tie as tie
-use Rattle.blocks.proofs.gather.pick.Reads as reads
-use Rattle.blocks.proofs.gather.pick.Lts as lts
-use Rattle.stateset.proofs.add.Reads as add-reads
-use Rattle.stateset.proofs.member.Reads as member-reads
 
 member-requires : tie.Need-member-requires
 member-requires c κs = search needs

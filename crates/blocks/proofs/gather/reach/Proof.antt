@@ -6,9 +6,6 @@ use Rattle.blocks.specs.Gathered.{Adding, Reach}
 use Rattle.blocks.specs.Gathered.Laws.{reach-none, reach-more, reach-past}
 use Rattle.blocks.proofs.gather.reach.Statement.{statement}
 use Rattle.blocks.proofs.gather.reach.Tie as tie
-use Rattle.blocks.proofs.gather.reach.Reads as reads
-use Rattle.blocks.proofs.gather.reach.Lts as lts
-use Rattle.blocks.proofs.gather.pick.Reads as pick-reads
 
 abbrev Inv-loop : tie.InvT-loop
 Inv-loop list lo hi may p₀ got v all₀ k₀ p all k = (lo ≤ k) × ((k ≡ lo) ⊎ (k ≤ hi)) × Adding (Reach list lo k may v) p₀ got p all

@@ -8,12 +8,6 @@ use Rattle.blocks.specs.Gathered.Laws.{stay-start, stay-more, stay-end}
 use Rattle.blocks.specs.Numbers.Laws.{Left, Rest, rest-start, rest-more, lowest-inside, taken}
 use Rattle.blocks.proofs.gather.stay.Statement.{statement}
 use Rattle.blocks.proofs.gather.stay.Tie as tie
-use Rattle.blocks.proofs.gather.stay.Reads as reads
-use Rattle.blocks.proofs.gather.stay.Lts as lts
-use Rattle.blocks.proofs.gather.near.Reads as near-reads
-use Rattle.stateset.proofs.empty.Reads as empty-reads
-use Rattle.stateset.proofs.lowest.Reads as lowest-reads
-use Rattle.stateset.proofs.without_lowest.Reads as without-lowest-reads
 
 abbrev Inv-loop : tie.InvT-loop
 Inv-loop b s set p₀ top got₀ rest₀ p got rest = Rest set rest × Adding (Stay top b s (Left set rest)) p₀ 0 p got

@@ -4,9 +4,6 @@ use Rattle.fsbm.specs.Rules.{rules}
 use Rattle.blocks.specs.Stretches.Laws.{Built, keys-fit, built-start, built-turn, built-end}
 use Rattle.blocks.proofs.index.index.Statement.{statement}
 use Rattle.blocks.proofs.index.index.Tie as tie
-use Rattle.blocks.proofs.index.index.Reads as reads
-use Rattle.blocks.proofs.index.index.Lts as lts
-use Rattle.blocks.proofs.index.seek.Reads as seek-reads
 
 abbrev Inv-loop : tie.InvT-loop
 Inv-loop m list starts₀ stride keys k₀ y₀ starts k y = Built m list starts k y

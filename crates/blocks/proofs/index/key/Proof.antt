@@ -5,8 +5,6 @@ use Rattle.blocks.specs.Stretches.Laws.{product-fits}
 use borrow.Author.Needs.{needs}
 use Rattle.blocks.proofs.index.key.Statement.{statement}
 use Rattle.blocks.proofs.index.key.Tie as tie
-use Rattle.blocks.proofs.index.key.Reads as reads
-use Rattle.blocks.proofs.index.key.Lts as lts
 
 mul-result : tie.Need-mul-result
 mul-result c = search needs

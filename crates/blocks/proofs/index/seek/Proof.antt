@@ -4,9 +4,6 @@ use Rattle.blocks.specs.Stretches.{keyOf}
 use Rattle.blocks.specs.Stretches.Laws.{found-here, found-none, found-on}
 use Rattle.blocks.proofs.index.seek.Statement.{statement}
 use Rattle.blocks.proofs.index.seek.Tie as tie
-use Rattle.blocks.proofs.index.seek.Reads as reads
-use Rattle.blocks.proofs.index.seek.Lts as lts
-use Rattle.blocks.proofs.index.key.Reads as key-reads
 
 abbrev Inv-loop : tie.InvT-loop
 Inv-loop list stride k n y r₀ r = (k ≤ r) × (r ≤ n) × ((t : ℕ) → k ≤ t → t < r → keyOf list stride t < y)

@@ -7,10 +7,6 @@ use Rattle.blocks.specs.Numbers.Laws.{enter-not, enter-is}
 use borrow.Author.Needs.{needs}
 use Rattle.blocks.proofs.numbers.enter.Statement.{statement}
 use Rattle.blocks.proofs.numbers.enter.Tie as tie
-use Rattle.blocks.proofs.numbers.enter.Reads as reads
-use Rattle.blocks.proofs.numbers.enter.Lts as lts
-use Rattle.blocks.proofs.numbers.put.Reads as put-reads
-use Rattle.stateset.proofs.member.Reads as member-reads
 
 member-requires : tie.Need-member-requires
 member-requires c κs = search needs

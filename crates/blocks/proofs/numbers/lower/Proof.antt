@@ -3,9 +3,6 @@ use Rattle.blocks.specs.Numbers.Laws.{lower-not, lower-is}
 use borrow.Author.Needs.{needs}
 use Rattle.blocks.proofs.numbers.lower.Statement.{statement}
 use Rattle.blocks.proofs.numbers.lower.Tie as tie
-use Rattle.blocks.proofs.numbers.lower.Reads as reads
-use Rattle.blocks.proofs.numbers.lower.Lts as lts
-use Rattle.stateset.proofs.add.Reads as add-reads
 
 mul-i : tie.Need-mul-i
 mul-i c = search needs

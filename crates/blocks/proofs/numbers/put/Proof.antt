@@ -6,11 +6,6 @@ use Rattle.blocks.specs.Numbers.{Lowers, Put}
 use Rattle.blocks.specs.Numbers.Laws.{Left, Rest, rest-start, rest-more, lowest-inside, taken, sized-after, put-start, put-more, put-end}
 use Rattle.blocks.proofs.numbers.put.Statement.{statement}
 use Rattle.blocks.proofs.numbers.put.Tie as tie
-use Rattle.blocks.proofs.numbers.put.Reads as reads
-use Rattle.blocks.proofs.numbers.put.Lts as lts
-use Rattle.blocks.proofs.numbers.lower.Reads as lower-reads
-use Rattle.stateset.proofs.lowest.Reads as lowest-reads
-use Rattle.stateset.proofs.without_lowest.Reads as without-lowest-reads
 
 abbrev Inv-loop : tie.InvT-loop
 Inv-loop b₀ d₀ s got p rest₀ b d rest = Rest got rest × Lowers (Put s (Left got rest) p) b₀ d₀ b d

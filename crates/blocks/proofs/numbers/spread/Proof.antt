@@ -6,9 +6,6 @@ use Rattle.blocks.specs.Numbers.{Lowers, Spread}
 use Rattle.blocks.specs.Numbers.Laws.{sized-after, spread-start, spread-more, spread-past}
 use Rattle.blocks.proofs.numbers.spread.Statement.{statement}
 use Rattle.blocks.proofs.numbers.spread.Tie as tie
-use Rattle.blocks.proofs.numbers.spread.Reads as reads
-use Rattle.blocks.proofs.numbers.spread.Lts as lts
-use Rattle.blocks.proofs.numbers.enter.Reads as enter-reads
 
 abbrev Inv-loop : tie.InvT-loop
 Inv-loop b₀ d₀ list lo hi may got p k₀ b d k = (lo ≤ k) × ((k ≡ lo) ⊎ (k ≤ hi)) × Lowers (Spread list lo k may got p) b₀ d₀ b d

@@ -10,10 +10,6 @@ use Rattle.blocks.specs.Readers.Laws.{noted-other, noted-is}
 use borrow.Author.Needs.{needs}
 use Rattle.blocks.proofs.readers.note.Statement.{statement}
 use Rattle.blocks.proofs.readers.note.Tie as tie
-use Rattle.blocks.proofs.readers.note.Reads as reads
-use Rattle.blocks.proofs.readers.note.Lts as lts
-use Rattle.stateset.proofs.add.Reads as add-reads
-use Rattle.stateset.proofs.member.Reads as member-reads
 
 mul-from : tie.Need-mul-from
 mul-from c = search needs

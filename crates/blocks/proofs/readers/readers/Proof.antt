@@ -7,9 +7,6 @@ use Rattle.blocks.specs.Readers.{ReadersBelow}
 use Rattle.blocks.specs.Readers.Laws.{readers-start, readers-more, readers-end}
 use Rattle.blocks.proofs.readers.readers.Statement.{statement}
 use Rattle.blocks.proofs.readers.readers.Tie as tie
-use Rattle.blocks.proofs.readers.readers.Reads as reads
-use Rattle.blocks.proofs.readers.readers.Lts as lts
-use Rattle.blocks.proofs.readers.note.Reads as note-reads
 
 abbrev Inv-loop : tie.InvT-loop
 Inv-loop m list h sets₀ k₀ sets k = ReadersBelow m list k sets

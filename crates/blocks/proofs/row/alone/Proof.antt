@@ -5,11 +5,6 @@ use Rattle.blocks.specs.Readers.Laws.{readers-cover, covers-from}
 use borrow.Author.Needs.{needs}
 use Rattle.blocks.proofs.row.alone.Statement.{statement}
 use Rattle.blocks.proofs.row.alone.Tie as tie
-use Rattle.blocks.proofs.row.alone.Reads as reads
-use Rattle.blocks.proofs.row.alone.Lts as lts
-use Rattle.blocks.proofs.gather.gather.Reads as gather-reads
-use Rattle.blocks.proofs.numbers.put.Reads as put-reads
-use Rattle.stateset.proofs.intersection.Reads as intersection-reads
 
 element-copy-out-intersection : tie.Need-element-copy-out-intersection
 element-copy-out-intersection c = search needs

@@ -5,11 +5,6 @@ use Rattle.blocks.specs.Works.Laws.{ready-stride, ready-next, ready-from
 use Rattle.blocks.specs.Readers.Laws.{readers-cover}
 use Rattle.blocks.proofs.row.group.Statement.{statement}
 use Rattle.blocks.proofs.row.group.Tie as tie
-use Rattle.blocks.proofs.row.group.Reads as reads
-use Rattle.blocks.proofs.row.group.Lts as lts
-use Rattle.blocks.proofs.gather.wide.Reads as wide-reads
-use Rattle.blocks.proofs.numbers.spread.Reads as spread-reads
-use Rattle.blocks.proofs.row.moved.Reads as moved-reads
 
 mul-x : tie.Need-mul-x
 mul-x c = omega (arith, ready-room ((c .before) .pre .0 .0) _ ((c .before) .pre .1 .1 .0))

@@ -7,9 +7,6 @@ use Rattle.blocks.specs.Works.Laws.{on-none, on-then}
 use Rattle.blocks.specs.Numbers.Laws.{sized-after}
 use Rattle.blocks.proofs.row.groups.Statement.{statement}
 use Rattle.blocks.proofs.row.groups.Tie as tie
-use Rattle.blocks.proofs.row.groups.Reads as reads
-use Rattle.blocks.proofs.row.groups.Lts as lts
-use Rattle.blocks.proofs.row.group.Reads as group-reads
 
 abbrev Inv-loop : tie.InvT-loop
 Inv-loop m list index readers h may b₀ d₀ s set lo end p₀ top k₀ b d p k = (length p ≡ 64) × (lo ≤ k) × RowOn m list top s set lo b₀ d₀ k b d

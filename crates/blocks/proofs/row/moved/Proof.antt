@@ -4,11 +4,6 @@ use native.Mathlib.Omega.{arith}
 use borrow.Author.Needs.{needs}
 use Rattle.blocks.proofs.row.moved.Statement.{statement}
 use Rattle.blocks.proofs.row.moved.Tie as tie
-use Rattle.blocks.proofs.row.moved.Reads as reads
-use Rattle.blocks.proofs.row.moved.Lts as lts
-use Rattle.blocks.proofs.gather.gather.Reads as gather-reads
-use Rattle.blocks.proofs.gather.stay.Reads as stay-reads
-use Rattle.stateset.proofs.intersection.Reads as intersection-reads
 
 stay-requires : tie.Need-stay-requires
 stay-requires c κs = search needs

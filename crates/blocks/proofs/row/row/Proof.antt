@@ -5,12 +5,6 @@ use Rattle.blocks.specs.Works.Laws.{ready-stride, row-fits, row-leaves, 
 use borrow.Author.Needs.{needs}
 use Rattle.blocks.proofs.row.row.Statement.{statement}
 use Rattle.blocks.proofs.row.row.Tie as tie
-use Rattle.blocks.proofs.row.row.Reads as reads
-use Rattle.blocks.proofs.row.row.Lts as lts
-use Rattle.blocks.proofs.gather.wide.Reads as wide-reads
-use Rattle.blocks.proofs.row.alone.Reads as alone-reads
-use Rattle.blocks.proofs.row.groups.Reads as groups-reads
-use Rattle.blocks.proofs.row.storable.Reads as storable-reads
 
 alone-requires : tie.Need-alone-requires
 alone-requires c κs = search needs

@@ -3,11 +3,6 @@ use Rattle.blocks.specs.Works.Laws.{storable-held, storable-free}
 use borrow.Author.Needs.{needs}
 use Rattle.blocks.proofs.row.storable.Statement.{statement}
 use Rattle.blocks.proofs.row.storable.Tie as tie
-use Rattle.blocks.proofs.row.storable.Reads as reads
-use Rattle.blocks.proofs.row.storable.Lts as lts
-use Rattle.stateset.proofs.difference.Reads as difference-reads
-use Rattle.stateset.proofs.full.Reads as full-reads
-use Rattle.stateset.proofs.member.Reads as member-reads
 
 full-requires : tie.Need-full-requires
 full-requires c κs = search needs

@@ -5,8 +5,6 @@ use Rattle.exports.specs.CommonWords.{commonRecord}
 use borrow.Author.Needs.{needs}
 use Rattle.exports.proofs.common_words.record_of_common.Statement.{statement}
 use Rattle.exports.proofs.common_words.record_of_common.Tie as tie
-use Rattle.exports.proofs.common_words.record_of_common.Reads as reads
-use Rattle.exports.proofs.common_words.record_of_common.Lts as lts
 
 enum-known-answer : tie.Need-enum-known-answer
 enum-known-answer c = search needs

@@ -3,9 +3,6 @@ use Rattle.exports.specs.Products.{joinedOf}
 use borrow.Author.Needs.{needs}
 use Rattle.exports.proofs.products.zagvirk_join.Statement.{statement}
 use Rattle.exports.proofs.products.zagvirk_join.Tie as tie
-use Rattle.exports.proofs.products.zagvirk_join.Reads as reads
-use Rattle.exports.proofs.products.zagvirk_join.Lts as lts
-use Rattle.product.proofs.join.Reads as join-reads
 
 join-requires : tie.Need-join-requires
 join-requires c κs = search needs

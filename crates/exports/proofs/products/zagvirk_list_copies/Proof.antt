@@ -5,9 +5,6 @@ use Rattle.exports.specs.Products.{copyListRecord}
 use borrow.Author.Needs.{needs}
 use Rattle.exports.proofs.products.zagvirk_list_copies.Statement.{statement}
 use Rattle.exports.proofs.products.zagvirk_list_copies.Tie as tie
-use Rattle.exports.proofs.products.zagvirk_list_copies.Reads as reads
-use Rattle.exports.proofs.products.zagvirk_list_copies.Lts as lts
-use Rattle.copies.proofs.list_copies.Reads as list-copies-reads
 
 list-copies-requires : tie.Need-list-copies-requires
 list-copies-requires c κs = search needs

@@ -5,8 +5,6 @@ use Rattle.exports.specs.Recognize.{recognizedRecord}
 use borrow.Author.Needs.{needs}
 use Rattle.exports.proofs.recognition.record_of_answer.Statement.{statement}
 use Rattle.exports.proofs.recognition.record_of_answer.Tie as tie
-use Rattle.exports.proofs.recognition.record_of_answer.Reads as reads
-use Rattle.exports.proofs.recognition.record_of_answer.Lts as lts
 
 enum-known-answer : tie.Need-enum-known-answer
 enum-known-answer c = search needs

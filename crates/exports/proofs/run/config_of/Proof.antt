@@ -4,9 +4,6 @@ use Rattle.fsbm.specs.declared.config.Config.{Config}
 use borrow.Author.Needs.{needs}
 use Rattle.exports.proofs.run.config_of.Statement.{statement}
 use Rattle.exports.proofs.run.config_of.Tie as tie
-use Rattle.exports.proofs.run.config_of.Reads as reads
-use Rattle.exports.proofs.run.config_of.Lts as lts
-use Rattle.exports.proofs.run.mode_of.Reads as mode-of-reads
 
 mode-of-requires : tie.Need-mode-of-requires
 mode-of-requires c κs = search needs

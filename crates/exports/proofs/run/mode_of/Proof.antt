@@ -3,8 +3,6 @@ use borrow.Author.Tests.{eq-eqb, ne-eqb}
 use Rattle.basics.specs.Search.Loops.{first, second}
 use Rattle.exports.proofs.run.mode_of.Statement.{statement}
 use Rattle.exports.proofs.run.mode_of.Tie as tie
-use Rattle.exports.proofs.run.mode_of.Reads as reads
-use Rattle.exports.proofs.run.mode_of.Lts as lts
 
 returns : tie.Need-returns
 returns c = first _ (eq-eqb _ _ (c .if1 .taken)) refl

@@ -6,9 +6,6 @@ use Rattle.exports.specs.declared.run.SteppedRecord.{SteppedRecord}
 use borrow.Author.Needs.{needs}
 use Rattle.exports.proofs.run.moved_record.Statement.{statement}
 use Rattle.exports.proofs.run.moved_record.Tie as tie
-use Rattle.exports.proofs.run.moved_record.Reads as reads
-use Rattle.exports.proofs.run.moved_record.Lts as lts
-use Rattle.exports.proofs.run.record_of.Reads as record-of-reads
 
 returns : tie.Need-returns
 returns c = first _ (lt-ltb _ _ (c .if1 .taken)) refl

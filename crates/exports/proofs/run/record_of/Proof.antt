@@ -4,9 +4,6 @@ use Rattle.exports.specs.declared.run.ConfigRecord.{ConfigRecord}
 use borrow.Author.Needs.{needs}
 use Rattle.exports.proofs.run.record_of.Statement.{statement}
 use Rattle.exports.proofs.run.record_of.Tie as tie
-use Rattle.exports.proofs.run.record_of.Reads as reads
-use Rattle.exports.proofs.run.record_of.Lts as lts
-use Rattle.exports.proofs.run.mode_number.Reads as mode-number-reads
 
 mode-number-requires : tie.Need-mode-number-requires
 mode-number-requires c κs = search needs

@@ -5,9 +5,6 @@ use Rattle.exports.specs.Run.{checkedRecord}
 use borrow.Author.Needs.{needs}
 use Rattle.exports.proofs.run.zagvirk_check_run.Statement.{statement}
 use Rattle.exports.proofs.run.zagvirk_check_run.Tie as tie
-use Rattle.exports.proofs.run.zagvirk_check_run.Reads as reads
-use Rattle.exports.proofs.run.zagvirk_check_run.Lts as lts
-use Rattle.fsbm.proofs.run.check_run.Reads as check-run-reads
 
 check-run-requires : tie.Need-check-run-requires
 check-run-requires c κs = search needs

@@ -6,11 +6,6 @@ use Rattle.exports.specs.Run.{steppedRecord}
 use borrow.Author.Needs.{needs}
 use Rattle.exports.proofs.run.zagvirk_step.Statement.{statement}
 use Rattle.exports.proofs.run.zagvirk_step.Tie as tie
-use Rattle.exports.proofs.run.zagvirk_step.Reads as reads
-use Rattle.exports.proofs.run.zagvirk_step.Lts as lts
-use Rattle.exports.proofs.run.config_of.Reads as config-of-reads
-use Rattle.exports.proofs.run.moved_record.Reads as moved-record-reads
-use Rattle.fsbm.proofs.config.Config.step.Reads as step-reads
 
 config-of-requires : tie.Need-config-of-requires
 config-of-requires c κs = search needs

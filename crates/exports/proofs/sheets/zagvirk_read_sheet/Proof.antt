@@ -3,9 +3,6 @@ use Rattle.exports.specs.SheetAnswers.{readRecord}
 use borrow.Author.Needs.{needs}
 use Rattle.exports.proofs.sheets.zagvirk_read_sheet.Statement.{statement}
 use Rattle.exports.proofs.sheets.zagvirk_read_sheet.Tie as tie
-use Rattle.exports.proofs.sheets.zagvirk_read_sheet.Reads as reads
-use Rattle.exports.proofs.sheets.zagvirk_read_sheet.Lts as lts
-use Rattle.sheet.proofs.read.read_sheet.Reads as read-sheet-reads
 
 read-sheet-requires : tie.Need-read-sheet-requires
 read-sheet-requires c κs = search needs

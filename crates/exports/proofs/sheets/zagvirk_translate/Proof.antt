@@ -5,9 +5,6 @@ use Rattle.exports.specs.SheetAnswers.{translationRecord}
 use borrow.Author.Needs.{needs}
 use Rattle.exports.proofs.sheets.zagvirk_translate.Statement.{statement}
 use Rattle.exports.proofs.sheets.zagvirk_translate.Tie as tie
-use Rattle.exports.proofs.sheets.zagvirk_translate.Reads as reads
-use Rattle.exports.proofs.sheets.zagvirk_translate.Lts as lts
-use Rattle.spelling.proofs.translate.Reads as translate-reads
 
 translate-requires : tie.Need-translate-requires
 translate-requires c κs = search needs

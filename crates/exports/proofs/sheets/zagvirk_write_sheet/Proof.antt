@@ -5,9 +5,6 @@ use Rattle.exports.specs.SheetAnswers.{writtenRecord}
 use borrow.Author.Needs.{needs}
 use Rattle.exports.proofs.sheets.zagvirk_write_sheet.Statement.{statement}
 use Rattle.exports.proofs.sheets.zagvirk_write_sheet.Tie as tie
-use Rattle.exports.proofs.sheets.zagvirk_write_sheet.Reads as reads
-use Rattle.exports.proofs.sheets.zagvirk_write_sheet.Lts as lts
-use Rattle.sheet.proofs.write.write_sheet.Reads as write-sheet-reads
 
 write-sheet-requires : tie.Need-write-sheet-requires
 write-sheet-requires c κs = search needs

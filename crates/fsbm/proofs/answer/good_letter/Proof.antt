@@ -3,8 +3,6 @@ use borrow.Author.Tests.{le-leb, lt-leb}
 use Rattle.basics.specs.Search.Loops.{pass, stop}
 use Rattle.fsbm.proofs.answer.good_letter.Statement.{statement}
 use Rattle.fsbm.proofs.answer.good_letter.Tie as tie
-use Rattle.fsbm.proofs.answer.good_letter.Reads as reads
-use Rattle.fsbm.proofs.answer.good_letter.Lts as lts
 
 returns : tie.Need-returns
 returns c = stop _ (lt-leb _ _ (c .if1 .taken))

@@ -9,9 +9,6 @@ use Rattle.basics.specs.Search.Loops.{in-fails, in-goes-on, in-done}
 use Rattle.fsbm.specs.Answers.{goodLetter}
 use Rattle.fsbm.proofs.answer.good_letters.Statement.{statement}
 use Rattle.fsbm.proofs.answer.good_letters.Tie as tie
-use Rattle.fsbm.proofs.answer.good_letters.Reads as reads
-use Rattle.fsbm.proofs.answer.good_letters.Lts as lts
-use Rattle.fsbm.proofs.answer.good_letter.Reads as good-letter-reads
 
 abbrev Inv-loop : tie.InvT-loop
 Inv-loop letters word i₀ i = (i ≤ length word) × (allIn (goodLetter letters) (drop i word) ≡ allIn (goodLetter letters) word)

@@ -5,10 +5,6 @@ use Rattle.basics.specs.Search.Loops.{first, second}
 use borrow.Author.Needs.{needs}
 use Rattle.fsbm.proofs.answer.table_and_word.Statement.{statement}
 use Rattle.fsbm.proofs.answer.table_and_word.Tie as tie
-use Rattle.fsbm.proofs.answer.table_and_word.Reads as reads
-use Rattle.fsbm.proofs.answer.table_and_word.Lts as lts
-use Rattle.fsbm.proofs.answer.good_letters.Reads as good-letters-reads
-use Rattle.fsbm.proofs.machine.is_well_formed.Reads as is-well-formed-reads
 
 is-well-formed-requires : tie.Need-is-well-formed-requires
 is-well-formed-requires c κs = search needs

@@ -1,8 +1,6 @@
 use Rattle.fsbm.proofs.ConfigCases.{advanced-epsilon, advanced-letter}
 use Rattle.fsbm.proofs.config.advance.Statement.{statement}
 use Rattle.fsbm.proofs.config.advance.Tie as tie
-use Rattle.fsbm.proofs.config.advance.Reads as reads
-use Rattle.fsbm.proofs.config.advance.Lts as lts
 
 returns : tie.Need-returns
 returns c = advanced-epsilon (c .before .args .p) (c .before .args .x) (c .if1 .taken)

@@ -5,9 +5,6 @@ use borrow.Author.Needs.{needs}
 use borrow.Author.Needs.{needs}
 use Rattle.fsbm.proofs.config.is_open.Statement.{statement}
 use Rattle.fsbm.proofs.config.is_open.Tie as tie
-use Rattle.fsbm.proofs.config.is_open.Reads as reads
-use Rattle.fsbm.proofs.config.is_open.Lts as lts
-use Rattle.fsbm.proofs.machine.is_buffering.Reads as is-buffering-reads
 
 returns : tie.Need-returns
 returns c = stop _ (ap not (c .if1 .taken))

@@ -7,10 +7,6 @@ use borrow.Author.Needs.{needs}
 use borrow.Author.Needs.{needs}
 use Rattle.fsbm.proofs.config.passes.Statement.{statement}
 use Rattle.fsbm.proofs.config.passes.Tie as tie
-use Rattle.fsbm.proofs.config.passes.Reads as reads
-use Rattle.fsbm.proofs.config.passes.Lts as lts
-use Rattle.fsbm.proofs.config.is_open.Reads as is-open-reads
-use Rattle.fsbm.proofs.machine.both_matching.Reads as both-matching-reads
 
 both-matching-requires : tie.Need-both-matching-requires
 both-matching-requires c κs = search needs

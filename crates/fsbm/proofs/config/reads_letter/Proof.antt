@@ -3,8 +3,6 @@ use Rattle.fsbm.proofs.ConfigCases.{reads-epsilon, reads-past, reads-ou
 use borrow.Author.Needs.{needs}
 use Rattle.fsbm.proofs.config.reads_letter.Statement.{statement}
 use Rattle.fsbm.proofs.config.reads_letter.Tie as tie
-use Rattle.fsbm.proofs.config.reads_letter.Reads as reads
-use Rattle.fsbm.proofs.config.reads_letter.Lts as lts
 
 returns : tie.Need-returns
 returns c = reads-epsilon ((c .before .args .word) .now) (c .before .args .p) (c .before .args .e) (c .before .args .x) (c .if1 .taken)

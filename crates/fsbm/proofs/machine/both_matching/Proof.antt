@@ -4,9 +4,6 @@ use Rattle.fsbm.specs.Machine.{matching}
 use borrow.Author.Needs.{needs}
 use Rattle.fsbm.proofs.machine.both_matching.Statement.{statement}
 use Rattle.fsbm.proofs.machine.both_matching.Tie as tie
-use Rattle.fsbm.proofs.machine.both_matching.Reads as reads
-use Rattle.fsbm.proofs.machine.both_matching.Lts as lts
-use Rattle.fsbm.proofs.machine.is_matching.Reads as is-matching-reads
 
 cast-is-matching : tie.Need-cast-is-matching
 cast-is-matching c = search needs

@@ -3,8 +3,6 @@ use mathlib.Core.Path.{sym}
 use borrow.Author.Needs.{needs}
 use Rattle.fsbm.proofs.machine.element.Statement.{statement}
 use Rattle.fsbm.proofs.machine.element.Tie as tie
-use Rattle.fsbm.proofs.machine.element.Reads as reads
-use Rattle.fsbm.proofs.machine.element.Lts as lts
 
 mul-result : tie.Need-mul-result
 mul-result c = search needs

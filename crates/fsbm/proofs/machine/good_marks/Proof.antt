@@ -10,10 +10,6 @@ use Rattle.fsbm.specs.Machine.{goodMark}
 use Rattle.fsbm.proofs.MachineCases.{marked, marked-by, marks-none, marks-next, marks-large, marks-end, states-few}
 use Rattle.fsbm.proofs.machine.good_marks.Statement.{statement}
 use Rattle.fsbm.proofs.machine.good_marks.Tie as tie
-use Rattle.fsbm.proofs.machine.good_marks.Reads as reads
-use Rattle.fsbm.proofs.machine.good_marks.Lts as lts
-use Rattle.fsbm.proofs.machine.greater.Reads as greater-reads
-use Rattle.fsbm.proofs.machine.states_for.Reads as states-for-reads
 
 abbrev Inv-loop : tie.InvT-loop
 Inv-loop states marks largest₀ needed₀ q₀ largest needed q = (q ≤ 64) × (needed ≤ 64) × ((leb largest 11 && leb needed states) ≡ allBelow q (goodMark (marked states marks)))

@@ -9,11 +9,6 @@ use Rattle.fsbm.specs.Machine.{goodTransition}
 use Rattle.fsbm.proofs.MachineCases.{leastAt, least-next, transitions-unnamed, transitions-fall, transitions-next, transitions-none, transitions-done, rank-small}
 use Rattle.fsbm.proofs.machine.good_transitions.Statement.{statement}
 use Rattle.fsbm.proofs.machine.good_transitions.Tie as tie
-use Rattle.fsbm.proofs.machine.good_transitions.Reads as reads
-use Rattle.fsbm.proofs.machine.good_transitions.Lts as lts
-use Rattle.fsbm.proofs.machine.is_named.Reads as is-named-reads
-use Rattle.fsbm.proofs.machine.present_transition.Reads as present-transition-reads
-use Rattle.fsbm.proofs.machine.rank.Reads as rank-reads
 
 abbrev Inv-loop : tie.InvT-loop
 Inv-loop states letters list n least₀ k₀ least k = (k ≤ n) × (allBelow k (goodTransition states letters list) ≡ true) × (least ≡ leastAt list k)

@@ -1,9 +1,6 @@
 use borrow.Author.Needs.{needs}
 use Rattle.fsbm.proofs.machine.is_buffering.Statement.{statement}
 use Rattle.fsbm.proofs.machine.is_buffering.Tie as tie
-use Rattle.fsbm.proofs.machine.is_buffering.Reads as reads
-use Rattle.fsbm.proofs.machine.is_buffering.Lts as lts
-use Rattle.fsbm.proofs.machine.mark.Reads as mark-reads
 
 mark-requires : tie.Need-mark-requires
 mark-requires c κs = search needs

@@ -1,9 +1,6 @@
 use borrow.Author.Needs.{needs}
 use Rattle.fsbm.proofs.machine.is_initial.Statement.{statement}
 use Rattle.fsbm.proofs.machine.is_initial.Tie as tie
-use Rattle.fsbm.proofs.machine.is_initial.Reads as reads
-use Rattle.fsbm.proofs.machine.is_initial.Lts as lts
-use Rattle.fsbm.proofs.machine.mark.Reads as mark-reads
 
 mark-requires : tie.Need-mark-requires
 mark-requires c κs = search needs

@@ -2,8 +2,6 @@ use Rattle.fsbm.proofs.MachineCases.{named-from, named-letter, named-to
 use borrow.Author.Needs.{needs}
 use Rattle.fsbm.proofs.machine.is_named.Statement.{statement}
 use Rattle.fsbm.proofs.machine.is_named.Tie as tie
-use Rattle.fsbm.proofs.machine.is_named.Reads as reads
-use Rattle.fsbm.proofs.machine.is_named.Lts as lts
 
 cast-if1 : tie.Need-cast-if1
 cast-if1 c = search needs

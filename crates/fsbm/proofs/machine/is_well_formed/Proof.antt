@@ -6,10 +6,6 @@ use Rattle.basics.specs.Search.Loops.{pass, stop}
 use borrow.Author.Needs.{needs}
 use Rattle.fsbm.proofs.machine.is_well_formed.Statement.{statement}
 use Rattle.fsbm.proofs.machine.is_well_formed.Tie as tie
-use Rattle.fsbm.proofs.machine.is_well_formed.Reads as reads
-use Rattle.fsbm.proofs.machine.is_well_formed.Lts as lts
-use Rattle.fsbm.proofs.machine.good_marks.Reads as good-marks-reads
-use Rattle.fsbm.proofs.machine.good_transitions.Reads as good-transitions-reads
 
 returns : tie.Need-returns
 unfolding wellFormed

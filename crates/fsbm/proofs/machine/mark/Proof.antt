@@ -2,8 +2,6 @@ use borrow.Author.Tests.{lt-ltb, le-ltb}
 use borrow.Author.Needs.{needs}
 use Rattle.fsbm.proofs.machine.mark.Statement.{statement}
 use Rattle.fsbm.proofs.machine.mark.Tie as tie
-use Rattle.fsbm.proofs.machine.mark.Reads as reads
-use Rattle.fsbm.proofs.machine.mark.Lts as lts
 
 element-copy-out-result : tie.Need-element-copy-out-result
 element-copy-out-result c = search needs

@@ -4,8 +4,6 @@ use Rattle.basics.specs.Search.Loops.{first, second}
 use borrow.Author.Needs.{needs}
 use Rattle.fsbm.proofs.machine.states_for.Statement.{statement}
 use Rattle.fsbm.proofs.machine.states_for.Tie as tie
-use Rattle.fsbm.proofs.machine.states_for.Reads as reads
-use Rattle.fsbm.proofs.machine.states_for.Lts as lts
 
 returns : tie.Need-returns
 returns c = first _ (eq-eqb _ _ (c .if1 .taken)) refl

@@ -2,9 +2,6 @@ use Rattle.fsbm.proofs.MachineCases.{transition-past}
 use borrow.Author.Needs.{needs}
 use Rattle.fsbm.proofs.machine.transition_at.Statement.{statement}
 use Rattle.fsbm.proofs.machine.transition_at.Tie as tie
-use Rattle.fsbm.proofs.machine.transition_at.Reads as reads
-use Rattle.fsbm.proofs.machine.transition_at.Lts as lts
-use Rattle.fsbm.proofs.machine.element.Reads as element-reads
 
 returns : tie.Need-returns
 returns c = transition-past ((c .before .before .args .list) .now) (c .before .before .args .k) (c .if1 .taken)

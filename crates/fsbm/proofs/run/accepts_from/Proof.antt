@@ -10,13 +10,6 @@ use borrow.Author.Needs.{needs}
 use native.Mathlib.Omega.{arith}
 use Rattle.fsbm.proofs.run.accepts_from.Statement.{statement}
 use Rattle.fsbm.proofs.run.accepts_from.Tie as tie
-use Rattle.fsbm.proofs.run.accepts_from.Reads as reads
-use Rattle.fsbm.proofs.run.accepts_from.Lts as lts
-use Rattle.fsbm.proofs.config.Config.after.Reads as after-reads
-use Rattle.fsbm.proofs.config.Config.change_mode.Reads as change-mode-reads
-use Rattle.fsbm.proofs.config.Config.is_accepting.Reads as is-accepting-reads
-use Rattle.fsbm.proofs.config.Config.may_take.Reads as may-take-reads
-use Rattle.fsbm.proofs.machine.present_transition.Reads as present-transition-reads
 
 abbrev Inv-loop : tie.InvT-loop
 Inv-loop list word run count m c₀ i₀ c i = (wellPlaced (m .states) (length word) c ≡ true) × (acceptingFrom m list word c (drop i (take count run)) ≡ acceptingFrom m list word c₀ (drop 1 (take count run)))

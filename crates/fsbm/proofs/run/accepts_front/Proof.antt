@@ -10,11 +10,6 @@ use native.Mathlib.Omega.{arith}
 use borrow.Author.Needs.{needs}
 use Rattle.fsbm.proofs.run.accepts_front.Statement.{statement}
 use Rattle.fsbm.proofs.run.accepts_front.Tie as tie
-use Rattle.fsbm.proofs.run.accepts_front.Reads as reads
-use Rattle.fsbm.proofs.run.accepts_front.Lts as lts
-use Rattle.fsbm.proofs.config.Config.start_at.Reads as start-at-reads
-use Rattle.fsbm.proofs.machine.is_initial.Reads as is-initial-reads
-use Rattle.fsbm.proofs.run.accepts_from.Reads as accepts-from-reads
 
 returns : tie.Need-returns
 returns c = run-none (c .before .before .before .before .args .t1) ((c .before .before .before .before .args .list) .now) ((c .before .before .before .before .args .word) .now) ((c .before .before .before .before .args .run) .now) (c .before .before .before .before .args .count) (c .if1 .taken)

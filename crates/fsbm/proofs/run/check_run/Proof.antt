@@ -5,10 +5,6 @@ use borrow.Author.Needs.{needs}
 use borrow.Author.Needs.{needs}
 use Rattle.fsbm.proofs.run.check_run.Statement.{statement}
 use Rattle.fsbm.proofs.run.check_run.Tie as tie
-use Rattle.fsbm.proofs.run.check_run.Reads as reads
-use Rattle.fsbm.proofs.run.check_run.Lts as lts
-use Rattle.fsbm.proofs.answer.table_and_word.Reads as table-and-word-reads
-use Rattle.fsbm.proofs.run.is_accepting_run.Reads as is-accepting-run-reads
 
 table-and-word-requires : tie.Need-table-and-word-requires
 table-and-word-requires c κs = search needs

@@ -7,9 +7,6 @@ use borrow.Author.Needs.{needs}
 use borrow.Author.Needs.{needs}
 use Rattle.fsbm.proofs.run.is_accepting_run.Statement.{statement}
 use Rattle.fsbm.proofs.run.is_accepting_run.Tie as tie
-use Rattle.fsbm.proofs.run.is_accepting_run.Reads as reads
-use Rattle.fsbm.proofs.run.is_accepting_run.Lts as lts
-use Rattle.fsbm.proofs.run.accepts_front.Reads as accepts-front-reads
 
 accepts-front-requires : tie.Need-accepts-front-requires
 accepts-front-requires c κs = search needs

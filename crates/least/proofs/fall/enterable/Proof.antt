@@ -3,11 +3,6 @@ use Rattle.least.specs.Falls.Laws.{enterable-held, enterable-all}
 use borrow.Author.Needs.{needs}
 use Rattle.least.proofs.fall.enterable.Statement.{statement}
 use Rattle.least.proofs.fall.enterable.Tie as tie
-use Rattle.least.proofs.fall.enterable.Reads as reads
-use Rattle.least.proofs.fall.enterable.Lts as lts
-use Rattle.stateset.proofs.difference.Reads as difference-reads
-use Rattle.stateset.proofs.full.Reads as full-reads
-use Rattle.stateset.proofs.member.Reads as member-reads
 
 full-requires : tie.Need-full-requires
 full-requires c κs = search needs

@@ -3,9 +3,6 @@ use Rattle.least.specs.Falls.Laws.{fall-not, fall-is}
 use borrow.Author.Needs.{needs}
 use Rattle.least.proofs.fall.fall.Statement.{statement}
 use Rattle.least.proofs.fall.fall.Tie as tie
-use Rattle.least.proofs.fall.fall.Reads as reads
-use Rattle.least.proofs.fall.fall.Lts as lts
-use Rattle.stateset.proofs.add.Reads as add-reads
 
 mul-if1 : tie.Need-mul-if1
 mul-if1 c = search needs

@@ -6,12 +6,6 @@ use Rattle.least.specs.Falls.Laws.{normal-none, normal-buffers, normal-p
 use borrow.Author.Needs.{needs}
 use Rattle.least.proofs.fall.normal.Statement.{statement}
 use Rattle.least.proofs.fall.normal.Tie as tie
-use Rattle.least.proofs.fall.normal.Reads as reads
-use Rattle.least.proofs.fall.normal.Lts as lts
-use Rattle.blocks.proofs.gather.wide.Reads as wide-reads
-use Rattle.least.proofs.fall.enterable.Reads as enterable-reads
-use Rattle.least.proofs.fall.steps.Reads as steps-reads
-use Rattle.stateset.proofs.member.Reads as member-reads
 
 returns : tie.Need-returns
 returns c = normal-past ((c .before .before .before) .pre .0 .0) _ ((c .before .before .before) .pre .0 .1) _ _ _ (omega (arith, (c .before .before .before) .fits .got)) (c .if1 .taken)

@@ -9,11 +9,6 @@ use lib.ListN.{getD}
 use borrow.Author.Needs.{needs}
 use Rattle.least.proofs.fall.step.Statement.{statement}
 use Rattle.least.proofs.fall.step.Tie as tie
-use Rattle.least.proofs.fall.step.Reads as reads
-use Rattle.least.proofs.fall.step.Lts as lts
-use Rattle.least.proofs.fall.fall.Reads as fall-reads
-use Rattle.least.proofs.fall.weight.Reads as weight-reads
-use Rattle.stateset.proofs.member.Reads as member-reads
 
 mul-to : tie.Need-mul-to
 mul-to c = search needs

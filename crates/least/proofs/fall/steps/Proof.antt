@@ -6,9 +6,6 @@ use Rattle.least.specs.Falls.{Falls, Steps}
 use Rattle.least.specs.Falls.Laws.{steps-start, steps-more, steps-past}
 use Rattle.least.proofs.fall.steps.Statement.{statement}
 use Rattle.least.proofs.fall.steps.Tie as tie
-use Rattle.least.proofs.fall.steps.Reads as reads
-use Rattle.least.proofs.fall.steps.Lts as lts
-use Rattle.least.proofs.fall.step.Reads as step-reads
 
 abbrev Inv-loop : tie.InvT-loop
 Inv-loop list lo hi may n d₀ got all₀ k₀ d all k = (lo ≤ k) × ((k ≡ lo) ⊎ (k ≤ hi)) × Falls (Steps list lo k may n) (Steps list lo k may n) d₀ got d all

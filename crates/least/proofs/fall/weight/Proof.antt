@@ -3,8 +3,6 @@ use Rattle.least.specs.Falls.Laws.{weigh-letter}
 use borrow.Author.Needs.{needs}
 use Rattle.least.proofs.fall.weight.Statement.{statement}
 use Rattle.least.proofs.fall.weight.Tie as tie
-use Rattle.least.proofs.fall.weight.Reads as reads
-use Rattle.least.proofs.fall.weight.Lts as lts
 
 returns : tie.Need-returns
 returns c = search needs

@@ -11,13 +11,6 @@ use Rattle.least.specs.Turns.{Made, Bound, Limit}
 use Rattle.least.specs.Turns.Laws.{copies-start, copies-more, copies-end, copies-under, limit-falls}
 use Rattle.least.proofs.turns.copies.Statement.{statement}
 use Rattle.least.proofs.turns.copies.Tie as tie
-use Rattle.least.proofs.turns.copies.Reads as reads
-use Rattle.least.proofs.turns.copies.Lts as lts
-use Rattle.least.proofs.turns.guessed.Reads as guessed-reads
-use Rattle.least.proofs.turns.lowered.Reads as lowered-reads
-use Rattle.stateset.proofs.empty.Reads as empty-reads
-use Rattle.stateset.proofs.lowest.Reads as lowest-reads
-use Rattle.stateset.proofs.without_lowest.Reads as without-lowest-reads
 
 abbrev Inv-loop : tie.InvT-loop
 Inv-loop list index readers g h storing set b₀ d₀ hints₀ first m got₀ limit₀ rest₀ b d hints got limit rest =

@@ -2,12 +2,6 @@ use Rattle.fsbm.specs.Rules.{rules}
 use borrow.Author.Needs.{needs}
 use Rattle.least.proofs.turns.costs.Statement.{statement}
 use Rattle.least.proofs.turns.costs.Tie as tie
-use Rattle.least.proofs.turns.costs.Reads as reads
-use Rattle.least.proofs.turns.costs.Lts as lts
-use Rattle.blocks.proofs.readers.readers.Reads as readers-reads
-use Rattle.least.proofs.turns.ends.Reads as ends-reads
-use Rattle.least.proofs.turns.start.Reads as start-reads
-use Rattle.least.proofs.turns.turns.Reads as turns-reads
 
 start-requires : tie.Need-start-requires
 start-requires c κs = search needs

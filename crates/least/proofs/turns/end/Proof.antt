@@ -3,9 +3,6 @@ use Rattle.least.specs.Falls.Laws.{end-not, end-is}
 use borrow.Author.Needs.{needs}
 use Rattle.least.proofs.turns.end.Statement.{statement}
 use Rattle.least.proofs.turns.end.Tie as tie
-use Rattle.least.proofs.turns.end.Reads as reads
-use Rattle.least.proofs.turns.end.Lts as lts
-use Rattle.least.proofs.fall.fall.Reads as fall-reads
 
 returns : tie.Need-returns
 returns c = end-not _ _ _ _ _ (omega (arith, (c .before) .fits .got)) (c .if1 .taken)

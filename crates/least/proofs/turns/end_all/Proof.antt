@@ -8,12 +8,6 @@ use Rattle.least.specs.Falls.{Falls, Ends}
 use Rattle.least.specs.Falls.Laws.{ends-start, ends-more, ends-end}
 use Rattle.least.proofs.turns.end_all.Statement.{statement}
 use Rattle.least.proofs.turns.end_all.Tie as tie
-use Rattle.least.proofs.turns.end_all.Reads as reads
-use Rattle.least.proofs.turns.end_all.Lts as lts
-use Rattle.least.proofs.turns.end.Reads as end-reads
-use Rattle.least.proofs.turns.note.Reads as note-reads
-use Rattle.stateset.proofs.lowest.Reads as lowest-reads
-use Rattle.stateset.proofs.without_lowest.Reads as without-lowest-reads
 
 abbrev Inv-loop : tie.InvT-loop
 Inv-loop b guess h d₀ hints₀ got top all₀ rest₀ d hints all rest = Rest h rest × Falls (Ends top b guess (Left h rest)) (Ends top b guess (Left h rest)) d₀ got d all

@@ -5,10 +5,6 @@ use Rattle.least.specs.Turns.{EnteredBelow}
 use Rattle.least.specs.Turns.Laws.{below-start, below-more, below-end}
 use Rattle.least.proofs.turns.ends.Statement.{statement}
 use Rattle.least.proofs.turns.ends.Tie as tie
-use Rattle.least.proofs.turns.ends.Reads as reads
-use Rattle.least.proofs.turns.ends.Lts as lts
-use Rattle.least.proofs.turns.with_entered.Reads as with-entered-reads
-use Rattle.stateset.proofs.empty.Reads as empty-reads
 
 abbrev Inv-loop : tie.InvT-loop
 Inv-loop m list h set₀ k₀ set k = EnteredBelow m list k set

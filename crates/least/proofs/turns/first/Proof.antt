@@ -3,9 +3,6 @@ use Rattle.least.specs.Turns.Laws.{first-yes, first-no}
 use borrow.Author.Needs.{needs}
 use Rattle.least.proofs.turns.first.Statement.{statement}
 use Rattle.least.proofs.turns.first.Tie as tie
-use Rattle.least.proofs.turns.first.Reads as reads
-use Rattle.least.proofs.turns.first.Lts as lts
-use Rattle.stateset.proofs.member.Reads as member-reads
 
 member-requires : tie.Need-member-requires
 member-requires c κs = search needs

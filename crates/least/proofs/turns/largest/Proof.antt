@@ -8,11 +8,6 @@ use Rattle.blocks.specs.Numbers.Laws.{Left, Rest, rest-start, rest-more, lowest
 use Rattle.least.specs.Turns.Laws.{most-start, most-more, most-over, most-end}
 use Rattle.least.proofs.turns.largest.Statement.{statement}
 use Rattle.least.proofs.turns.largest.Tie as tie
-use Rattle.least.proofs.turns.largest.Reads as reads
-use Rattle.least.proofs.turns.largest.Lts as lts
-use Rattle.least.proofs.turns.greater.Reads as greater-reads
-use Rattle.stateset.proofs.lowest.Reads as lowest-reads
-use Rattle.stateset.proofs.without_lowest.Reads as without-lowest-reads
 
 abbrev Inv-loop : tie.InvT-loop
 Inv-loop h d limit most₀ rest₀ most rest = Rest h rest × ((z : ℕ) → Left h rest z → costOf d z ≤ most)

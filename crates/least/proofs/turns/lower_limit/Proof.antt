@@ -5,9 +5,6 @@ use Rattle.least.specs.Turns.Laws.{lowered-same, lowered-to}
 use borrow.Author.Needs.{needs}
 use Rattle.least.proofs.turns.lower_limit.Statement.{statement}
 use Rattle.least.proofs.turns.lower_limit.Tie as tie
-use Rattle.least.proofs.turns.lower_limit.Reads as reads
-use Rattle.least.proofs.turns.lower_limit.Lts as lts
-use Rattle.fsbm.proofs.machine.is_final.Reads as is-final-reads
 
 is-final-requires : tie.Need-is-final-requires
 is-final-requires c κs = search needs

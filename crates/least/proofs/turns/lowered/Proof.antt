@@ -4,9 +4,6 @@ use Rattle.least.specs.Turns.{Lowered}
 use Rattle.least.specs.Turns.Laws.{lowered-same, lowered-then}
 use Rattle.least.proofs.turns.lowered.Statement.{statement}
 use Rattle.least.proofs.turns.lowered.Tie as tie
-use Rattle.least.proofs.turns.lowered.Reads as reads
-use Rattle.least.proofs.turns.lowered.Lts as lts
-use Rattle.least.proofs.turns.lower_limit.Reads as lower-limit-reads
 
 abbrev Inv-loop : tie.InvT-loop
 Inv-loop marks d limit least₀ f₀ least f = Lowered marks d limit least × (f ≤ 64)

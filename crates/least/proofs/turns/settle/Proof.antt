@@ -9,13 +9,6 @@ use Rattle.least.specs.Turns.{NormalSo}
 use Rattle.least.specs.Turns.Laws.{so-start, so-more, so-end}
 use Rattle.least.proofs.turns.settle.Statement.{statement}
 use Rattle.least.proofs.turns.settle.Tie as tie
-use Rattle.least.proofs.turns.settle.Reads as reads
-use Rattle.least.proofs.turns.settle.Lts as lts
-use Rattle.least.proofs.fall.normal.Reads as normal-reads
-use Rattle.stateset.proofs.add.Reads as add-reads
-use Rattle.stateset.proofs.empty.Reads as empty-reads
-use Rattle.stateset.proofs.lowest.Reads as lowest-reads
-use Rattle.stateset.proofs.without_lowest.Reads as without-lowest-reads
 
 abbrev Inv-loop : tie.InvT-loop
 Inv-loop m list index g h d₀ fresh started₀ rest₀ d started rest = NormalSo m list d₀ fresh d rest started

@@ -8,9 +8,6 @@ use Rattle.least.specs.Turns.{firstOf}
 use Rattle.least.specs.Turns.Laws.{first-more, first-end}
 use Rattle.least.proofs.turns.start.Statement.{statement}
 use Rattle.least.proofs.turns.start.Tie as tie
-use Rattle.least.proofs.turns.start.Reads as reads
-use Rattle.least.proofs.turns.start.Lts as lts
-use Rattle.least.proofs.turns.first.Reads as first-reads
 
 abbrev Inv-loop : tie.InvT-loop
 Inv-loop initial d₀ q₀ d q = (q ≤ 64) × (length d ≡ 64) × ((p : ℕ) → p < q → getD d p 0 ≡ firstOf (has initial p))

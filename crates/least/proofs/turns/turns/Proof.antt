@@ -10,11 +10,6 @@ use Rattle.least.specs.Turns.{RoundsOf, Limit}
 use Rattle.least.specs.Turns.Laws.{first-rounds, initial-is, turns-part, turns-buffer, turns-end, turns-less, rounds-under, limit-falls, limit-none}
 use Rattle.least.proofs.turns.turns.Statement.{statement}
 use Rattle.least.proofs.turns.turns.Tie as tie
-use Rattle.least.proofs.turns.turns.Reads as reads
-use Rattle.least.proofs.turns.turns.Lts as lts
-use Rattle.least.proofs.turns.copies.Reads as copies-reads
-use Rattle.least.proofs.turns.settle.Reads as settle-reads
-use Rattle.stateset.proofs.intersection.Reads as intersection-reads
 
 abbrev Inv-loop : tie.InvT-loop
 Inv-loop m list index readers storing b₀ d₀ hints₀ g h fresh₀ limit₀ b d hints fresh limit = (length b ≡ 4096) × Past m b × (length d ≡ 64) × RoundsOf limit m list (In fresh) (In fresh) d × Limit (m .marks) d limit

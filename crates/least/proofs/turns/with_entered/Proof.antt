@@ -9,10 +9,6 @@ use Rattle.least.specs.Turns.Laws.{entered-other, entered-inside, entere
 use borrow.Author.Needs.{needs}
 use Rattle.least.proofs.turns.with_entered.Statement.{statement}
 use Rattle.least.proofs.turns.with_entered.Tie as tie
-use Rattle.least.proofs.turns.with_entered.Reads as reads
-use Rattle.least.proofs.turns.with_entered.Lts as lts
-use Rattle.stateset.proofs.add.Reads as add-reads
-use Rattle.stateset.proofs.member.Reads as member-reads
 
 mul-to : tie.Need-mul-to
 mul-to c = search needs

@@ -7,10 +7,6 @@ use Rattle.product.proofs.FaultCases.{letter-few, count-is}
 use borrow.Author.Needs.{needs}
 use Rattle.product.proofs.fault.count_joined.Statement.{statement}
 use Rattle.product.proofs.fault.count_joined.Tie as tie
-use Rattle.product.proofs.fault.count_joined.Reads as reads
-use Rattle.product.proofs.fault.count_joined.Lts as lts
-use Rattle.product.proofs.fault.sum_products.Reads as sum-products-reads
-use Rattle.product.proofs.fault.tally.Reads as tally-reads
 
 tally-requires : tie.Need-tally-requires
 tally-requires c κs = let t = rules (c .before .before .args .first) ((c .before .before .args .first-list) .now) ((c .before .before .pre) .0) in λ k lt. omega (arith, t .letter-below k lt, t .letters-fit)

@@ -10,11 +10,6 @@ use Rattle.product.specs.Product.{joinedCount, joinFault}
 use borrow.Author.Needs.{needs}
 use Rattle.product.proofs.fault.first_fault.Statement.{statement}
 use Rattle.product.proofs.fault.first_fault.Tie as tie
-use Rattle.product.proofs.fault.first_fault.Reads as reads
-use Rattle.product.proofs.fault.first_fault.Lts as lts
-use Rattle.fsbm.proofs.machine.is_well_formed.Reads as is-well-formed-reads
-use Rattle.product.proofs.fault.count_joined.Reads as count-joined-reads
-use Rattle.product.proofs.fault.is_plain.Reads as is-plain-reads
 
 is-well-formed-requires : tie.Need-is-well-formed-requires
 is-well-formed-requires c κs = search needs

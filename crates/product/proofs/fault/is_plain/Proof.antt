@@ -5,10 +5,6 @@ use Rattle.product.specs.Product.{plain}
 use borrow.Author.Needs.{needs}
 use Rattle.product.proofs.fault.is_plain.Statement.{statement}
 use Rattle.product.proofs.fault.is_plain.Tie as tie
-use Rattle.product.proofs.fault.is_plain.Reads as reads
-use Rattle.product.proofs.fault.is_plain.Lts as lts
-use Rattle.product.proofs.fault.plain_states.Reads as plain-states-reads
-use Rattle.product.proofs.fault.plain_transitions.Reads as plain-transitions-reads
 
 plain-states-requires : tie.Need-plain-states-requires
 plain-states-requires c κs = search needs

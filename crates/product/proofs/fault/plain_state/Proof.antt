@@ -4,10 +4,6 @@ use Rattle.basics.specs.Search.Loops.{pass, stop}
 use borrow.Author.Needs.{needs}
 use Rattle.product.proofs.fault.plain_state.Statement.{statement}
 use Rattle.product.proofs.fault.plain_state.Tie as tie
-use Rattle.product.proofs.fault.plain_state.Reads as reads
-use Rattle.product.proofs.fault.plain_state.Lts as lts
-use Rattle.fsbm.proofs.machine.is_buffering.Reads as is-buffering-reads
-use Rattle.fsbm.proofs.machine.is_matching.Reads as is-matching-reads
 
 is-buffering-requires : tie.Need-is-buffering-requires
 is-buffering-requires c κs = search needs

@@ -7,9 +7,6 @@ use Rattle.basics.specs.Search.Loops.{all-fails, all-goes-on, all-done}
 use Rattle.product.specs.Product.{plainState}
 use Rattle.product.proofs.fault.plain_states.Statement.{statement}
 use Rattle.product.proofs.fault.plain_states.Tie as tie
-use Rattle.product.proofs.fault.plain_states.Reads as reads
-use Rattle.product.proofs.fault.plain_states.Lts as lts
-use Rattle.product.proofs.fault.plain_state.Reads as plain-state-reads
 
 abbrev Inv-loop : tie.InvT-loop
 Inv-loop marks n q₀ q = allBelow q (plainState marks) ≡ allBelow n (plainState marks)

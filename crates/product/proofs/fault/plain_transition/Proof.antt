@@ -5,9 +5,6 @@ use Rattle.fsbm.specs.declared.machine.Transition.{Transition}
 use borrow.Author.Needs.{needs}
 use Rattle.product.proofs.fault.plain_transition.Statement.{statement}
 use Rattle.product.proofs.fault.plain_transition.Tie as tie
-use Rattle.product.proofs.fault.plain_transition.Reads as reads
-use Rattle.product.proofs.fault.plain_transition.Lts as lts
-use Rattle.fsbm.proofs.machine.transition_at.Reads as transition-at-reads
 
 transition-at-requires : tie.Need-transition-at-requires
 transition-at-requires c κs = search needs

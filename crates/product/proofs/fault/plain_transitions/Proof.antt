@@ -7,9 +7,6 @@ use Rattle.basics.specs.Search.Loops.{all-fails, all-goes-on, all-done}
 use Rattle.product.specs.Product.{plainTransition}
 use Rattle.product.proofs.fault.plain_transitions.Statement.{statement}
 use Rattle.product.proofs.fault.plain_transitions.Tie as tie
-use Rattle.product.proofs.fault.plain_transitions.Reads as reads
-use Rattle.product.proofs.fault.plain_transitions.Lts as lts
-use Rattle.product.proofs.fault.plain_transition.Reads as plain-transition-reads
 
 abbrev Inv-loop : tie.InvT-loop
 Inv-loop list n k₀ k = allBelow k (plainTransition list) ≡ allBelow n (plainTransition list)

@@ -6,8 +6,6 @@ use Rattle.product.specs.Each.{sumOver}
 use Rattle.product.proofs.FaultCases.{product-small, products-start, products-next, products-end}
 use Rattle.product.proofs.fault.sum_products.Statement.{statement}
 use Rattle.product.proofs.fault.sum_products.Tie as tie
-use Rattle.product.proofs.fault.sum_products.Reads as reads
-use Rattle.product.proofs.fault.sum_products.Lts as lts
 
 abbrev Inv-loop : tie.InvT-loop
 Inv-loop a b letters total₀ x₀ total x = (1 ≤ x) × (x ≤ letters + 1) × (total ≤ (x - 1) * 16000000) × (total + sumOver x (suc letters - x) (λ x. getD a x 0 * getD b x 0) ≡ sumOver 1 letters (λ x. getD a x 0 * getD b x 0))

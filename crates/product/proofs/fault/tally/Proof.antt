@@ -8,10 +8,6 @@ use Rattle.product.specs.Product.{letterCount}
 use Rattle.product.proofs.FaultCases.{letter-few, tally-start, tally-next}
 use Rattle.product.proofs.fault.tally.Statement.{statement}
 use Rattle.product.proofs.fault.tally.Tie as tie
-use Rattle.product.proofs.fault.tally.Reads as reads
-use Rattle.product.proofs.fault.tally.Lts as lts
-use Rattle.fsbm.proofs.machine.transition_at.Reads as transition-at-reads
-use Rattle.product.proofs.fault.zeros.Reads as zeros-reads
 
 abbrev Inv-loop : tie.InvT-loop
 Inv-loop list n counts₀ k₀ counts k = (k ≤ n) × (length counts ≡ 256) × ((x : ℕ) → x < 256 → getD counts x 0 ≡ letterCount list k x)

@@ -2,8 +2,6 @@ use mathlib.Core.Path.{refl}
 use Rattle.product.specs.Each.{zerosOf}
 use Rattle.product.proofs.fault.zeros.Statement.{statement}
 use Rattle.product.proofs.fault.zeros.Tie as tie
-use Rattle.product.proofs.fault.zeros.Reads as reads
-use Rattle.product.proofs.fault.zeros.Lts as lts
 
 returns : tie.Need-returns
 unfolding zerosOf

@@ -2,9 +2,6 @@ use Rattle.product.proofs.LettersCases.{four-words}
 use borrow.Author.Needs.{needs}
 use Rattle.product.proofs.letters.common_letters.Statement.{statement}
 use Rattle.product.proofs.letters.common_letters.Tie as tie
-use Rattle.product.proofs.letters.common_letters.Reads as reads
-use Rattle.product.proofs.letters.common_letters.Lts as lts
-use Rattle.product.proofs.letters.common_word.Reads as common-word-reads
 
 common-word-requires : tie.Need-common-word-requires
 common-word-requires c κs = search needs

@@ -3,10 +3,6 @@ use mathlib.Core.Path.{refl}
 use borrow.Author.Needs.{needs}
 use Rattle.product.proofs.letters.common_word.Statement.{statement}
 use Rattle.product.proofs.letters.common_word.Tie as tie
-use Rattle.product.proofs.letters.common_word.Reads as reads
-use Rattle.product.proofs.letters.common_word.Lts as lts
-use Rattle.stateset.proofs.add.Reads as add-reads
-use Rattle.stateset.proofs.intersection.Reads as intersection-reads
 
 mul-own : tie.Need-mul-own
 mul-own c = search needs

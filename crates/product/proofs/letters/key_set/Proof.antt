@@ -7,11 +7,6 @@ use Prim.Native.Nat.{ℕ, _≤_, _-_}
 use borrow.Author.Needs.{needs}
 use Rattle.product.proofs.letters.key_set.Statement.{statement}
 use Rattle.product.proofs.letters.key_set.Tie as tie
-use Rattle.product.proofs.letters.key_set.Reads as reads
-use Rattle.product.proofs.letters.key_set.Lts as lts
-use Rattle.product.proofs.letters.key.Reads as key-reads
-use Rattle.product.proofs.letters.no_keys.Reads as no-keys-reads
-use Rattle.stateset.proofs.add.Reads as add-reads
 
 abbrev Inv-loop : tie.InvT-loop
 Inv-loop list n words₀ k₀ words k = (k ≤ n) × (length words ≡ 256) × KeySet list k words

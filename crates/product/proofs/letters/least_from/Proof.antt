@@ -3,9 +3,6 @@ use native.Mathlib.Omega.{arith}
 use borrow.Author.Needs.{needs}
 use Rattle.product.proofs.letters.least_from.Statement.{statement}
 use Rattle.product.proofs.letters.least_from.Tie as tie
-use Rattle.product.proofs.letters.least_from.Reads as reads
-use Rattle.product.proofs.letters.least_from.Lts as lts
-use Rattle.stateset.proofs.lowest.Reads as lowest-reads
 
 shr-rest : tie.Need-shr-rest
 shr-rest c = search needs

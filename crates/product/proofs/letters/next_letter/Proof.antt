@@ -4,9 +4,6 @@ use mathlib.Core.Path.{refl}
 use Prim.Native.Nat.{_-_}
 use Rattle.product.proofs.letters.next_letter.Statement.{statement}
 use Rattle.product.proofs.letters.next_letter.Tie as tie
-use Rattle.product.proofs.letters.next_letter.Reads as reads
-use Rattle.product.proofs.letters.next_letter.Lts as lts
-use Rattle.product.proofs.letters.least_from.Reads as least-from-reads
 
 abbrev Inv-loop : tie.InvT-loop
 Inv-loop letters x b₀ b = Looking letters x b

@@ -2,8 +2,6 @@ use mathlib.Core.Path.{refl}
 use Rattle.product.specs.Each.{zerosOf}
 use Rattle.product.proofs.letters.no_keys.Statement.{statement}
 use Rattle.product.proofs.letters.no_keys.Tie as tie
-use Rattle.product.proofs.letters.no_keys.Reads as reads
-use Rattle.product.proofs.letters.no_keys.Lts as lts
 
 returns : tie.Need-returns
 unfolding zerosOf

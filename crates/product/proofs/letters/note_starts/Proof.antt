@@ -5,9 +5,6 @@ use Prim.Native.Nat.{_-_}
 use borrow.Author.Needs.{needs}
 use Rattle.product.proofs.letters.note_starts.Statement.{statement}
 use Rattle.product.proofs.letters.note_starts.Tie as tie
-use Rattle.product.proofs.letters.note_starts.Reads as reads
-use Rattle.product.proofs.letters.note_starts.Lts as lts
-use Rattle.product.proofs.letters.key.Reads as key-reads
 
 abbrev Inv-loop : tie.InvT-loop
 Inv-loop list n starts₀ k₀ starts k = Starting list n starts k

@@ -5,9 +5,6 @@ use Rattle.product.specs.Product.{joinedMark}
 use borrow.Author.Needs.{needs}
 use Rattle.product.proofs.marks.joined_mark.Statement.{statement}
 use Rattle.product.proofs.marks.joined_mark.Tie as tie
-use Rattle.product.proofs.marks.joined_mark.Reads as reads
-use Rattle.product.proofs.marks.joined_mark.Lts as lts
-use Rattle.product.proofs.marks.pair_mark.Reads as pair-mark-reads
 
 mul-if1 : tie.Need-mul-if1
 mul-if1 c = search needs

@@ -7,10 +7,6 @@ use Rattle.product.specs.Product.{joinedMark}
 use Rattle.product.proofs.FaultCases.{zeros-length, marks-next, marks-end}
 use Rattle.product.proofs.marks.joined_marks.Statement.{statement}
 use Rattle.product.proofs.marks.joined_marks.Tie as tie
-use Rattle.product.proofs.marks.joined_marks.Reads as reads
-use Rattle.product.proofs.marks.joined_marks.Lts as lts
-use Rattle.product.proofs.marks.joined_mark.Reads as joined-mark-reads
-use Rattle.product.proofs.marks.zeros.Reads as zeros-reads
 
 abbrev Inv-loop : tie.InvT-loop
 Inv-loop first second marks₀ q₀ marks q = (length marks ≡ 64) × ((x : ℕ) → x < q → getD marks x 0 ≡ joinedMark first second x)

@@ -5,14 +5,6 @@ use Rattle.product.proofs.FaultCases.{pair-mark-is}
 use borrow.Author.Needs.{needs}
 use Rattle.product.proofs.marks.pair_mark.Statement.{statement}
 use Rattle.product.proofs.marks.pair_mark.Tie as tie
-use Rattle.product.proofs.marks.pair_mark.Reads as reads
-use Rattle.product.proofs.marks.pair_mark.Lts as lts
-use Rattle.fsbm.proofs.machine.is_buffering.Reads as is-buffering-reads
-use Rattle.fsbm.proofs.machine.is_final.Reads as is-final-reads
-use Rattle.fsbm.proofs.machine.is_initial.Reads as is-initial-reads
-use Rattle.fsbm.proofs.machine.is_matching.Reads as is-matching-reads
-use Rattle.product.proofs.marks.both.Reads as both-reads
-use Rattle.product.proofs.marks.flag.Reads as flag-reads
 
 is-initial-requires : tie.Need-is-initial-requires
 is-initial-requires c κs = search needs

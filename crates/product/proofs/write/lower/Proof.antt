@@ -5,9 +5,6 @@ use borrow.Author.Count.{below-more}
 use Rattle.product.specs.Order.{letterKey}
 use Rattle.product.proofs.write.lower.Statement.{statement}
 use Rattle.product.proofs.write.lower.Tie as tie
-use Rattle.product.proofs.write.lower.Reads as reads
-use Rattle.product.proofs.write.lower.Lts as lts
-use Rattle.product.proofs.letters.key.Reads as key-reads
 
 abbrev Inv-loop : tie.InvT-loop
 Inv-loop list n j y u₀ u = (j ≤ u) × (u ≤ n) × ((k : ℕ) → k < u → j ≤ k → letterKey list k < y)

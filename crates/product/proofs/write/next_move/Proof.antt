@@ -5,10 +5,6 @@ use native.Mathlib.Omega.{arith}
 use borrow.Author.Needs.{needs}
 use Rattle.product.proofs.write.next_move.Statement.{statement}
 use Rattle.product.proofs.write.next_move.Tie as tie
-use Rattle.product.proofs.write.next_move.Reads as reads
-use Rattle.product.proofs.write.next_move.Lts as lts
-use Rattle.fsbm.proofs.machine.transition_at.Reads as transition-at-reads
-use Rattle.product.proofs.letters.next_letter.Reads as next-letter-reads
 
 returns : tie.Need-returns
 returns c = next-none (c .before .before .pre) (c .if1 .taken)

@@ -6,8 +6,6 @@ use Rattle.basics.specs.Lists.{put-three}
 use borrow.Author.Needs.{needs}
 use Rattle.product.proofs.write.put.Statement.{statement}
 use Rattle.product.proofs.write.put.Tie as tie
-use Rattle.product.proofs.write.put.Reads as reads
-use Rattle.product.proofs.write.put.Lts as lts
 
 mul-list : tie.Need-mul-list
 mul-list c = search needs

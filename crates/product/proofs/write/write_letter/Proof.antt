@@ -7,10 +7,6 @@ use Rattle.fsbm.specs.declared.machine.Transition.{Transition}
 use Rattle.product.proofs.WriteCases.{Lettering, letter-start, letter-room, letter-next, letter-end}
 use Rattle.product.proofs.write.write_letter.Statement.{statement}
 use Rattle.product.proofs.write.write_letter.Tie as tie
-use Rattle.product.proofs.write.write_letter.Reads as reads
-use Rattle.product.proofs.write.write_letter.Lts as lts
-use Rattle.fsbm.proofs.machine.transition_at.Reads as transition-at-reads
-use Rattle.product.proofs.write.put.Reads as put-reads
 
 abbrev Inv-loop : tie.InvT-loop
 Inv-loop second-list from letter base list₀ k lo hi at₀ u₀ list at u = Lettering second-list lo hi from letter base list₀ k list at u

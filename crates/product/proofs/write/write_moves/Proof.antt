@@ -5,12 +5,6 @@ use mathlib.Core.Path.{ap}
 use borrow.Author.Needs.{needs}
 use Rattle.product.proofs.write.write_moves.Statement.{statement}
 use Rattle.product.proofs.write.write_moves.Tie as tie
-use Rattle.product.proofs.write.write_moves.Reads as reads
-use Rattle.product.proofs.write.write_moves.Lts as lts
-use Rattle.product.proofs.write.lower.Reads as lower-reads
-use Rattle.product.proofs.write.pair.Reads as pair-reads
-use Rattle.product.proofs.write.put.Reads as put-reads
-use Rattle.product.proofs.write.write_letter.Reads as write-letter-reads
 
 pair-requires : tie.Need-pair-requires
 pair-requires c κs = (c .before .before .pre) .0 .from-small

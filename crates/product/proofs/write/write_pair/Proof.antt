@@ -9,12 +9,6 @@ use native.Mathlib.Omega.{arith}
 use Prim.Native.Nat.{ℕ, _≤_, _-_, _+_}
 use Rattle.product.proofs.write.write_pair.Statement.{statement}
 use Rattle.product.proofs.write.write_pair.Tie as tie
-use Rattle.product.proofs.write.write_pair.Reads as reads
-use Rattle.product.proofs.write.write_pair.Lts as lts
-use Rattle.fsbm.proofs.machine.transition_at.Reads as transition-at-reads
-use Rattle.product.proofs.letters.common_letters.Reads as common-letters-reads
-use Rattle.product.proofs.write.next_move.Reads as next-move-reads
-use Rattle.product.proofs.write.write_moves.Reads as write-moves-reads
 
 abbrev Inv-loop : tie.InvT-loop
 Inv-loop first-list first-starts first-keys second second-list second-starts second-keys p r list₀ k n state hi letters at₀ i₀ list at i = (m : Machine) (j : Joinable m first-list second second-list) (lo : ℕ) → Meeting j first-starts first-keys second-starts second-keys letters p r lo hi → k + length (flat (joinedFrom m first-list second second-list p r)) ≤ length list₀ → NextMove first-list letters lo hi i₀ → Pairing j letters p r lo hi list₀ k list at i

@@ -8,13 +8,6 @@ use Prim.Native.Nat.{_-_}
 use borrow.Author.Needs.{needs}
 use Rattle.product.proofs.write.write_product.Statement.{statement}
 use Rattle.product.proofs.write.write_product.Tie as tie
-use Rattle.product.proofs.write.write_product.Reads as reads
-use Rattle.product.proofs.write.write_product.Lts as lts
-use Rattle.product.proofs.letters.key_set.Reads as key-set-reads
-use Rattle.product.proofs.letters.no_starts.Reads as no-starts-reads
-use Rattle.product.proofs.letters.note_starts.Reads as note-starts-reads
-use Rattle.product.proofs.write.lower.Reads as lower-reads
-use Rattle.product.proofs.write.write_row.Reads as write-row-reads
 
 abbrev Inv-loop : tie.InvT-loop
 Inv-loop first first-list second second-list list₀ first-starts first-keys second-starts second-keys states k₀ lo₀ p₀ list k lo p = (j : Joinable first first-list second second-list) → Writing j list₀ list k lo p

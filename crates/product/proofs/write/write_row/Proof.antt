@@ -4,9 +4,6 @@ use native.Mathlib.Omega.{arith}
 use Prim.Native.Nat.{_-_}
 use Rattle.product.proofs.write.write_row.Statement.{statement}
 use Rattle.product.proofs.write.write_row.Tie as tie
-use Rattle.product.proofs.write.write_row.Reads as reads
-use Rattle.product.proofs.write.write_row.Lts as lts
-use Rattle.product.proofs.write.write_pair.Reads as write-pair-reads
 
 abbrev Inv-loop : tie.InvT-loop
 Inv-loop first first-list first-starts first-keys second second-list second-starts second-keys p span list₀ k states at₀ r₀ list at r = (j : Joinable first first-list second second-list) → Rowing j p list₀ k list at r

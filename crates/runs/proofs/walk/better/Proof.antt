@@ -4,9 +4,6 @@ use Rattle.runs.proofs.WalkCases.{start-skip, start-takes, start-keeps}
 use borrow.Author.Needs.{needs}
 use Rattle.runs.proofs.walk.better.Statement.{statement}
 use Rattle.runs.proofs.walk.better.Tie as tie
-use Rattle.runs.proofs.walk.better.Reads as reads
-use Rattle.runs.proofs.walk.better.Lts as lts
-use Rattle.fsbm.proofs.machine.is_initial.Reads as is-initial-reads
 
 is-initial-requires : tie.Need-is-initial-requires
 is-initial-requires c κs = search needs

@@ -5,9 +5,6 @@ use Rattle.runs.proofs.WalkCases.{best-at}
 use borrow.Author.Needs.{needs}
 use Rattle.runs.proofs.walk.cost.Statement.{statement}
 use Rattle.runs.proofs.walk.cost.Tie as tie
-use Rattle.runs.proofs.walk.cost.Reads as reads
-use Rattle.runs.proofs.walk.cost.Lts as lts
-use Rattle.runs.proofs.walk.number.Reads as number-reads
 
 enum-told : tie.Need-enum-told
 enum-told c = search needs

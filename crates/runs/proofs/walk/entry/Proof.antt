@@ -4,10 +4,6 @@ use native.Mathlib.Omega.{arith}
 use borrow.Author.Needs.{needs}
 use Rattle.runs.proofs.walk.entry.Statement.{statement}
 use Rattle.runs.proofs.walk.entry.Tie as tie
-use Rattle.runs.proofs.walk.entry.Reads as reads
-use Rattle.runs.proofs.walk.entry.Lts as lts
-use Rattle.runs.proofs.walk.change_entry.Reads as change-entry-reads
-use Rattle.runs.proofs.walk.scan.Reads as scan-reads
 
 scan-requires : tie.Need-scan-requires
 scan-requires c κs = search needs

@@ -6,11 +6,6 @@ use Rattle.runs.proofs.WalkCases.{leads-next, leads-not, leads-said, le
 use borrow.Author.Needs.{needs}
 use Rattle.runs.proofs.walk.leads.Statement.{statement}
 use Rattle.runs.proofs.walk.leads.Tie as tie
-use Rattle.runs.proofs.walk.leads.Reads as reads
-use Rattle.runs.proofs.walk.leads.Lts as lts
-use Rattle.fsbm.proofs.config.Config.moved.Reads as moved-reads
-use Rattle.fsbm.proofs.machine.transition_at.Reads as transition-at-reads
-use Rattle.runs.proofs.walk.cost.Reads as cost-reads
 
 transition-at-requires : tie.Need-transition-at-requires
 transition-at-requires c κs = search needs

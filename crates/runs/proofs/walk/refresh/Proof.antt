@@ -6,11 +6,6 @@ use mathlib.Core.Path.{sym, subst}
 use Prim.Native.Nat.{_-_, _+_}
 use Rattle.runs.proofs.walk.refresh.Statement.{statement}
 use Rattle.runs.proofs.walk.refresh.Tie as tie
-use Rattle.runs.proofs.walk.refresh.Reads as reads
-use Rattle.runs.proofs.walk.refresh.Lts as lts
-use Rattle.tables.proofs.copy.buffering_rows.Reads as buffering-rows-reads
-use Rattle.tables.proofs.copy.emptying_rows.Reads as emptying-rows-reads
-use Rattle.tables.proofs.copy.load.Reads as load-reads
 
 returns : tie.Need-returns
 returns c = refresh-kept _ _ _ _ _ _ _ _ _ (((c .before .before .before .before .pre)) .1) ((c .if1) .taken)

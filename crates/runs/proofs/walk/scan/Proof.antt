@@ -6,10 +6,6 @@ use mathlib.Core.Path.{sym, subst}
 use Prim.Native.Nat.{_≤_, _-_, _+_}
 use Rattle.runs.proofs.walk.scan.Statement.{statement}
 use Rattle.runs.proofs.walk.scan.Tie as tie
-use Rattle.runs.proofs.walk.scan.Reads as reads
-use Rattle.runs.proofs.walk.scan.Lts as lts
-use Rattle.runs.proofs.walk.leads.Reads as leads-reads
-use Rattle.runs.proofs.walk.wide.Reads as wide-reads
 
 abbrev Inv-loop : tie.InvT-loop
 Inv-loop m list first sets word c t emptied stored d q end k₀ k = (k ≤ m .transitions) × Passed m list sets word c d k

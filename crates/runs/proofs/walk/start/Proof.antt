@@ -4,9 +4,6 @@ use Rattle.runs.specs.Walk.{Started}
 use Rattle.runs.proofs.WalkCases.{start-begin, start-end}
 use Rattle.runs.proofs.walk.start.Statement.{statement}
 use Rattle.runs.proofs.walk.start.Tie as tie
-use Rattle.runs.proofs.walk.start.Reads as reads
-use Rattle.runs.proofs.walk.start.Lts as lts
-use Rattle.runs.proofs.walk.better.Reads as better-reads
 
 abbrev Inv-loop : tie.InvT-loop
 Inv-loop m row b₀ q₀ b q = (q ≤ m .states) × Started m row q b

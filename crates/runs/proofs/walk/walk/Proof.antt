@@ -9,12 +9,6 @@ use mathlib.Core.Path.{_≡_, refl, ap, _∙_}
 use Prim.Native.Nat.{_-_}
 use Rattle.runs.proofs.walk.walk.Statement.{statement}
 use Rattle.runs.proofs.walk.walk.Tie as tie
-use Rattle.runs.proofs.walk.walk.Reads as reads
-use Rattle.runs.proofs.walk.walk.Lts as lts
-use Rattle.fsbm.proofs.config.Config.moved.Reads as moved-reads
-use Rattle.fsbm.proofs.config.Config.start_at.Reads as start-at-reads
-use Rattle.runs.proofs.walk.entry.Reads as entry-reads
-use Rattle.runs.proofs.walk.refresh.Reads as refresh-reads
 
 abbrev Inv-loop : tie.InvT-loop
 Inv-loop list targets g h sets first word q moves t emptied₀ stored₀ run₀ m c₀ d₀ k₀ emptied stored run c d k =

@@ -2,12 +2,6 @@ use native.Mathlib.Omega.{arith}
 use borrow.Author.Needs.{needs}
 use Rattle.runs.proofs.walk.write_long.Statement.{statement}
 use Rattle.runs.proofs.walk.write_long.Tie as tie
-use Rattle.runs.proofs.walk.write_long.Reads as reads
-use Rattle.runs.proofs.walk.write_long.Lts as lts
-use Rattle.runs.proofs.walk.all_ends.Reads as all-ends-reads
-use Rattle.runs.proofs.walk.all_places.Reads as all-places-reads
-use Rattle.runs.proofs.walk.all_rows.Reads as all-rows-reads
-use Rattle.runs.proofs.walk.write_with.Reads as write-with-reads
 
 all-places-requires : tie.Need-all-places-requires
 all-places-requires c κs = search needs

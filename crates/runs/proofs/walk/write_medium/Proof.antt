@@ -2,12 +2,6 @@ use native.Mathlib.Omega.{arith}
 use borrow.Author.Needs.{needs}
 use Rattle.runs.proofs.walk.write_medium.Statement.{statement}
 use Rattle.runs.proofs.walk.write_medium.Tie as tie
-use Rattle.runs.proofs.walk.write_medium.Reads as reads
-use Rattle.runs.proofs.walk.write_medium.Lts as lts
-use Rattle.runs.proofs.walk.some_ends.Reads as some-ends-reads
-use Rattle.runs.proofs.walk.some_places.Reads as some-places-reads
-use Rattle.runs.proofs.walk.some_rows.Reads as some-rows-reads
-use Rattle.runs.proofs.walk.write_with.Reads as write-with-reads
 
 some-places-requires : tie.Need-some-places-requires
 some-places-requires c κs = search needs

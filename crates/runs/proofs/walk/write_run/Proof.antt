@@ -2,9 +2,6 @@ use Rattle.runs.proofs.WalkCases.{known}
 use borrow.Author.Needs.{needs}
 use Rattle.runs.proofs.walk.write_run.Statement.{statement}
 use Rattle.runs.proofs.walk.write_run.Tie as tie
-use Rattle.runs.proofs.walk.write_run.Reads as reads
-use Rattle.runs.proofs.walk.write_run.Lts as lts
-use Rattle.runs.proofs.walk.write_sized.Reads as write-sized-reads
 
 write-sized-requires : tie.Need-write-sized-requires
 write-sized-requires c κs = ((c .before .before .before .before .before .before .before .pre) .0, (c .before .before .before .before .before .before .before .pre) .1, (c .before .before .before .before .before .before .before .pre) .2, (c .before .before .before .before .before .before .before .pre) .3, known _ _ _ _ _ ((c .before .before .before .before .before .before .before .pre) .0) ((c .before .before .before .before .before .before .before .pre) .5) ((c .before .before .before .before .before .before .before .pre) .4), (c .before .before .before .before .before .before .before .pre) .6)

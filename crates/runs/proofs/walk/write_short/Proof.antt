@@ -2,12 +2,6 @@ use native.Mathlib.Omega.{arith}
 use borrow.Author.Needs.{needs}
 use Rattle.runs.proofs.walk.write_short.Statement.{statement}
 use Rattle.runs.proofs.walk.write_short.Tie as tie
-use Rattle.runs.proofs.walk.write_short.Reads as reads
-use Rattle.runs.proofs.walk.write_short.Lts as lts
-use Rattle.runs.proofs.walk.few_ends.Reads as few-ends-reads
-use Rattle.runs.proofs.walk.few_places.Reads as few-places-reads
-use Rattle.runs.proofs.walk.few_rows.Reads as few-rows-reads
-use Rattle.runs.proofs.walk.write_with.Reads as write-with-reads
 
 few-places-requires : tie.Need-few-places-requires
 few-places-requires c κs = search needs

@@ -5,13 +5,6 @@ use native.Mathlib.Omega.{arith}
 use borrow.Author.Needs.{needs}
 use Rattle.runs.proofs.walk.write_with.Statement.{statement}
 use Rattle.runs.proofs.walk.write_with.Tie as tie
-use Rattle.runs.proofs.walk.write_with.Reads as reads
-use Rattle.runs.proofs.walk.write_with.Lts as lts
-use Rattle.adjacency.proofs.index.Reads as index-reads
-use Rattle.runs.proofs.walk.start.Reads as start-reads
-use Rattle.runs.proofs.walk.walk.Reads as walk-reads
-use Rattle.tables.proofs.copy.load.Reads as load-reads
-use Rattle.tables.proofs.table.fill.Reads as fill-reads
 
 fill-requires : tie.Need-fill-requires
 fill-requires c κs = search needs

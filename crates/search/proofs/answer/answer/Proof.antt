@@ -6,13 +6,6 @@ use Rattle.search.proofs.AnswerCases.{says-none, says-word, says-first,
 use borrow.Author.Needs.{needs}
 use Rattle.search.proofs.answer.answer.Statement.{statement}
 use Rattle.search.proofs.answer.answer.Tie as tie
-use Rattle.search.proofs.answer.answer.Reads as reads
-use Rattle.search.proofs.answer.answer.Lts as lts
-use Rattle.search.proofs.answer.entries_of.Reads as entries-of-reads
-use Rattle.search.proofs.answer.letters_of.Reads as letters-of-reads
-use Rattle.search.proofs.answer.run_length.Reads as run-length-reads
-use Rattle.search.proofs.best.cost.Reads as cost-reads
-use Rattle.search.proofs.write.write_runs.Reads as write-runs-reads
 
 cost-requires : tie.Need-cost-requires
 cost-requires c κs = search needs

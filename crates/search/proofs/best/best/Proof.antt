@@ -6,9 +6,6 @@ use Rattle.search.specs.Best.Laws.{best-none}
 use Prim.Native.Nat.{ℕ}
 use Rattle.search.proofs.best.best.Statement.{statement}
 use Rattle.search.proofs.best.best.Tie as tie
-use Rattle.search.proofs.best.best.Reads as reads
-use Rattle.search.proofs.best.best.Lts as lts
-use Rattle.search.proofs.best.better.Reads as better-reads
 
 abbrev Inv-loop : tie.InvT-loop
 Inv-loop marks d b₀ q₀ b q = Best marks d q b × (q ≤ 64)

@@ -5,10 +5,6 @@ use Rattle.search.specs.Best.Laws.{best-passes, best-keeps, best-takes, 
 use borrow.Author.Needs.{needs}
 use Rattle.search.proofs.best.better.Statement.{statement}
 use Rattle.search.proofs.best.better.Tie as tie
-use Rattle.search.proofs.best.better.Reads as reads
-use Rattle.search.proofs.best.better.Lts as lts
-use Rattle.fsbm.proofs.machine.is_final.Reads as is-final-reads
-use Rattle.search.proofs.best.cost.Reads as cost-reads
 
 is-final-requires : tie.Need-is-final-requires
 is-final-requires c κs = search needs

@@ -4,8 +4,6 @@ use native.Mathlib.Omega.{arith}
 use borrow.Author.Needs.{needs}
 use Rattle.search.proofs.best.cost.Statement.{statement}
 use Rattle.search.proofs.best.cost.Tie as tie
-use Rattle.search.proofs.best.cost.Reads as reads
-use Rattle.search.proofs.best.cost.Lts as lts
 
 returns : tie.Need-returns
 returns c = sym (cost-past (((c .before) .args .d) .now) ((c .before) .args .q) (c .if1 .taken))

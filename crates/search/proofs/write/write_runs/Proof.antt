@@ -5,13 +5,6 @@ use Rattle.search.proofs.FoundCases.{to-split, split-runs}
 use borrow.Author.Needs.{needs}
 use Rattle.search.proofs.write.write_runs.Statement.{statement}
 use Rattle.search.proofs.write.write_runs.Tie as tie
-use Rattle.search.proofs.write.write_runs.Reads as reads
-use Rattle.search.proofs.write.write_runs.Lts as lts
-use Rattle.least.proofs.turns.ends.Reads as ends-reads
-use Rattle.search.proofs.write.no_entries.Reads as no-entries-reads
-use Rattle.shortest.proofs.into.into.Reads as into-reads
-use Rattle.shortest.proofs.write.write.Reads as write-reads
-use Rattle.split.proofs.split.split.Reads as split-reads
 
 into-requires : tie.Need-into-requires
 into-requires c κs = search needs

@@ -2,9 +2,6 @@ use Rattle.sheet.specs.Reading.{columnAt}
 use borrow.Author.Needs.{needs}
 use Rattle.sheet.proofs.faults.column.Statement.{statement}
 use Rattle.sheet.proofs.faults.column.Tie as tie
-use Rattle.sheet.proofs.faults.column.Reads as reads
-use Rattle.sheet.proofs.faults.column.Lts as lts
-use Rattle.columns.proofs.number_in_five.Reads as number-in-five-reads
 
 number-in-five-requires : tie.Need-number-in-five-requires
 number-in-five-requires c κs = search needs

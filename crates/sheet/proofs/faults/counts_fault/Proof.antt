@@ -1,8 +1,6 @@
 use Rattle.sheet.proofs.FaultCases.{counts-none, counts-states, counts-letters, counts-transitions, counts-good}
 use Rattle.sheet.proofs.faults.counts_fault.Statement.{statement}
 use Rattle.sheet.proofs.faults.counts_fault.Tie as tie
-use Rattle.sheet.proofs.faults.counts_fault.Reads as reads
-use Rattle.sheet.proofs.faults.counts_fault.Lts as lts
 
 returns : tie.Need-returns
 returns c = counts-none (c .before .args .states) (c .before .args .letters) (c .before .args .transitions) (c .if1 .taken)

@@ -3,13 +3,6 @@ use Rattle.sheet.proofs.FaultCases.{fault-header, states-few, transitio
 use native.Mathlib.Omega.{arith}
 use Rattle.sheet.proofs.faults.first_fault.Statement.{statement}
 use Rattle.sheet.proofs.faults.first_fault.Tie as tie
-use Rattle.sheet.proofs.faults.first_fault.Reads as reads
-use Rattle.sheet.proofs.faults.first_fault.Lts as lts
-use Rattle.sheet.proofs.faults.column.Reads as column-reads
-use Rattle.sheet.proofs.faults.header_fault.Reads as header-fault-reads
-use Rattle.sheet.proofs.faults.short_column.Reads as short-column-reads
-use Rattle.sheet.proofs.faults.state_faults.Reads as state-faults-reads
-use Rattle.sheet.proofs.faults.transition_faults.Reads as transition-faults-reads
 
 header-fault-requires : tie.Need-header-fault-requires
 header-fault-requires c κs = search needs

@@ -6,10 +6,6 @@ use borrow.Author.Needs.{needs}
 use Rattle.sheet.proofs.FaultCases.{Held, held-none, held-next, line-short, line-column, line-end, line-good, header-line, header-counts, from-zero}
 use Rattle.sheet.proofs.faults.header_fault.Statement.{statement}
 use Rattle.sheet.proofs.faults.header_fault.Tie as tie
-use Rattle.sheet.proofs.faults.header_fault.Reads as reads
-use Rattle.sheet.proofs.faults.header_fault.Lts as lts
-use Rattle.sheet.proofs.faults.column.Reads as column-reads
-use Rattle.sheet.proofs.faults.counts_fault.Reads as counts-fault-reads
 
 abbrev Inv-loop : tie.InvT-loop
 Inv-loop sheet numbers₀ c₀ numbers c = (c ≤ 3) × (length numbers ≡ 3) × Held sheet 0 c numbers

@@ -2,8 +2,6 @@ use Rattle.fsbm.proofs.MachineCases.{named-from, named-letter, named-to}
 use Rattle.sheet.specs.Reading.{asTransition}
 use Rattle.sheet.proofs.faults.is_named.Statement.{statement}
 use Rattle.sheet.proofs.faults.is_named.Tie as tie
-use Rattle.sheet.proofs.faults.is_named.Reads as reads
-use Rattle.sheet.proofs.faults.is_named.Lts as lts
 
 returns : tie.Need-returns
 returns c = named-from (c .before .before .args .states) (c .before .before .args .letters) (asTransition (c .before .before .args .t)) (c .if1 .taken)

@@ -1,8 +1,6 @@
 use Rattle.sheet.proofs.FaultCases.{mark-number, mark-large, mark-both, mark-buffering, mark-plain}
 use Rattle.sheet.proofs.faults.mark_fault.Statement.{statement}
 use Rattle.sheet.proofs.faults.mark_fault.Tie as tie
-use Rattle.sheet.proofs.faults.mark_fault.Reads as reads
-use Rattle.sheet.proofs.faults.mark_fault.Lts as lts
 
 returns : tie.Need-returns
 returns c = mark-number (c .before .args .q) (c .before .args .number) (c .before .args .mark) (c .if1 .taken)

@@ -5,10 +5,6 @@ use Rattle.sheet.proofs.FaultCases.{order-unnamed, order-first, order-r
 use borrow.Author.Needs.{needs}
 use Rattle.sheet.proofs.faults.order_fault.Statement.{statement}
 use Rattle.sheet.proofs.faults.order_fault.Tie as tie
-use Rattle.sheet.proofs.faults.order_fault.Reads as reads
-use Rattle.sheet.proofs.faults.order_fault.Lts as lts
-use Rattle.sheet.proofs.faults.is_named.Reads as is-named-reads
-use Rattle.sheet.proofs.faults.rises.Reads as rises-reads
 
 is-named-requires : tie.Need-is-named-requires
 is-named-requires c κs = search needs

@@ -2,8 +2,6 @@ use Rattle.fsbm.proofs.MachineCases.{precedes-from, precedes-letter, precedes-t
 use Rattle.sheet.specs.Reading.{asTransition}
 use Rattle.sheet.proofs.faults.rises.Statement.{statement}
 use Rattle.sheet.proofs.faults.rises.Tie as tie
-use Rattle.sheet.proofs.faults.rises.Reads as reads
-use Rattle.sheet.proofs.faults.rises.Lts as lts
 
 returns : tie.Need-returns
 returns c = precedes-from (asTransition (c .before .before .before .before .before .args .before)) (asTransition (c .before .before .before .before .before .args .t)) (c .before .before .if1 .taken)

@@ -2,9 +2,6 @@ use Rattle.sheet.specs.Reading.{columnAt}
 use borrow.Author.Needs.{needs}
 use Rattle.sheet.proofs.faults.short_column.Statement.{statement}
 use Rattle.sheet.proofs.faults.short_column.Tie as tie
-use Rattle.sheet.proofs.faults.short_column.Reads as reads
-use Rattle.sheet.proofs.faults.short_column.Lts as lts
-use Rattle.columns.proofs.short_number.Reads as short-number-reads
 
 short-number-requires : tie.Need-short-number-requires
 unfolding columnAt

@@ -9,10 +9,6 @@ use Rattle.sheet.specs.Reading.{stateFault}
 use Rattle.sheet.proofs.FaultCases.{Held, held-none, held-next, line-short, line-column, line-end, line-good, state-line, state-mark, state-next, none-yet, none-at-all}
 use Rattle.sheet.proofs.faults.state_faults.Statement.{statement}
 use Rattle.sheet.proofs.faults.state_faults.Tie as tie
-use Rattle.sheet.proofs.faults.state_faults.Reads as reads
-use Rattle.sheet.proofs.faults.state_faults.Lts as lts
-use Rattle.sheet.proofs.faults.column.Reads as column-reads
-use Rattle.sheet.proofs.faults.mark_fault.Reads as mark-fault-reads
 
 abbrev Inv-loop : tie.InvT-loop
 Inv-loop sheet states numbers₀ at q c₀ numbers c = (c ≤ 2) × (length numbers ≡ 2) × Held sheet at c numbers

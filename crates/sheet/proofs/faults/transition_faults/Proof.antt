@@ -11,10 +11,6 @@ use Rattle.sheet.proofs.FaultCases.{Held, held-none, held-next, line-sh
 use Rattle.sheet.proofs.FaultCases.{transition-line, transition-read, transition-order, transition-next, before-next, first-is}
 use Rattle.sheet.proofs.faults.transition_faults.Statement.{statement}
 use Rattle.sheet.proofs.faults.transition_faults.Tie as tie
-use Rattle.sheet.proofs.faults.transition_faults.Reads as reads
-use Rattle.sheet.proofs.faults.transition_faults.Lts as lts
-use Rattle.sheet.proofs.faults.column.Reads as column-reads
-use Rattle.sheet.proofs.faults.order_fault.Reads as order-fault-reads
 
 abbrev Inv-loop : tie.InvT-loop
 Inv-loop sheet states letters transitions numbers₀ before at left c₀ numbers c = (c ≤ 3) × (length numbers ≡ 3) × Held sheet at c numbers

@@ -5,9 +5,6 @@ use mathlib.Core.Path.{_≡_, refl}
 use Prim.Native.Nat.{_≤_, _+_, _-_, _*_}
 use Rattle.sheet.proofs.read.read_marks.Statement.{statement}
 use Rattle.sheet.proofs.read.read_marks.Tie as tie
-use Rattle.sheet.proofs.read.read_marks.Reads as reads
-use Rattle.sheet.proofs.read.read_marks.Lts as lts
-use Rattle.sheet.proofs.faults.short_column.Reads as short-column-reads
 
 abbrev Inv-loop : tie.InvT-loop
 Inv-loop sheet states marks₀ at₀ q₀ marks at q = (q ≤ states) × (at ≡ 21 + 11 * q) × (marks ≡ marksOf sheet q)

@@ -5,14 +5,6 @@ use mathlib.Core.Path.{_≡_, refl, sym, _∙_}
 use borrow.Author.Needs.{needs}
 use Rattle.sheet.proofs.read.read_sheet.Statement.{statement}
 use Rattle.sheet.proofs.read.read_sheet.Tie as tie
-use Rattle.sheet.proofs.read.read_sheet.Reads as reads
-use Rattle.sheet.proofs.read.read_sheet.Lts as lts
-use Rattle.sheet.proofs.faults.column.Reads as column-reads
-use Rattle.sheet.proofs.faults.first_fault.Reads as first-fault-reads
-use Rattle.sheet.proofs.faults.short_column.Reads as short-column-reads
-use Rattle.sheet.proofs.read.read_marks.Reads as read-marks-reads
-use Rattle.sheet.proofs.read.read_transitions.Reads as read-transitions-reads
-use Rattle.sheet.proofs.read.refused.Reads as refused-reads
 
 first-fault-requires : tie.Need-first-fault-requires
 first-fault-requires c κs = search needs

@@ -9,9 +9,6 @@ use Rattle.sheet.specs.Reading.{columnAt}
 use Prim.Native.Nat.{_≤_, _+_, _-_, _*_}
 use Rattle.sheet.proofs.read.read_transitions.Statement.{statement}
 use Rattle.sheet.proofs.read.read_transitions.Tie as tie
-use Rattle.sheet.proofs.read.read_transitions.Reads as reads
-use Rattle.sheet.proofs.read.read_transitions.Lts as lts
-use Rattle.sheet.proofs.faults.short_column.Reads as short-column-reads
 
 abbrev Inv-loop : tie.InvT-loop
 Inv-loop sheet states transitions list₀ at₀ k₀ list at k = (k ≤ transitions) × (at ≡ 16 + 11 * states + 16 * k) × (list ≡ put 0 list₀ (eachBelow k (numbersPiece sheet))) × (length list ≡ length list₀)

@@ -8,11 +8,6 @@ use Rattle.sheet.proofs.WriteCases.{line-three, length-three}
 use borrow.Author.Needs.{needs}
 use Rattle.sheet.proofs.write.write_header.Statement.{statement}
 use Rattle.sheet.proofs.write.write_header.Tie as tie
-use Rattle.sheet.proofs.write.write_header.Reads as reads
-use Rattle.sheet.proofs.write.write_header.Lts as lts
-use Rattle.columns.proofs.write_number.Reads as write-number-reads
-use Rattle.columns.proofs.write_short.Reads as write-short-reads
-use Rattle.columns.proofs.write_shorter.Reads as write-shorter-reads
 
 cast-write-shorter : tie.Need-cast-write-shorter
 cast-write-shorter c = search needs

@@ -6,12 +6,6 @@ use mathlib.Core.Path.{refl}
 use borrow.Author.Needs.{needs}
 use Rattle.sheet.proofs.write.write_sheet.Statement.{statement}
 use Rattle.sheet.proofs.write.write_sheet.Tie as tie
-use Rattle.sheet.proofs.write.write_sheet.Reads as reads
-use Rattle.sheet.proofs.write.write_sheet.Lts as lts
-use Rattle.fsbm.proofs.machine.is_well_formed.Reads as is-well-formed-reads
-use Rattle.sheet.proofs.write.write_header.Reads as write-header-reads
-use Rattle.sheet.proofs.write.write_states.Reads as write-states-reads
-use Rattle.sheet.proofs.write.write_transitions.Reads as write-transitions-reads
 
 is-well-formed-requires : tie.Need-is-well-formed-requires
 is-well-formed-requires c κs = search needs

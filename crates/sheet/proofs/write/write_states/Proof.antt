@@ -10,10 +10,6 @@ use mathlib.Core.Path.{_≡_, refl, _∙_}
 use Prim.Native.Nat.{_≤_, _+_, _-_, _*_}
 use Rattle.sheet.proofs.write.write_states.Statement.{statement}
 use Rattle.sheet.proofs.write.write_states.Tie as tie
-use Rattle.sheet.proofs.write.write_states.Reads as reads
-use Rattle.sheet.proofs.write.write_states.Lts as lts
-use Rattle.fsbm.proofs.machine.mark.Reads as mark-reads
-use Rattle.sheet.proofs.write.write_state.Reads as write-state-reads
 
 abbrev Inv-loop : tie.InvT-loop
 Inv-loop sheet₀ marks states at₀ q₀ sheet at q = (q ≤ states) × (at ≡ 16 + 11 * q) × (sheet ≡ put 16 sheet₀ (eachBelow q (stateLine marks))) × (length sheet ≡ length sheet₀)

@@ -8,10 +8,6 @@ use Rattle.sheet.proofs.WriteCases.{line-three, length-three}
 use borrow.Author.Needs.{needs}
 use Rattle.sheet.proofs.write.write_transition.Statement.{statement}
 use Rattle.sheet.proofs.write.write_transition.Tie as tie
-use Rattle.sheet.proofs.write.write_transition.Reads as reads
-use Rattle.sheet.proofs.write.write_transition.Lts as lts
-use Rattle.columns.proofs.write_short.Reads as write-short-reads
-use Rattle.columns.proofs.write_shorter.Reads as write-shorter-reads
 
 write-shorter-requires : tie.Need-write-shorter-requires
 write-shorter-requires c κs = search needs

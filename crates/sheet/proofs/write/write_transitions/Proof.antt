@@ -9,9 +9,6 @@ use mathlib.Core.Path.{_≡_, refl, _∙_}
 use Prim.Native.Nat.{_≤_, _+_, _-_, _*_}
 use Rattle.sheet.proofs.write.write_transitions.Statement.{statement}
 use Rattle.sheet.proofs.write.write_transitions.Tie as tie
-use Rattle.sheet.proofs.write.write_transitions.Reads as reads
-use Rattle.sheet.proofs.write.write_transitions.Lts as lts
-use Rattle.sheet.proofs.write.write_transition.Reads as write-transition-reads
 
 abbrev Inv-loop : tie.InvT-loop
 Inv-loop sheet₀ list start transitions at₀ k₀ sheet at k = (k ≤ transitions) × (at ≡ start + 16 * k) × (sheet ≡ put start sheet₀ (eachBelow k (transitionLine list))) × (length sheet ≡ length sheet₀)

@@ -8,12 +8,6 @@ use Rattle.shortest.proofs.CopyCases.{begun-is}
 use borrow.Author.Needs.{needs}
 use Rattle.shortest.proofs.copy.begun.Statement.{statement}
 use Rattle.shortest.proofs.copy.begun.Tie as tie
-use Rattle.shortest.proofs.copy.begun.Reads as reads
-use Rattle.shortest.proofs.copy.begun.Lts as lts
-use Rattle.fsbm.proofs.machine.is_buffering.Reads as is-buffering-reads
-use Rattle.shortest.proofs.find.cost.Reads as cost-reads
-use Rattle.shortest.proofs.find.makes.Reads as makes-reads
-use Rattle.shortest.proofs.find.number.Reads as number-reads
 
 returns : tie.Need-returns
 returns c = stop _ (ne-eqb _ _ ((c) .if1 .taken)) ∙ begun-is _ _ _ _ _ _

@@ -5,11 +5,6 @@ use Rattle.shortest.specs.Copy.Whole.{copy-going, copy-first, copy-finis
 use borrow.Author.Needs.{needs}
 use Rattle.shortest.proofs.copy.copy.Statement.{statement}
 use Rattle.shortest.proofs.copy.copy.Tie as tie
-use Rattle.shortest.proofs.copy.copy.Reads as reads
-use Rattle.shortest.proofs.copy.copy.Lts as lts
-use Rattle.shortest.proofs.copy.walk_back.Reads as walk-back-reads
-use Rattle.shortest.proofs.put.again.Reads as again-reads
-use Rattle.shortest.proofs.put.unload.Reads as unload-reads
 
 sub-run : tie.Need-sub-run
 sub-run c = let f = copy-first _ _ _ _ _ _ _ _ _ _ _ _ ((c .before .before .before) .pre) in omega arith

@@ -5,10 +5,6 @@ use Rattle.shortest.proofs.CopyCases.{matched-is}
 use borrow.Author.Needs.{needs}
 use Rattle.shortest.proofs.copy.matched.Statement.{statement}
 use Rattle.shortest.proofs.copy.matched.Tie as tie
-use Rattle.shortest.proofs.copy.matched.Reads as reads
-use Rattle.shortest.proofs.copy.matched.Lts as lts
-use Rattle.fsbm.proofs.machine.transition_at.Reads as transition-at-reads
-use Rattle.shortest.proofs.put.put.Reads as put-reads
 
 returns : tie.Need-returns
 returns c = inl (record { past = (c) .if1 .taken; word-same = refl; run-same = refl; walk-same = refl })

@@ -5,9 +5,6 @@ use Rattle.shortest.proofs.CopyCases.{stored-is}
 use borrow.Author.Needs.{needs}
 use Rattle.shortest.proofs.copy.stored.Statement.{statement}
 use Rattle.shortest.proofs.copy.stored.Tie as tie
-use Rattle.shortest.proofs.copy.stored.Reads as reads
-use Rattle.shortest.proofs.copy.stored.Lts as lts
-use Rattle.fsbm.proofs.machine.transition_at.Reads as transition-at-reads
 
 returns : tie.Need-returns
 returns c = inl (record { past = (c) .if1 .taken; later-same = refl; walk-same = refl })

@@ -5,12 +5,6 @@ use Rattle.shortest.specs.Copy.{Walking}
 use Rattle.shortest.specs.Copy.Laws.{walk-start, walk-states, matched-ready, stored-ready, walk-turn, walk-end}
 use Rattle.shortest.proofs.copy.walk_back.Statement.{statement}
 use Rattle.shortest.proofs.copy.walk_back.Tie as tie
-use Rattle.shortest.proofs.copy.walk_back.Reads as reads
-use Rattle.shortest.proofs.copy.walk_back.Lts as lts
-use Rattle.shortest.proofs.copy.begun.Reads as begun-reads
-use Rattle.shortest.proofs.copy.matched.Reads as matched-reads
-use Rattle.shortest.proofs.copy.stored.Reads as stored-reads
-use Rattle.shortest.proofs.find.back.Reads as back-reads
 
 abbrev Inv-loop : tie.InvT-loop
 Inv-loop list links d b h z word₀ i run₀ r later₀ m w₀ word run later w = Walking m list b h z word₀ i run₀ r word run later w

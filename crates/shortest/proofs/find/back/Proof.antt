@@ -6,13 +6,6 @@ use Rattle.shortest.proofs.FindCases.{back-storing, back-matching, back
 use borrow.Author.Needs.{needs}
 use Rattle.shortest.proofs.find.back.Statement.{statement}
 use Rattle.shortest.proofs.find.back.Tie as tie
-use Rattle.shortest.proofs.find.back.Reads as reads
-use Rattle.shortest.proofs.find.back.Lts as lts
-use Rattle.fsbm.proofs.machine.transition_at.Reads as transition-at-reads
-use Rattle.shortest.proofs.find.find_letter.Reads as find-letter-reads
-use Rattle.shortest.proofs.find.find_match.Reads as find-match-reads
-use Rattle.shortest.proofs.find.find_store.Reads as find-store-reads
-use Rattle.shortest.proofs.find.number.Reads as number-reads
 
 number-requires : tie.Need-number-requires
 number-requires c κs = search needs

@@ -3,8 +3,6 @@ use Rattle.pieces.specs.Blocks.Laws.{cost-inside}
 use borrow.Author.Needs.{needs}
 use Rattle.shortest.proofs.find.cost.Statement.{statement}
 use Rattle.shortest.proofs.find.cost.Tie as tie
-use Rattle.shortest.proofs.find.cost.Reads as reads
-use Rattle.shortest.proofs.find.cost.Lts as lts
 
 mul-result : tie.Need-mul-result
 mul-result c = search needs

@@ -7,10 +7,6 @@ use Rattle.shortest.specs.Find.{LetterStep}
 use Rattle.shortest.specs.Find.Laws.{Finding, finding-start, finding-next, finding-found, finding-none}
 use Rattle.shortest.proofs.find.find_letter.Statement.{statement}
 use Rattle.shortest.proofs.find.find_letter.Tie as tie
-use Rattle.shortest.proofs.find.find_letter.Reads as reads
-use Rattle.shortest.proofs.find.find_letter.Lts as lts
-use Rattle.shortest.proofs.find.letter_fits.Reads as letter-fits-reads
-use Rattle.blocks.proofs.gather.wide.Reads as wide-reads
 
 abbrev Inv-loop : tie.InvT-loop
 Inv-loop m list links b s t want k₀ k = Finding (m .transitions) list s (λ j. LetterStep m list b t want j) k

@@ -9,10 +9,6 @@ use Rattle.shortest.specs.Find.{matchTest}
 use Rattle.shortest.specs.Find.Laws.{Finding, finding-start, finding-next, finding-found, finding-none}
 use Rattle.shortest.proofs.find.find_match.Statement.{statement}
 use Rattle.shortest.proofs.find.find_match.Tie as tie
-use Rattle.shortest.proofs.find.find_match.Reads as reads
-use Rattle.shortest.proofs.find.find_match.Lts as lts
-use Rattle.shortest.proofs.find.match_fits.Reads as match-fits-reads
-use Rattle.blocks.proofs.gather.wide.Reads as wide-reads
 
 abbrev Inv-loop : tie.InvT-loop
 Inv-loop list links b s t x w want m k₀ k = Finding (m .transitions) list t (λ j. matchTest (m .marks) list b s x w want j ≡ true) k

@@ -10,11 +10,6 @@ use Rattle.shortest.specs.Find.{normalTest}
 use Rattle.shortest.specs.Find.Laws.{Finding, finding-start, finding-next, finding-found, finding-none}
 use Rattle.shortest.proofs.find.find_normal.Statement.{statement}
 use Rattle.shortest.proofs.find.find_normal.Tie as tie
-use Rattle.shortest.proofs.find.find_normal.Reads as reads
-use Rattle.shortest.proofs.find.find_normal.Lts as lts
-use Rattle.shortest.proofs.find.cost.Reads as cost-reads
-use Rattle.shortest.proofs.find.normal_fits.Reads as normal-fits-reads
-use Rattle.blocks.proofs.gather.wide.Reads as wide-reads
 
 abbrev Inv-loop : tie.InvT-loop
 Inv-loop list links d q m want k₀ k = Finding (m .transitions) list q (λ k. normalTest (m .marks) list d (costOf d q) k ≡ true) k × (want ≡ costOf d q)

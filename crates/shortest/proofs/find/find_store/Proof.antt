@@ -9,10 +9,6 @@ use Rattle.shortest.specs.Find.{storeTest}
 use Rattle.shortest.specs.Find.Laws.{Finding, finding-start, finding-next, finding-found, finding-none}
 use Rattle.shortest.proofs.find.find_store.Statement.{statement}
 use Rattle.shortest.proofs.find.find_store.Tie as tie
-use Rattle.shortest.proofs.find.find_store.Reads as reads
-use Rattle.shortest.proofs.find.find_store.Lts as lts
-use Rattle.shortest.proofs.find.store_fits.Reads as store-fits-reads
-use Rattle.blocks.proofs.gather.wide.Reads as wide-reads
 
 abbrev Inv-loop : tie.InvT-loop
 Inv-loop list links b s t want m k₀ k = Finding (m .transitions) list s (λ j. storeTest (m .marks) list b t want j ≡ true) k

@@ -6,12 +6,6 @@ use Rattle.shortest.proofs.FindCases.{letter-none, letter-matching, let
 use borrow.Author.Needs.{needs}
 use Rattle.shortest.proofs.find.letter_fits.Statement.{statement}
 use Rattle.shortest.proofs.find.letter_fits.Tie as tie
-use Rattle.shortest.proofs.find.letter_fits.Reads as reads
-use Rattle.shortest.proofs.find.letter_fits.Lts as lts
-use Rattle.fsbm.proofs.machine.both_matching.Reads as both-matching-reads
-use Rattle.fsbm.proofs.machine.is_buffering.Reads as is-buffering-reads
-use Rattle.fsbm.proofs.machine.transition_at.Reads as transition-at-reads
-use Rattle.shortest.proofs.find.find_match.Reads as find-match-reads
 
 transition-at-requires : tie.Need-transition-at-requires
 transition-at-requires c κs = search needs

@@ -1,8 +1,6 @@
 use Rattle.shortest.proofs.FindCases.{makes-less, makes-is}
 use Rattle.shortest.proofs.find.makes.Statement.{statement}
 use Rattle.shortest.proofs.find.makes.Tie as tie
-use Rattle.shortest.proofs.find.makes.Reads as reads
-use Rattle.shortest.proofs.find.makes.Lts as lts
 
 returns : tie.Need-returns
 returns c = makes-less ((c .before) .args .v) _ _ ((c) .if1 .taken)

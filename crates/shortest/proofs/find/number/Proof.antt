@@ -3,8 +3,6 @@ use Rattle.pieces.specs.Blocks.Laws.{cell-inside}
 use borrow.Author.Needs.{needs}
 use Rattle.shortest.proofs.find.number.Statement.{statement}
 use Rattle.shortest.proofs.find.number.Tie as tie
-use Rattle.shortest.proofs.find.number.Reads as reads
-use Rattle.shortest.proofs.find.number.Lts as lts
 
 mul-result : tie.Need-mul-result
 mul-result c = search needs

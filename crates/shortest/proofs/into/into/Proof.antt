@@ -9,9 +9,6 @@ use Rattle.shortest.specs.Into.{IntoFrom}
 use Rattle.shortest.specs.Into.Laws.{into-start, into-turn}
 use Rattle.shortest.proofs.into.into.Statement.{statement}
 use Rattle.shortest.proofs.into.into.Tie as tie
-use Rattle.shortest.proofs.into.into.Reads as reads
-use Rattle.shortest.proofs.into.into.Lts as lts
-use Rattle.fsbm.proofs.machine.transition_at.Reads as transition-at-reads
 
 abbrev Inv-loop : tie.InvT-loop
 Inv-loop list links₀ k₀ links k = IntoFrom k₀ list k links × (k ≤ k₀)

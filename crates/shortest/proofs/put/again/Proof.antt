@@ -2,8 +2,6 @@ use native.Mathlib.Omega.{arith}
 use Rattle.shortest.specs.Put.Laws.{Repeating, repeat-start, repeat-turn, repeat-end}
 use Rattle.shortest.proofs.put.again.Statement.{statement}
 use Rattle.shortest.proofs.put.again.Tie as tie
-use Rattle.shortest.proofs.put.again.Reads as reads
-use Rattle.shortest.proofs.put.again.Lts as lts
 
 abbrev Inv-loop : tie.InvT-loop
 Inv-loop word₀ i n k₀ word k = Repeating word₀ i n word k

@@ -5,9 +5,6 @@ use Rattle.shortest.specs.Put.Laws.{put-epsilon, put-letter}
 use borrow.Author.Needs.{needs}
 use Rattle.shortest.proofs.put.put.Statement.{statement}
 use Rattle.shortest.proofs.put.put.Tie as tie
-use Rattle.shortest.proofs.put.put.Reads as reads
-use Rattle.shortest.proofs.put.put.Lts as lts
-use Rattle.fsbm.proofs.machine.transition_at.Reads as transition-at-reads
 
 cast-run : tie.Need-cast-run
 cast-run c = search needs

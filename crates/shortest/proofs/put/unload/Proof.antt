@@ -3,8 +3,6 @@ use Prim.Native.Nat.{_-_}
 use Rattle.shortest.specs.Put.Laws.{Unloading, unload-start, unload-turn, unload-end}
 use Rattle.shortest.proofs.put.unload.Statement.{statement}
 use Rattle.shortest.proofs.put.unload.Tie as tie
-use Rattle.shortest.proofs.put.unload.Reads as reads
-use Rattle.shortest.proofs.put.unload.Lts as lts
 
 abbrev Inv-loop : tie.InvT-loop
 Inv-loop later c run₀ r k₀ run k = Unloading later c run₀ r run k

@@ -4,9 +4,6 @@ use Rattle.shortest.specs.Write.{Guessing}
 use Rattle.shortest.specs.Write.Laws.{guess-start, guess-next, guess-found, guess-end}
 use Rattle.shortest.proofs.write.guess.Statement.{statement}
 use Rattle.shortest.proofs.write.guess.Tie as tie
-use Rattle.shortest.proofs.write.guess.Reads as reads
-use Rattle.shortest.proofs.write.guess.Lts as lts
-use Rattle.shortest.proofs.write.try_guess.Reads as try-guess-reads
 
 abbrev Inv-loop : tie.InvT-loop
 Inv-loop m list index starts ends middles d b₀ q first k₀ b k = Guessing m list index starts ends middles d b q first k

@@ -3,10 +3,6 @@ use Rattle.fsbm.specs.declared.machine.Transition.{Transition}
 use borrow.Author.Needs.{needs}
 use Rattle.shortest.proofs.write.read.Statement.{statement}
 use Rattle.shortest.proofs.write.read.Tie as tie
-use Rattle.shortest.proofs.write.read.Reads as reads
-use Rattle.shortest.proofs.write.read.Lts as lts
-use Rattle.fsbm.proofs.machine.transition_at.Reads as transition-at-reads
-use Rattle.shortest.proofs.put.put.Reads as put-reads
 
 put-requires : tie.Need-put-requires
 put-requires c κs = search needs

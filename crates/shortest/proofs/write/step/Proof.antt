@@ -4,13 +4,6 @@ use Rattle.shortest.specs.Write.Laws.{number-below, read-ready, read-ste
 use borrow.Author.Needs.{needs}
 use Rattle.shortest.proofs.write.step.Statement.{statement}
 use Rattle.shortest.proofs.write.step.Tie as tie
-use Rattle.shortest.proofs.write.step.Reads as reads
-use Rattle.shortest.proofs.write.step.Lts as lts
-use Rattle.shortest.proofs.copy.copy.Reads as copy-reads
-use Rattle.shortest.proofs.find.find_normal.Reads as find-normal-reads
-use Rattle.shortest.proofs.write.guess.Reads as guess-reads
-use Rattle.shortest.proofs.write.read.Reads as read-reads
-use Rattle.images.proofs.wide.Reads as wide-reads
 
 find-normal-requires : tie.Need-find-normal-requires
 find-normal-requires c κs = ((c .before .before .before) .pre .searching .ready .good, (c .before .before .before) .pre .into, number-below _ _ ((c .before .before .before) .pre .searching .top-small) ((c .before .before .before) .pre .searching .low))

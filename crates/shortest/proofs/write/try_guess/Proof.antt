@@ -8,13 +8,6 @@ use Rattle.shortest.specs.Write.Laws.{number-below, tried-not, tried-blo
 use borrow.Author.Needs.{needs}
 use Rattle.shortest.proofs.write.try_guess.Statement.{statement}
 use Rattle.shortest.proofs.write.try_guess.Tie as tie
-use Rattle.shortest.proofs.write.try_guess.Reads as reads
-use Rattle.shortest.proofs.write.try_guess.Lts as lts
-use Rattle.blocks.proofs.block.block.Reads as block-reads
-use Rattle.shortest.proofs.find.cost.Reads as cost-reads
-use Rattle.shortest.proofs.find.makes.Reads as makes-reads
-use Rattle.shortest.proofs.find.number.Reads as number-reads
-use Rattle.stateset.proofs.member.Reads as member-reads
 
 member-requires : tie.Need-member-requires
 member-requires c κs = search needs

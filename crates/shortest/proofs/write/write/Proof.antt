@@ -7,10 +7,6 @@ use Rattle.shortest.specs.Write.{Writing}
 use Rattle.shortest.specs.Write.Laws.{number-below, write-start, write-low, write-turn, write-end, step-ready}
 use Rattle.shortest.proofs.write.write.Statement.{statement}
 use Rattle.shortest.proofs.write.write.Tie as tie
-use Rattle.shortest.proofs.write.write.Reads as reads
-use Rattle.shortest.proofs.write.write.Lts as lts
-use Rattle.shortest.proofs.find.cost.Reads as cost-reads
-use Rattle.shortest.proofs.write.step.Reads as step-reads
 
 abbrev Inv-loop : tie.InvT-loop
 Inv-loop m list links index starts ends middles d hints b₀ f word₀ run₀ later₀ p₀ b word run later p = Writing m list d f word₀ run₀ word run p × (length b ≡ 4096) × Past m b × (length later ≡ 4096)

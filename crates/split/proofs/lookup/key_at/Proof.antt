@@ -4,10 +4,6 @@ use Rattle.product.specs.Tables.{order}
 use borrow.Author.Needs.{needs}
 use Rattle.split.proofs.lookup.key_at.Statement.{statement}
 use Rattle.split.proofs.lookup.key_at.Tie as tie
-use Rattle.split.proofs.lookup.key_at.Reads as reads
-use Rattle.split.proofs.lookup.key_at.Lts as lts
-use Rattle.fsbm.proofs.machine.transition_at.Reads as transition-at-reads
-use Rattle.split.proofs.lookup.key.Reads as key-reads
 
 transition-at-requires : tie.Need-transition-at-requires
 transition-at-requires c κs = search needs

@@ -7,10 +7,6 @@ use Rattle.split.specs.Lookup.{keyOf, Between}
 use Rattle.split.specs.Lookup.Laws.{between-start, between-below, between-above, between-end}
 use Rattle.split.proofs.lookup.lookup.Statement.{statement}
 use Rattle.split.proofs.lookup.lookup.Tie as tie
-use Rattle.split.proofs.lookup.lookup.Reads as reads
-use Rattle.split.proofs.lookup.lookup.Lts as lts
-use Rattle.split.proofs.lookup.key.Reads as key-reads
-use Rattle.split.proofs.lookup.key_at.Reads as key-at-reads
 
 abbrev Inv-loop : tie.InvT-loop
 Inv-loop list p x q wanted lo₀ hi₀ lo hi = Between list hi₀ p x q lo hi × (wanted ≡ keyOf p x q)

@@ -7,10 +7,6 @@ use Rattle.pieces.specs.Written.{Takes}
 use borrow.Author.Needs.{needs}
 use Rattle.split.proofs.split.first_part.Statement.{statement}
 use Rattle.split.proofs.split.first_part.Tie as tie
-use Rattle.split.proofs.split.first_part.Reads as reads
-use Rattle.split.proofs.split.first_part.Lts as lts
-use Rattle.fsbm.proofs.machine.transition_at.Reads as transition-at-reads
-use Rattle.split.proofs.lookup.lookup.Reads as lookup-reads
 
 returns : tie.Need-returns
 returns c = search needs

@@ -9,10 +9,6 @@ use Rattle.split.specs.Split.Laws.{still-change, still-epsilon, is-lette
 use borrow.Author.Needs.{needs}
 use Rattle.split.proofs.split.second_part.Statement.{statement}
 use Rattle.split.proofs.split.second_part.Tie as tie
-use Rattle.split.proofs.split.second_part.Reads as reads
-use Rattle.split.proofs.split.second_part.Lts as lts
-use Rattle.fsbm.proofs.machine.transition_at.Reads as transition-at-reads
-use Rattle.split.proofs.lookup.lookup.Reads as lookup-reads
 
 returns : tie.Need-returns
 returns c = inl (record { none = still-change ((c .before .before .before .before) .args .list .now) ((c .before .before .before .before) .args .e) ((c) .if1 .taken); place = refl; after = refl })

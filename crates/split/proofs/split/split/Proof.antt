@@ -5,10 +5,6 @@ use Rattle.split.specs.Split.{Splitting}
 use Rattle.split.specs.Split.Laws.{tables, split-start, first-ready, second-ready, split-turn, split-done}
 use Rattle.split.proofs.split.split.Statement.{statement}
 use Rattle.split.proofs.split.split.Tie as tie
-use Rattle.split.proofs.split.split.Reads as reads
-use Rattle.split.proofs.split.split.Lts as lts
-use Rattle.split.proofs.split.first_part.Reads as first-part-reads
-use Rattle.split.proofs.split.second_part.Reads as second-part-reads
 
 abbrev Inv-loop : tie.InvT-loop
 Inv-loop m1 first m2 second list run₀ other₀ n k₀ p₀ run other k p = Splitting m1 first m2 second list run₀ other₀ run other k p × (n ≡ m2 .states)

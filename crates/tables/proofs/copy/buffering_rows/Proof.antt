@@ -7,13 +7,6 @@ use Prim.Native.Nat.{_-_, _+_}
 use borrow.Author.Needs.{needs}
 use Rattle.tables.proofs.copy.buffering_rows.Statement.{statement}
 use Rattle.tables.proofs.copy.buffering_rows.Tie as tie
-use Rattle.tables.proofs.copy.buffering_rows.Reads as reads
-use Rattle.tables.proofs.copy.buffering_rows.Lts as lts
-use Rattle.layers.proofs.layer.blank.Reads as blank-reads
-use Rattle.tables.proofs.copy.dead.Reads as dead-reads
-use Rattle.tables.proofs.copy.fresh_change.Reads as fresh-change-reads
-use Rattle.tables.proofs.copy.save.Reads as save-reads
-use Rattle.tables.proofs.copy.stored_row.Reads as stored-row-reads
 
 abbrev Inv-loop : tie.InvT-loop
 Inv-loop m list targets g h sets word t i stored₀ next₀ d₀ stored next d = Buffered m list sets word i d stored₀ stored next

@@ -5,11 +5,6 @@ use native.Mathlib.Omega.{arith}
 use borrow.Author.Needs.{needs}
 use Rattle.tables.proofs.copy.change_row.Statement.{statement}
 use Rattle.tables.proofs.copy.change_row.Tie as tie
-use Rattle.tables.proofs.copy.change_row.Reads as reads
-use Rattle.tables.proofs.copy.change_row.Lts as lts
-use Rattle.tables.proofs.copy.dead.Reads as dead-reads
-use Rattle.tables.proofs.copy.ended_row.Reads as ended-row-reads
-use Rattle.tables.proofs.copy.wide.Reads as wide-reads
 
 mul-wide : tie.Need-mul-wide
 mul-wide c = search needs

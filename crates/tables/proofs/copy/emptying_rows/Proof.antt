@@ -6,11 +6,6 @@ use Prim.Native.Nat.{_-_, _+_}
 use borrow.Author.Needs.{needs}
 use Rattle.tables.proofs.copy.emptying_rows.Statement.{statement}
 use Rattle.tables.proofs.copy.emptying_rows.Tie as tie
-use Rattle.tables.proofs.copy.emptying_rows.Reads as reads
-use Rattle.tables.proofs.copy.emptying_rows.Lts as lts
-use Rattle.layers.proofs.layer.blank.Reads as blank-reads
-use Rattle.layers.proofs.layer.emptying_layer.Reads as emptying-layer-reads
-use Rattle.tables.proofs.copy.save.Reads as save-reads
 
 abbrev Inv-loop : tie.InvT-loop
 Inv-loop m list targets g h sets word e d rows₀ row₀ r₀ rows row r = Emptied m list sets word e d r rows₀ rows row

@@ -6,12 +6,6 @@ use mathlib.Core.Path.{sym, subst}
 use borrow.Author.Needs.{needs}
 use Rattle.tables.proofs.copy.ended_row.Statement.{statement}
 use Rattle.tables.proofs.copy.ended_row.Tie as tie
-use Rattle.tables.proofs.copy.ended_row.Reads as reads
-use Rattle.tables.proofs.copy.ended_row.Lts as lts
-use Rattle.tables.proofs.copy.dead.Reads as dead-reads
-use Rattle.tables.proofs.copy.keep.Reads as keep-reads
-use Rattle.tables.proofs.copy.load.Reads as load-reads
-use Rattle.tables.proofs.copy.wind.Reads as wind-reads
 
 mul-k : tie.Need-mul-k
 mul-k c = search needs

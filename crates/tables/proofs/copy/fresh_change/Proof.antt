@@ -9,12 +9,6 @@ use mathlib.Core.Path.{refl, sym, subst}
 use borrow.Author.Needs.{needs}
 use Rattle.tables.proofs.copy.fresh_change.Statement.{statement}
 use Rattle.tables.proofs.copy.fresh_change.Tie as tie
-use Rattle.tables.proofs.copy.fresh_change.Reads as reads
-use Rattle.tables.proofs.copy.fresh_change.Lts as lts
-use Rattle.tables.proofs.copy.dead.Reads as dead-reads
-use Rattle.tables.proofs.copy.load.Reads as load-reads
-use Rattle.tables.proofs.copy.wind.Reads as wind-reads
-use Rattle.tables.proofs.halves.halves_match.Reads as halves-match-reads
 
 halves-match-requires : tie.Need-halves-match-requires
 halves-match-requires c κs = search needs

@@ -5,9 +5,6 @@ use mathlib.Core.Bool.{false≢true}
 use borrow.Author.Needs.{needs}
 use Rattle.tables.proofs.copy.is_idle.Statement.{statement}
 use Rattle.tables.proofs.copy.is_idle.Tie as tie
-use Rattle.tables.proofs.copy.is_idle.Reads as reads
-use Rattle.tables.proofs.copy.is_idle.Lts as lts
-use Rattle.tables.proofs.copy.wide.Reads as wide-reads
 
 mul-wide : tie.Need-mul-wide
 mul-wide c = search needs

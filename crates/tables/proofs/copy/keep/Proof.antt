@@ -3,10 +3,6 @@ use Rattle.tables.proofs.CopyCases.{keep-live, keep-dead}
 use borrow.Author.Needs.{needs}
 use Rattle.tables.proofs.copy.keep.Statement.{statement}
 use Rattle.tables.proofs.copy.keep.Tie as tie
-use Rattle.tables.proofs.copy.keep.Reads as reads
-use Rattle.tables.proofs.copy.keep.Lts as lts
-use Rattle.tables.proofs.copy.dead.Reads as dead-reads
-use Rattle.tables.proofs.copy.save.Reads as save-reads
 
 cast-count : tie.Need-cast-count
 cast-count c = search needs

@@ -8,9 +8,6 @@ use mathlib.Core.List.{List}
 use Prim.Native.Nat.{ℕ, _≤_, _-_, _+_}
 use Rattle.tables.proofs.copy.skip_idle.Statement.{statement}
 use Rattle.tables.proofs.copy.skip_idle.Tie as tie
-use Rattle.tables.proofs.copy.skip_idle.Reads as reads
-use Rattle.tables.proofs.copy.skip_idle.Lts as lts
-use Rattle.tables.proofs.copy.is_idle.Reads as is-idle-reads
 
 abbrev Inv-loop : tie.InvT-loop
 Inv-loop i d counts left k₀ k = (k ≤ d) × ((w : List ℕ) → i + d + d ≤ length w → SharedFrom w i counts → Skipped w i d left k)

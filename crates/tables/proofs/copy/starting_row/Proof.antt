@@ -2,10 +2,6 @@ use borrow.Author.Needs.{needs}
 use Rattle.tables.proofs.CopyCases.{starting-none, starting-some}
 use Rattle.tables.proofs.copy.starting_row.Statement.{statement}
 use Rattle.tables.proofs.copy.starting_row.Tie as tie
-use Rattle.tables.proofs.copy.starting_row.Reads as reads
-use Rattle.tables.proofs.copy.starting_row.Lts as lts
-use Rattle.tables.proofs.copy.dead.Reads as dead-reads
-use Rattle.tables.proofs.copy.storing_row.Reads as storing-row-reads
 
 dead-requires : tie.Need-dead-requires
 dead-requires c κs = search needs

@@ -3,9 +3,6 @@ use Rattle.fsbm.specs.Rules.{rules}
 use Rattle.tables.proofs.CopyCases.{stored-both, stored-none}
 use Rattle.tables.proofs.copy.stored_row.Statement.{statement}
 use Rattle.tables.proofs.copy.stored_row.Tie as tie
-use Rattle.tables.proofs.copy.stored_row.Reads as reads
-use Rattle.tables.proofs.copy.stored_row.Lts as lts
-use Rattle.layers.proofs.layer.buffering_layer.Reads as buffering-layer-reads
 
 returns : tie.Need-returns
 returns c = stored-none _ _ _ (record { row = (c .before .before .before .before .args) .next .now; live = (c .before .before .before .before .args) .goes }) (record { row = (c .before .before .before .before .args) .change .now; live = (c .before .before .before .before .args) .turns }) _ (rules _ _ ((c .before .before .before .before .pre) .0 .good)) (not-true _ ((c .if2) .taken)) (not-true _ ((c .before .if1) .taken)) ((c .before .before .before .before .pre) .2)

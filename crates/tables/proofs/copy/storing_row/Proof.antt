@@ -8,13 +8,6 @@ use Prim.Native.Nat.{_-_, _+_}
 use borrow.Author.Needs.{needs}
 use Rattle.tables.proofs.copy.storing_row.Statement.{statement}
 use Rattle.tables.proofs.copy.storing_row.Tie as tie
-use Rattle.tables.proofs.copy.storing_row.Reads as reads
-use Rattle.tables.proofs.copy.storing_row.Lts as lts
-use Rattle.layers.proofs.layer.blank.Reads as blank-reads
-use Rattle.tables.proofs.copy.change_row.Reads as change-row-reads
-use Rattle.tables.proofs.copy.dead.Reads as dead-reads
-use Rattle.tables.proofs.copy.skip_idle.Reads as skip-idle-reads
-use Rattle.tables.proofs.copy.stored_row.Reads as stored-row-reads
 
 abbrev Inv-loop : tie.InvT-loop
 Inv-loop m list targets g h sets word t i counts ends₀ left₀ next₀ d₀ ends left next d = Storing m list sets word i d ends left next × (length ends ≡ length ends₀) × (length left ≡ length left₀)

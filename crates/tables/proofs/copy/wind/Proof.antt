@@ -7,10 +7,6 @@ use mathlib.Core.Path.{refl}
 use borrow.Author.Needs.{needs}
 use Rattle.tables.proofs.copy.wind.Statement.{statement}
 use Rattle.tables.proofs.copy.wind.Tie as tie
-use Rattle.tables.proofs.copy.wind.Reads as reads
-use Rattle.tables.proofs.copy.wind.Lts as lts
-use Rattle.layers.proofs.layer.blank.Reads as blank-reads
-use Rattle.layers.proofs.layer.emptying_layer.Reads as emptying-layer-reads
 
 abbrev Inv-loop : tie.InvT-loop
 Inv-loop m list targets g h sets word e r d row₀ k₀ row k = Winding m list sets word e d k row

@@ -5,9 +5,6 @@ use mathlib.Core.Path.{refl}
 use Prim.Native.Nat.{_-_}
 use Rattle.tables.proofs.halves.count_shared.Statement.{statement}
 use Rattle.tables.proofs.halves.count_shared.Tie as tie
-use Rattle.tables.proofs.halves.count_shared.Reads as reads
-use Rattle.tables.proofs.halves.count_shared.Lts as lts
-use Rattle.tables.proofs.halves.longer.Reads as longer-reads
 
 abbrev Inv-loop : tie.InvT-loop
 Inv-loop word i counts₀ room d₀ counts d = Counted word i d counts

@@ -5,8 +5,6 @@ use lib.ListN.{getD}
 use Rattle.tables.proofs.HalvesCases.{halves-differ, halves-more, halves-end}
 use Rattle.tables.proofs.halves.halves_match.Statement.{statement}
 use Rattle.tables.proofs.halves.halves_match.Tie as tie
-use Rattle.tables.proofs.halves.halves_match.Reads as reads
-use Rattle.tables.proofs.halves.halves_match.Lts as lts
 
 abbrev Inv-loop : tie.InvT-loop
 Inv-loop word i d k₀ k = (j : ℕ) → j < k → getD word (i + j) 0 ≡ getD word (i + d + j) 0

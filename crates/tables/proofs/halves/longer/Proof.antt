@@ -3,8 +3,6 @@ use native.Mathlib.Omega.{arith}
 use borrow.Author.Needs.{needs}
 use Rattle.tables.proofs.halves.longer.Statement.{statement}
 use Rattle.tables.proofs.halves.longer.Tie as tie
-use Rattle.tables.proofs.halves.longer.Reads as reads
-use Rattle.tables.proofs.halves.longer.Lts as lts
 
 shared-slice-read-if1 : tie.Need-shared-slice-read-if1
 shared-slice-read-if1 c = search needs

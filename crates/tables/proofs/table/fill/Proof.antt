@@ -7,10 +7,6 @@ use mathlib.Core.Path.{_≡_, refl, _∙_}
 use Prim.Native.Nat.{_-_, _≤_}
 use Rattle.tables.proofs.table.fill.Statement.{statement}
 use Rattle.tables.proofs.table.fill.Tie as tie
-use Rattle.tables.proofs.table.fill.Reads as reads
-use Rattle.tables.proofs.table.fill.Lts as lts
-use Rattle.tables.proofs.table.fill_end.Reads as fill-end-reads
-use Rattle.tables.proofs.table.fill_place.Reads as fill-place-reads
 
 abbrev Inv-loop : tie.InvT-loop
 Inv-loop m list targets g h sets word t₀ ends₀ left₀ counts₀ p₀ t ends left counts p = Filling m list sets word p t ends left counts × (p ≤ length word) × (length t ≡ length t₀) × (length ends ≡ length ends₀) × (length left ≡ length left₀)

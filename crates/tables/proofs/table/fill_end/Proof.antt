@@ -8,12 +8,6 @@ use mathlib.Core.Path.{refl}
 use borrow.Author.Needs.{needs}
 use Rattle.tables.proofs.table.fill_end.Statement.{statement}
 use Rattle.tables.proofs.table.fill_end.Tie as tie
-use Rattle.tables.proofs.table.fill_end.Reads as reads
-use Rattle.tables.proofs.table.fill_end.Lts as lts
-use Rattle.layers.proofs.layer.blank.Reads as blank-reads
-use Rattle.layers.proofs.layer.place_layer.Reads as place-layer-reads
-use Rattle.tables.proofs.table.near_at.Reads as near-at-reads
-use Rattle.tables.proofs.table.place_rows.Reads as place-rows-reads
 
 blank-requires : tie.Need-blank-requires
 blank-requires c κs = search needs

@@ -8,16 +8,6 @@ use Prim.Native.Nat.{_+_}
 use borrow.Author.Needs.{needs}
 use Rattle.tables.proofs.table.fill_place.Statement.{statement}
 use Rattle.tables.proofs.table.fill_place.Tie as tie
-use Rattle.tables.proofs.table.fill_place.Reads as reads
-use Rattle.tables.proofs.table.fill_place.Lts as lts
-use Rattle.layers.proofs.layer.place_layer.Reads as place-layer-reads
-use Rattle.stateset.proofs.intersection.Reads as intersection-reads
-use Rattle.tables.proofs.copy.load.Reads as load-reads
-use Rattle.tables.proofs.copy.starting_row.Reads as starting-row-reads
-use Rattle.tables.proofs.halves.count_shared.Reads as count-shared-reads
-use Rattle.tables.proofs.table.near_at.Reads as near-at-reads
-use Rattle.tables.proofs.table.place_rows.Reads as place-rows-reads
-use Rattle.tables.proofs.table.unreached.Reads as unreached-reads
 
 count-shared-requires : tie.Need-count-shared-requires
 count-shared-requires c κs = search needs

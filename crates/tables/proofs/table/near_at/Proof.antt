@@ -4,10 +4,6 @@ use lib.ListN.{getD}
 use borrow.Author.Needs.{needs}
 use Rattle.tables.proofs.table.near_at.Statement.{statement}
 use Rattle.tables.proofs.table.near_at.Tie as tie
-use Rattle.tables.proofs.table.near_at.Reads as reads
-use Rattle.tables.proofs.table.near_at.Lts as lts
-use Rattle.stateset.proofs.full.Reads as full-reads
-use Rattle.stateset.proofs.intersection.Reads as intersection-reads
 
 mul-intersection : tie.Need-mul-intersection
 mul-intersection c = search needs

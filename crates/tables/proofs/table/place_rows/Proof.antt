@@ -4,10 +4,6 @@ use mathlib.Core.Path.{refl, sym, _∙_}
 use borrow.Author.Needs.{needs}
 use Rattle.tables.proofs.table.place_rows.Statement.{statement}
 use Rattle.tables.proofs.table.place_rows.Tie as tie
-use Rattle.tables.proofs.table.place_rows.Reads as reads
-use Rattle.tables.proofs.table.place_rows.Lts as lts
-use Rattle.tables.proofs.copy.save.Reads as save-reads
-use Rattle.tables.proofs.table.put_place.Reads as put-place-reads
 
 put-place-requires : tie.Need-put-place-requires
 put-place-requires c κs = search needs

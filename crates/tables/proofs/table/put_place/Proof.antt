@@ -1,9 +1,6 @@
 use borrow.Author.Needs.{needs}
 use Rattle.tables.proofs.table.put_place.Statement.{statement}
 use Rattle.tables.proofs.table.put_place.Tie as tie
-use Rattle.tables.proofs.table.put_place.Reads as reads
-use Rattle.tables.proofs.table.put_place.Lts as lts
-use Rattle.tables.proofs.copy.save.Reads as save-reads
 
 mul-save : tie.Need-mul-save
 mul-save c = search needs

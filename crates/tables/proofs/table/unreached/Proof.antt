@@ -1,9 +1,6 @@
 use borrow.Author.Needs.{needs}
 use Rattle.tables.proofs.table.unreached.Statement.{statement}
 use Rattle.tables.proofs.table.unreached.Tie as tie
-use Rattle.tables.proofs.table.unreached.Reads as reads
-use Rattle.tables.proofs.table.unreached.Lts as lts
-use Rattle.layers.proofs.layer.blank.Reads as blank-reads
 
 blank-requires : tie.Need-blank-requires
 blank-requires c κs = search needs

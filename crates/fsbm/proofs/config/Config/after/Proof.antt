@@ -7,9 +7,6 @@ use native.Mathlib.Omega.{arith}
 use borrow.Author.Needs.{needs}
 use Rattle.fsbm.proofs.config.Config.after.Statement.{statement}
 use Rattle.fsbm.proofs.config.Config.after.Tie as tie
-use Rattle.fsbm.proofs.config.Config.after.Reads as reads
-use Rattle.fsbm.proofs.config.Config.after.Lts as lts
-use Rattle.fsbm.proofs.config.advance.Reads as advance-reads
 
 enum-told : tie.Need-enum-told
 enum-told c = search needs

@@ -6,10 +6,6 @@ use Rattle.basics.specs.Search.Loops.{pass, stop}
 use borrow.Author.Needs.{needs}
 use Rattle.fsbm.proofs.config.Config.back_to_normal.Statement.{statement}
 use Rattle.fsbm.proofs.config.Config.back_to_normal.Tie as tie
-use Rattle.fsbm.proofs.config.Config.back_to_normal.Reads as reads
-use Rattle.fsbm.proofs.config.Config.back_to_normal.Lts as lts
-use Rattle.fsbm.proofs.config.Config.stay.Reads as stay-reads
-use Rattle.fsbm.proofs.machine.is_matching.Reads as is-matching-reads
 
 stay-requires : tie.Need-stay-requires
 stay-requires c κs = search needs

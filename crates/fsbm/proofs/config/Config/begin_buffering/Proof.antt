@@ -6,10 +6,6 @@ use Rattle.basics.specs.Search.Loops.{pass, stop}
 use borrow.Author.Needs.{needs}
 use Rattle.fsbm.proofs.config.Config.begin_buffering.Statement.{statement}
 use Rattle.fsbm.proofs.config.Config.begin_buffering.Tie as tie
-use Rattle.fsbm.proofs.config.Config.begin_buffering.Reads as reads
-use Rattle.fsbm.proofs.config.Config.begin_buffering.Lts as lts
-use Rattle.fsbm.proofs.config.Config.stay.Reads as stay-reads
-use Rattle.fsbm.proofs.machine.is_buffering.Reads as is-buffering-reads
 
 stay-requires : tie.Need-stay-requires
 stay-requires c κs = search needs

@@ -6,10 +6,6 @@ use Rattle.basics.specs.Search.Loops.{pass, stop}
 use borrow.Author.Needs.{needs}
 use Rattle.fsbm.proofs.config.Config.begin_emptying.Statement.{statement}
 use Rattle.fsbm.proofs.config.Config.begin_emptying.Tie as tie
-use Rattle.fsbm.proofs.config.Config.begin_emptying.Reads as reads
-use Rattle.fsbm.proofs.config.Config.begin_emptying.Lts as lts
-use Rattle.fsbm.proofs.config.Config.stay.Reads as stay-reads
-use Rattle.fsbm.proofs.machine.is_matching.Reads as is-matching-reads
 
 stay-requires : tie.Need-stay-requires
 stay-requires c κs = search needs

@@ -4,8 +4,6 @@ use Rattle.fsbm.specs.Moves.{bufferFits}
 use borrow.Author.Needs.{needs}
 use Rattle.fsbm.proofs.config.Config.buffer_fits.Statement.{statement}
 use Rattle.fsbm.proofs.config.Config.buffer_fits.Tie as tie
-use Rattle.fsbm.proofs.config.Config.buffer_fits.Reads as reads
-use Rattle.fsbm.proofs.config.Config.buffer_fits.Lts as lts
 
 enum-told : tie.Need-enum-told
 enum-told c = search needs

@@ -4,11 +4,6 @@ use Rattle.fsbm.specs.Moves.{changes}
 use borrow.Author.Needs.{needs}
 use Rattle.fsbm.proofs.config.Config.change_mode.Statement.{statement}
 use Rattle.fsbm.proofs.config.Config.change_mode.Tie as tie
-use Rattle.fsbm.proofs.config.Config.change_mode.Reads as reads
-use Rattle.fsbm.proofs.config.Config.change_mode.Lts as lts
-use Rattle.fsbm.proofs.config.Config.back_to_normal.Reads as back-to-normal-reads
-use Rattle.fsbm.proofs.config.Config.begin_buffering.Reads as begin-buffering-reads
-use Rattle.fsbm.proofs.config.Config.begin_emptying.Reads as begin-emptying-reads
 
 enum-told : tie.Need-enum-told
 enum-told c = search needs

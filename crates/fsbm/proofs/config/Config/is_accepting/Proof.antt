@@ -5,9 +5,6 @@ use Rattle.basics.specs.Search.Loops.{pass, stop}
 use borrow.Author.Needs.{needs}
 use Rattle.fsbm.proofs.config.Config.is_accepting.Statement.{statement}
 use Rattle.fsbm.proofs.config.Config.is_accepting.Tie as tie
-use Rattle.fsbm.proofs.config.Config.is_accepting.Reads as reads
-use Rattle.fsbm.proofs.config.Config.is_accepting.Lts as lts
-use Rattle.fsbm.proofs.machine.is_final.Reads as is-final-reads
 
 is-final-requires : tie.Need-is-final-requires
 is-final-requires c κs = search needs

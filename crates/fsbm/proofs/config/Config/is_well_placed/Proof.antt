@@ -4,9 +4,6 @@ use Rattle.basics.specs.Search.Loops.{pass, stop}
 use borrow.Author.Needs.{needs}
 use Rattle.fsbm.proofs.config.Config.is_well_placed.Statement.{statement}
 use Rattle.fsbm.proofs.config.Config.is_well_placed.Tie as tie
-use Rattle.fsbm.proofs.config.Config.is_well_placed.Reads as reads
-use Rattle.fsbm.proofs.config.Config.is_well_placed.Lts as lts
-use Rattle.fsbm.proofs.config.Config.buffer_fits.Reads as buffer-fits-reads
 
 returns : tie.Need-returns
 unfolding wellPlaced

@@ -6,11 +6,6 @@ use borrow.Author.Needs.{needs}
 use borrow.Author.Needs.{needs}
 use Rattle.fsbm.proofs.config.Config.may_take.Statement.{statement}
 use Rattle.fsbm.proofs.config.Config.may_take.Tie as tie
-use Rattle.fsbm.proofs.config.Config.may_take.Reads as reads
-use Rattle.fsbm.proofs.config.Config.may_take.Lts as lts
-use Rattle.fsbm.proofs.config.Config.reads_stored.Reads as reads-stored-reads
-use Rattle.fsbm.proofs.config.passes.Reads as passes-reads
-use Rattle.fsbm.proofs.config.reads_letter.Reads as reads-letter-reads
 
 cast-if1 : tie.Need-cast-if1
 cast-if1 c = search needs

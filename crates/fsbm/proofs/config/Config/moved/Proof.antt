@@ -6,14 +6,6 @@ use native.Mathlib.Omega.{arith}
 use borrow.Author.Needs.{needs}
 use Rattle.fsbm.proofs.config.Config.moved.Statement.{statement}
 use Rattle.fsbm.proofs.config.Config.moved.Tie as tie
-use Rattle.fsbm.proofs.config.Config.moved.Reads as reads
-use Rattle.fsbm.proofs.config.Config.moved.Lts as lts
-use Rattle.fsbm.proofs.config.Config.after.Reads as after-reads
-use Rattle.fsbm.proofs.config.Config.change_mode.Reads as change-mode-reads
-use Rattle.fsbm.proofs.config.Config.is_well_placed.Reads as is-well-placed-reads
-use Rattle.fsbm.proofs.config.Config.may_take.Reads as may-take-reads
-use Rattle.fsbm.proofs.config.Config.stay.Reads as stay-reads
-use Rattle.fsbm.proofs.machine.transition_at.Reads as transition-at-reads
 
 is-well-placed-requires : tie.Need-is-well-placed-requires
 is-well-placed-requires c κs = search needs

@@ -5,9 +5,6 @@ use borrow.Author.Needs.{needs}
 use borrow.Author.Needs.{needs}
 use Rattle.fsbm.proofs.config.Config.reads_stored.Statement.{statement}
 use Rattle.fsbm.proofs.config.Config.reads_stored.Tie as tie
-use Rattle.fsbm.proofs.config.Config.reads_stored.Reads as reads
-use Rattle.fsbm.proofs.config.Config.reads_stored.Lts as lts
-use Rattle.fsbm.proofs.config.reads_letter.Reads as reads-letter-reads
 
 enum-told : tie.Need-enum-told
 enum-told c = search needs

@@ -4,10 +4,6 @@ use Rattle.basics.specs.Search.Loops.{first, second}
 use borrow.Author.Needs.{needs}
 use Rattle.fsbm.proofs.config.Config.step.Statement.{statement}
 use Rattle.fsbm.proofs.config.Config.step.Tie as tie
-use Rattle.fsbm.proofs.config.Config.step.Reads as reads
-use Rattle.fsbm.proofs.config.Config.step.Lts as lts
-use Rattle.fsbm.proofs.answer.table_and_word.Reads as table-and-word-reads
-use Rattle.fsbm.proofs.config.Config.moved.Reads as moved-reads
 
 table-and-word-requires : tie.Need-table-and-word-requires
 table-and-word-requires c κs = search needs
