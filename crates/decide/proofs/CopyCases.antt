@@ -11,8 +11,8 @@
 -- tailed-at           == what a tail has reached, of an equal set and an equal place
 -- Copying             == the invariant of copies_from; copying-start, copying-turn, copying-pass, copying-dead, copying-end: it begins, one
 --                        turn, one where no state turns to matching, its two ends
-use Prim.Native.Nat.{ℕ, suc, _+_, _-_, _^_, _≤_, _<_}
-use mathlib.Core.Path.{_≡_, refl, sym, ap, _∙_, subst}
+use Prim.Native.Nat.{ℕ, _+_, _-_, _^_, _≤_, _<_}
+use mathlib.Core.Path.{_≡_, refl, ap, _∙_, subst}
 use mathlib.Core.Logic.{_↔_, _⊎_, inl, inr}
 use mathlib.Core.List.{List}
 use native.Mathlib.Omega.{arith}
@@ -20,9 +20,9 @@ use native.Mathlib.Decide.{decLe}
 use lib.ListN.{length, getD, set, length-set}
 use Rattle.stateset.specs.Set.{width, In}
 use Rattle.fsbm.specs.declared.config.Mode.{Mode}
-use Rattle.fsbm.specs.declared.config.Mode.the-variants.{Normal, Buffering, Emptying}
+use Rattle.fsbm.specs.declared.config.Mode.the-variants.{Buffering, Emptying}
 use Rattle.decide.specs.declared.walks.Tail.{Tail}
-use Rattle.images.specs.Graph.{Members, Fitting, From, Star, here, more, Graph, Edge, Free, Advance}
+use Rattle.images.specs.Graph.{Members, Fitting, From, here, more, Graph, Free, Advance}
 use Rattle.decide.specs.Reach.{Walk, still, reads, Tailed, Matches, LastSquare, CopyTo, Copied}
 use Rattle.images.proofs.SetCases.{members-as, members-none, none-in, row-cases}
 

@@ -6,9 +6,9 @@
 -- run-reach        == the state at the end of a run that ends in normal mode is reached at its position
 use Prim.Native.Nat.{ℕ, zero, suc, _+_, _-_, _≤_, _<_}
 use mathlib.Core.Path.{_≡_, refl, sym, ap, _∙_, subst}
-use mathlib.Core.Logic.{_↔_, _⊎_, inl, inr}
-use mathlib.Core.Bool.{Bool, true, false, _&&_, _||_}
-use mathlib.Core.List.{List, [], _∷_, _++_}
+use mathlib.Core.Logic.{_⊎_, inl, inr}
+use mathlib.Core.Bool.{true, _&&_}
+use mathlib.Core.List.{List, [], _++_}
 use native.Mathlib.Omega.{arith}
 use native.Mathlib.Decide.{ℕ-discrete}
 use lib.ListN.{length, getD, drop, length-drop}
@@ -16,16 +16,16 @@ use lib.Seq.{slice, slice-empty}
 use lib.Dec.{ltb, eqb}
 use borrow.Author.Tests.{ltb-true, eqb-true, eq-eqb}
 use Rattle.basics.specs.Search.Laws.{or-true, and-true}
-use Rattle.stateset.specs.Set.{width, In}
+use Rattle.stateset.specs.Set.{In}
 use Rattle.fsbm.specs.Moves.{readsLetter, advanced}
-use Rattle.fsbm.specs.Published.{FSBM, Listed, fsbmOf, Configuration, config, symbol, Yields, normal, buffer, empty, begin-buffering, begin-emptying, back-to-normal, Run, done}
+use Rattle.fsbm.specs.Published.{fsbmOf, Configuration, config, symbol, Yields, normal, buffer, empty, begin-buffering, begin-emptying, back-to-normal, Run, done}
 use Rattle.fsbm.specs.declared.machine.Machine.{Machine}
 use Rattle.fsbm.specs.declared.config.Mode.{Mode}
 use Rattle.fsbm.specs.declared.config.Mode.the-variants.{Normal, Buffering, Emptying}
 use Rattle.fsbm.specs.Moves.Laws.{advanced-fits}
 use Rattle.language.specs.Strings.{drop-reads, slice-reads, slice-grows, slice-none}
-use Rattle.images.specs.Graph.{Star, here, more, Graph, graph, Edge, Free, Advance}
-use Rattle.decide.specs.Reach.{Walk, still, reads, Matches, Reach, begins, passes, moves, copies}
+use Rattle.images.specs.Graph.{here, more, Graph, graph, Edge}
+use Rattle.decide.specs.Reach.{Walk, still, reads, Reach, begins, passes, moves, copies}
 use Rattle.decide.proofs.CopyCases.{walk-forward}
 use Rattle.decide.proofs.StageCases.{reach-inside}
 use Rattle.decide.proofs.Runs.{advanced-some}

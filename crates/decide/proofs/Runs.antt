@@ -4,25 +4,24 @@
 -- reads-letter      == a letter of the word passes the test of a letter
 -- storing-run, emptying-run == the run of a walk
 -- reach-run         == the run to a reached state
-use Prim.Native.Nat.{ℕ, zero, suc, _+_, _-_, _≤_, _<_}
+use Prim.Native.Nat.{ℕ, suc, _+_, _-_, _≤_, _<_}
 use mathlib.Core.Path.{_≡_, refl, sym, ap, _∙_, subst, subst₂}
-use mathlib.Core.Logic.{_↔_, _⊎_, inl, inr}
-use mathlib.Core.Bool.{Bool, true, false, _&&_, _||_}
-use mathlib.Core.List.{List, [], _∷_, _++_, append-nil}
+use mathlib.Core.Logic.{inl, inr}
+use mathlib.Core.Bool.{true, false, _&&_}
+use mathlib.Core.List.{List, [], _++_, append-nil}
 use native.Mathlib.Omega.{arith}
 use lib.ListN.{length, getD, drop}
 use lib.Seq.{slice, slice-empty}
 use lib.Dec.{ltb, eqb}
 use borrow.Author.Tests.{lt-ltb, eq-eqb, ne-eqb}
 use Rattle.basics.specs.Search.Laws.{or-true-right, and-both-true}
-use Rattle.stateset.specs.Set.{width, In}
+use Rattle.stateset.specs.Set.{In}
 use Rattle.fsbm.specs.Moves.{readsLetter, advanced}
-use Rattle.fsbm.specs.Published.{FSBM, Listed, fsbmOf, Configuration, config, symbol, Yields, normal, buffer, empty, begin-buffering, begin-emptying, back-to-normal, Run, done}
+use Rattle.fsbm.specs.Published.{FSBM, fsbmOf, Configuration, config, symbol, Yields, normal, buffer, empty, begin-buffering, begin-emptying, back-to-normal, Run, done}
 use Rattle.fsbm.specs.declared.machine.Machine.{Machine}
-use Rattle.fsbm.specs.declared.config.Mode.{Mode}
 use Rattle.fsbm.specs.declared.config.Mode.the-variants.{Normal, Buffering, Emptying}
 use Rattle.language.specs.Strings.{reads-drop, reads-slice, slice-grows}
-use Rattle.images.specs.Graph.{Star, here, more, Graph, graph, Edge, Free, Advance}
+use Rattle.images.specs.Graph.{here, more, graph, Edge, Free}
 use Rattle.decide.specs.Reach.{Walk, still, reads, Matches, Reach, begins, passes, moves, copies}
 use Rattle.decide.proofs.CopyCases.{walk-forward, walk-matching}
 use Rattle.decide.proofs.Tables.{Read, Table, edge-listed}

@@ -11,19 +11,18 @@ use mathlib.Core.Path.{_≡_, refl, sym, ap, _∙_, subst}
 use mathlib.Core.Logic.{_↔_, _⊎_, inl, inr}
 use mathlib.Core.List.{List}
 use native.Mathlib.Omega.{arith}
-use native.Mathlib.Decide.{decLt, ℕ-discrete}
+use native.Mathlib.Decide.{ℕ-discrete}
 use lib.ListN.{length, getD, set, length-set, replicate}
 use lib.Seq.{getD-set-same, getD-set-other}
 use lib.Bits.{bitAnd}
 use Rattle.stateset.specs.Set.{width, In}
 use Rattle.stateset.specs.Set.Laws.{in-and}
-use Rattle.fsbm.specs.declared.config.Mode.{Mode}
 use Rattle.fsbm.specs.declared.config.Mode.the-variants.{Normal, Buffering, Emptying}
 use Rattle.basics.specs.Lists.{zeros-at}
-use Rattle.images.specs.Graph.{Members, Fitting, From, Star, here, more, Graph, Edge, Free, EmptyCopy, Turn}
-use Rattle.decide.specs.Reach.{Walk, still, reads, Matches, Reach, begins, passes, moves, copies, CopyTo, Copied, ReadTo, Passed, Stage}
+use Rattle.images.specs.Graph.{Members, Fitting, From, Star, here, more, Graph, Edge, Turn}
+use Rattle.decide.specs.Reach.{Walk, still, Matches, Reach, begins, passes, moves, copies, CopyTo, Copied, ReadTo, Passed, Stage}
 use Rattle.images.proofs.SetCases.{none-in, row-cases}
-use Rattle.decide.proofs.CopyCases.{walk-forward, walk-free}
+use Rattle.decide.proofs.CopyCases.{walk-free}
 
 -- a set at one place changes
 pub fitting-set : (a : List ℕ) (i v : ℕ) → Fitting 256 a → i < 256 → v < 2 ^ width → Fitting 256 (set a i v)

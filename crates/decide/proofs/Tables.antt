@@ -9,15 +9,13 @@
 use Prim.Native.Nat.{ℕ, _/_, _%_, _<_}
 use mathlib.Core.Path.{_≡_, sym, subst}
 use mathlib.Core.Logic.{_↔_, _⊎_, inl, inr}
-use mathlib.Core.Bool.{true, false}
+use mathlib.Core.Bool.{true}
 use mathlib.Core.List.{List}
 use native.Mathlib.Omega.{arith}
 use lib.ListN.{length, getD}
-use lib.Dec.{ltb}
-use borrow.Author.Tests.{ltb-true, eqb-true, eq-eqb}
-use Rattle.basics.specs.Search.Laws.{true-or-false}
+use borrow.Author.Tests.{eqb-true, eq-eqb}
 use Rattle.stateset.specs.Set.{In}
-use Rattle.fsbm.specs.Machine.{wellFormed, markOf, initial, final, buffering, matching, maxStates}
+use Rattle.fsbm.specs.Machine.{wellFormed, markOf, initial, final, buffering, matching}
 use Rattle.fsbm.specs.Published.{Listed}
 use Rattle.fsbm.specs.declared.machine.Machine.{Machine}
 use Rattle.fsbm.specs.declared.config.Mode.{Mode}

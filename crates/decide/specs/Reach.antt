@@ -11,13 +11,13 @@
 -- ReadTo G w i near k q     == a normal move from a state of the set near reads the letter at i and ends at place k in q
 -- Passed G w a b i         == the sets b are the sets a once place i is completed and what it reaches at later places is added
 -- Stage G w start sets t   == the sets of the places below t are complete; every member of a set is reached
-use Prim.Native.Nat.{ℕ, suc, _+_, _-_, _^_, _≤_, _<_}
+use Prim.Native.Nat.{ℕ, suc, _+_, _-_, _≤_, _<_}
 use mathlib.Core.Path.{_≡_}
 use mathlib.Core.Logic.{_↔_, _⊎_}
 use mathlib.Core.List.{List}
 use lib.ListN.{length, getD, set}
 use lib.Bits.{bitAnd}
-use Rattle.stateset.specs.Set.{width, In}
+use Rattle.stateset.specs.Set.{In}
 use Rattle.fsbm.specs.declared.config.Mode.{Mode}
 use Rattle.fsbm.specs.declared.config.Mode.the-variants.{Normal, Buffering, Emptying}
 use Rattle.decide.specs.declared.walks.Tail.{Tail}

@@ -10,7 +10,7 @@
 -- start-well-placed  == where a run starts
 use Prim.Native.Nat.{ℕ, zero, suc, _≤_, _<_, _+_}
 use mathlib.Core.Path.{_≡_, refl, sym, _∙_, ap}
-use mathlib.Core.Bool.{Bool, true, false, not, cond, _&&_}
+use mathlib.Core.Bool.{Bool, true, false, not, _&&_}
 use mathlib.Core.List.{List, [], _∷_}
 use native.Mathlib.Omega.{arith}
 use lib.ListN.{length, getD, take, drop, drop-of-length-le, List·getD-eq-default}
@@ -20,10 +20,9 @@ use lib.Dec.{ltb, eqb}
 use borrow.Author.Tests.{lt-ltb, le-ltb, eq-eqb, ne-eqb}
 use Rattle.fsbm.specs.declared.config.Config.{Config}
 use Rattle.fsbm.specs.declared.config.Move.{Move}
-use Rattle.fsbm.specs.declared.config.Mode.{Mode}
 use Rattle.fsbm.specs.declared.config.Mode.the-variants.{Normal, Buffering, Emptying}
 use Rattle.fsbm.specs.declared.machine.Transition.{Transition}
-use Rattle.fsbm.specs.Machine.{bothMatching, buffering}
+use Rattle.fsbm.specs.Machine.{buffering}
 use Rattle.fsbm.specs.declared.machine.Machine.{Machine}
 use Rattle.fsbm.specs.Machine.{initial, transitionAt, wellFormed}
 use Rattle.fsbm.specs.Moves.{wellPlaced, readsLetter, advanced, mayTake, after, goes, changes, move, startAt, accepts, acceptingFrom, accepting}

@@ -5,7 +5,6 @@
 -- members-none            == the number 0 has no members
 -- some-member             == any other number has one
 -- none-other              == a set without another is empty: its members are members of the other
--- single-is               == the set of one state
 -- row-cases               == what holds of a list whose element at one place is new
 -- normal-moves, buffering-moves, emptying-moves == what step_normal, step_buffering, step_emptying put together
 -- edges-taken             == the moves by the row of a letter are its edges
@@ -25,8 +24,8 @@ use lib.Count.{trailingZeros}
 use lib.Dec.{eqb}
 use borrow.Author.Tests.{eqb-true, eq-eqb}
 use Rattle.basics.specs.Search.Laws.{not-both}
-use Rattle.stateset.specs.Set.{width, In, has, SetIs}
-use Rattle.stateset.specs.Set.Laws.{has-in, in-lt, in?, empty-in, lowest-in}
+use Rattle.stateset.specs.Set.{width, In, SetIs}
+use Rattle.stateset.specs.Set.Laws.{in?, empty-in, lowest-in}
 use Rattle.fsbm.specs.Machine.{markOf}
 use Rattle.fsbm.specs.declared.config.Mode.{Mode}
 use Rattle.fsbm.specs.declared.config.Mode.the-variants.{Normal, Buffering, Emptying}
@@ -55,13 +54,6 @@ none-other a b d diff e q h = at (in? b q)
     at : Dec (In b q) → In b q
     at (yes y) = y
     at (no n) = absurd (none-in e q (diff .members q .1 (h, n)))
-
-pub has-not : (x q : ℕ) → has x q ≡ false → In x q → ⊥
-has-not x q f h = not-both (has-in x q .1 h) f
-
--- the set of one state
-pub single-is : {r v : ℕ} (q : ℕ) → q < width → SetIs r v (λ p. (p ≡ q) × (p < width)) → Members r (λ p. p ≡ q)
-single-is q lt s = members-as (members-is s) (λ p z. z .0) (λ p (z : p ≡ q). (z, omega arith))
 
 -- one element of a list changes
 

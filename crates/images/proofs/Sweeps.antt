@@ -6,17 +6,16 @@
 -- Placing   == the invariant of a closure under two relations in turns, that looks for the second only at the members that came last
 -- rows-united == the sets that a row has for the members of a set, united
 -- ..-start, ..-turn, ..-less, ..-end == each begins, one turn, its measure, its end
-use Prim.Native.Nat.{ℕ, _-_, _^_, _≤_, _<_}
-use mathlib.Core.Path.{_≡_, refl, sym, ap, _∙_, subst}
-use mathlib.Core.Logic.{_↔_, _⊎_, inl, inr}
-use native.Mathlib.Omega.{arith}
+use Prim.Native.Nat.{ℕ, _-_, _^_, _<_}
+use mathlib.Core.Path.{_≡_, refl, subst}
+use mathlib.Core.Logic.{_⊎_, inl, inr}
 use native.Mathlib.Decide.{ℕ-discrete}
 use lib.Bits.{bitOr}
 use lib.Count.{ones}
-use Rattle.stateset.specs.Set.{width, In, SetIs, Size}
-use Rattle.stateset.specs.Set.Laws.{in?, ones-mono, ones-same, union-grows}
+use Rattle.stateset.specs.Set.{width, In, SetIs}
+use Rattle.stateset.specs.Set.Laws.{in?, union-grows}
 use Rattle.images.specs.Graph.{Members, From, Star, here, more}
-use Rattle.images.proofs.SetCases.{members-is, members-as, members-none, none-in, some-member}
+use Rattle.images.proofs.SetCases.{members-as, members-none, none-in, some-member}
 
 pub star-join : {R : ℕ → ℕ → Type 0} {p q r : ℕ} → Star R p q → Star R q r → Star R p r
 star-join a here = a

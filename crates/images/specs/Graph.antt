@@ -21,7 +21,7 @@
 --                           closure of each state of its second set is there
 -- Kind marks states b set == the set of the states below a number whose mark has the bit of value b
 -- KindsOf marks states k == the four sets of states by their marks
-use Prim.Native.Nat.{ℕ, _+_, _-_, _*_, _/_, _%_, _^_, _≤_, _<_}
+use Prim.Native.Nat.{ℕ, _+_, _*_, _/_, _%_, _^_, _≤_, _<_}
 use mathlib.Core.Path.{_≡_}
 use mathlib.Core.Logic.{_↔_, _⊎_}
 use mathlib.Core.List.{List}

@@ -2,16 +2,15 @@
 // each letter lead from each state. Its first set has the states with epsilon transitions, its second the states whose closures it has;
 // behind them stand the row of closures and the rows of the letters in order, letter 0, epsilon, first, each with one set for each
 // state. g is the set of buffering states, h the set of matching states.
-ghost use Prim.Native.Nat.{ℕ, _+_, _-_, _*_, _/_, _%_, _^_, _≤_, _<_};
+ghost use Prim.Native.Nat.{_+_, _-_, _*_, _/_, _%_, _^_, _≤_, _<_};
 ghost use mathlib.Core.Path.{_≡_};
 ghost use mathlib.Core.Bool.{true};
 ghost use mathlib.Core.Logic.{_⊎_};
 ghost use lib.ListN.{length, getD};
 ghost use lib.Dec.{eqb};
 ghost use Rattle.stateset.specs.Set.{width, In};
-ghost use Rattle.fsbm.specs.Machine.{markOf};
 ghost use Rattle.fsbm.specs.declared.config.Mode.the-variants.{Normal, Buffering, Emptying};
-ghost use Rattle.images.specs.Graph.{Members, From, Star, graph, May, RowEdge, Edge, Free, Advance, EmptyCopy, Turn, Room, Good, KindsOf};
+ghost use Rattle.images.specs.Graph.{Members, From, Star, graph, RowEdge, Edge, Free, Advance, EmptyCopy, Turn, Room, Good, KindsOf};
 use fsbm::config::Mode;
 use fsbm::limits::MAX_STATES;
 use fsbm::machine;
@@ -131,7 +130,7 @@ fn step_emptying(targets: &[u64], row: usize, states: usize, g: u64, h: u64, set
 }
 
 // The image of a set under the moves that read x in a mode. Time: the members of the set, each once.
-pub fn step_set(targets: &[u64], states: usize, g: u64, h: u64, mode: Mode, set: u64, x: u8) -> u64
+fn step_set(targets: &[u64], states: usize, g: u64, h: u64, mode: Mode, set: u64, x: u8) -> u64
     requires { ⌜ Good (now targets) states g h × Room (now targets) states x ⌝ }
     ensures { λ r. ⌜ Members r (From set (Edge (graph (now (targets .entry)) states g h) mode x)) ⌝ }
 {

@@ -17,17 +17,17 @@
 use Prim.Native.Nat.{ℕ, suc, _-_, _≤_, _<_}
 use mathlib.Core.Path.{_≡_, refl, sym, ap, _∙_, subst, subst₂}
 use mathlib.Core.Logic.{_↔_}
-use mathlib.Core.Bool.{Bool, true, false, cond, not, _&&_, false≢true}
+use mathlib.Core.Bool.{Bool, true, cond, _&&_, false≢true}
 use mathlib.Core.List.{List, [], _∷_, _++_}
 use native.Mathlib.Omega.{arith}
 use lib.ListN.{length, drop, length-drop}
 use lib.Seq.{slice, slice-empty, drop-length}
 use lib.Dec.{ltb, eqb}
-use borrow.Author.Tests.{ltb-true, eqb-true, eq-eqb, lt-ltb, le-ltb}
+use borrow.Author.Tests.{ltb-true, eqb-true, eq-eqb, lt-ltb}
 use Rattle.basics.specs.Search.{AllBelow, none, more}
 use Rattle.basics.specs.Search.Laws.{and-true, and-both-true}
 use Rattle.graphs.specs.Paths.{Path, here, step}
-use Rattle.fsbm.specs.Machine.{wellFormed, transitionAt, initial, final, buffering, matching, bothMatching}
+use Rattle.fsbm.specs.Machine.{wellFormed, transitionAt, initial, final, buffering, matching}
 use Rattle.fsbm.specs.Moves.{wellPlaced, readsLetter, readsStored, after, mayChange, changed, goes, move, startAt, isNormal, accepts, acceptingFrom, accepting, beginBuffering, beginEmptying, backToNormal}
 use Rattle.fsbm.specs.Moves.Laws.{start-placed, passes-normal, passes-buffering, passes-emptying, listed-normal, listed-buffering, listed-emptying, Took, says-may-take, move-elim, move-takes, move-changes, move-stays}
 use Rattle.fsbm.specs.Published.{Listed, fsbmOf, Configuration, config, symbol, Yields, normal, buffer, empty, begin-buffering, begin-emptying, back-to-normal, Run, done, InLanguage}
@@ -38,7 +38,7 @@ use Rattle.fsbm.specs.declared.config.Config.{Config}
 use Rattle.fsbm.specs.declared.config.Move.{Move}
 use Rattle.fsbm.specs.declared.config.Mode.{Mode}
 use Rattle.fsbm.specs.declared.config.Mode.the-variants.{Normal, Buffering, Emptying}
-use Rattle.fsbm.specs.Rules.{Rules, rules, Placed, placed, unplaced}
+use Rattle.fsbm.specs.Rules.{Rules, rules, Placed, placed}
 use Rattle.language.specs.Strings.{reads-slice, slice-reads, reads-drop, drop-reads, slice-grows, slice-none}
 
 abbrev pub published : List ℕ → Config → Configuration

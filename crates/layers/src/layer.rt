@@ -2,10 +2,10 @@
 // set of the buffering states and h that of the matching states.
 ghost use Prim.Native.Nat.{ℕ, _+_, _≤_, _<_};
 ghost use mathlib.Core.Path.{_≡_};
-ghost use mathlib.Core.Bool.{Bool, true, false};
+ghost use mathlib.Core.Bool.{true, false};
 ghost use mathlib.Core.List.{List};
 ghost use Rattle.stateset.specs.Set.{In};
-ghost use Rattle.fsbm.specs.declared.config.Mode.the-variants.{Normal, Buffering, Emptying};
+ghost use Rattle.fsbm.specs.declared.config.Mode.the-variants.{Buffering, Emptying};
 ghost use Rattle.targets.specs.Prepared.{Row};
 ghost use Rattle.layers.specs.Rows.{Given, Closed};
 ghost use Rattle.layers.specs.Layers.{blankRow, NoneBelow, Seeded, FirstRow, EmptyingLayer, BufferingLayer, Storing, Round, ClosedPlace, PlaceLayer};

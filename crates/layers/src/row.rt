@@ -3,13 +3,10 @@
 // states, h that of the matching states.
 ghost use Prim.Native.Nat.{ℕ, _+_, _*_, _≤_, _<_};
 ghost use mathlib.Core.Path.{_≡_};
-ghost use mathlib.Core.Bool.{Bool, true, false};
+ghost use mathlib.Core.Bool.{true, false};
 ghost use mathlib.Core.Logic.{_⊎_};
-ghost use mathlib.Core.List.{List};
-ghost use lib.ListN.{length, getD};
 ghost use Rattle.stateset.specs.Set.{In};
 ghost use Rattle.fsbm.specs.declared.config.Mode.the-variants.{Normal, Buffering, Emptying};
-ghost use Rattle.images.specs.Graph.{setOf};
 ghost use Rattle.targets.specs.Prepared.{Row};
 ghost use Rattle.layers.specs.Costs.{none, at};
 ghost use Rattle.layers.specs.Rows.{Given, Lowered, Lowering, Through, Reads, Beside, Only, Within, Cut, Apart, Glance, Seen, LeastOf, Closed, lesserOf};

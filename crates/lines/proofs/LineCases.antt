@@ -14,9 +14,8 @@ use mathlib.Core.Logic.{_⊎_, inl, inr}
 use mathlib.Core.List.{List, [], _∷_, _++_, append-assoc}
 use native.Mathlib.Omega.{arith}
 use native.Mathlib.Numerals.{add-one}
-use lib.ListN.{length, getD, take, drop, set, length-set, length-append, length-drop, List·getD-append}
-use lib.Seq.{take-suc-set, drop-append-add, take-at, set-at, drop-drop, drop-cons, length-take-le, getD-at}
-use native.Mathlib.Nat.{add-assoc}
+use lib.ListN.{length, getD, take, drop, set, length-set, length-append, List·getD-append}
+use lib.Seq.{take-suc-set, set-at, drop-cons, length-take-le, getD-at}
 use lib.Dec.{eqb, leb}
 use native.Mathlib.Decide.{decLe, decLt, ℕ-discrete}
 use borrow.Author.Tests.{le-leb, lt-leb, leb-true, eq-eqb, ne-eqb}

@@ -42,7 +42,7 @@ fn store_letter(letters: usize, v: usize, k: usize, word: &mut [u8]) -> bool
 
 // The refusal of a word's line, or 0 and its letters at the front of word: 9 more than 800 bytes, 2 a column that holds no number or
 // a part of one, 8 a number that is no letter.
-pub fn read_word(letters: usize, line: &[u8], word: &mut [u8]) -> u8
+fn read_word(letters: usize, line: &[u8], word: &mut [u8]) -> u8
     requires { ⌜ (letters ≤ 250) × (160 ≤ length (now word)) ⌝ }
     ensures { λ r. ⌜ WordRead letters (now (line .entry)) r (now (word .exit)) ⌝ }
 {

@@ -14,10 +14,9 @@ use native.Mathlib.Nat.{mul-le-mul, div-add-mod'}
 use lib.ListN.{length, getD, length-append}
 use lib.Dec.{leb, ltb, eqb, eqb·suc-zero}
 use borrow.Author.Tests.{ltb-true, lt-ltb, le-leb, eq-eqb, eqb-true, eqb-false}
-use Rattle.basics.specs.Search.{allBelow}
-use Rattle.basics.specs.Search.Laws.{and-both-true, allBelow-true}
+use Rattle.basics.specs.Search.Laws.{and-both-true}
 use Rattle.basics.specs.Search.Loops.{first, second}
-use Rattle.fsbm.specs.Machine.{maxStates, maxLetters, maxTransitions, markOf, initial, final, buffering, matching, transitionAt, goodMark, named, precedes, goodTransition, wellFormed}
+use Rattle.fsbm.specs.Machine.{maxStates, markOf, initial, final, buffering, matching, transitionAt, goodMark, named, precedes, goodTransition, wellFormed}
 use Rattle.fsbm.specs.Rules.{one-kind, tested}
 use Rattle.fsbm.specs.declared.machine.Machine.{Machine}
 use Rattle.fsbm.specs.declared.machine.Transition.{Transition}

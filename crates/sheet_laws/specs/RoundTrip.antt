@@ -20,10 +20,9 @@ use lib.ListN.{length, take, drop, getD, replicate, length-append, length-drop, 
 use lib.Seq.{drop-append-add, take-add, take-all, getD-drop, getD-append-add}
 use lib.Dec.{leb, ltb, eqb}
 use borrow.Author.Tests.{lt-ltb, le-ltb, le-leb, leb-true, ltb-true, eq-eqb, eqb-true}
-use Rattle.basics.specs.Search.{allBelow}
-use Rattle.basics.specs.Search.Laws.{and-true, and-both-true, allBelow-true}
+use Rattle.basics.specs.Search.Laws.{and-true, and-both-true}
 use Rattle.columns.specs.Column.{noNumber}
-use Rattle.fsbm.specs.Machine.{markOf, transitionAt, goodMark, named, precedes, goodTransition, wellFormed, maxStates}
+use Rattle.fsbm.specs.Machine.{markOf, transitionAt, goodMark, named, precedes, goodTransition, wellFormed}
 use Rattle.fsbm.specs.Rules.{Counts, Tested, tested}
 use Rattle.fsbm.specs.Answers.{refusal, noMachine}
 use Rattle.fsbm.specs.declared.machine.Machine.{Machine}

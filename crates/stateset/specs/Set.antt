@@ -8,18 +8,16 @@
 -- removed x q         == x without the state q
 -- without x y         == the members of x that are no members of y
 -- below n             == the states below n
--- count n p           == how many k < n have p k
 -- lowestOf x          == the lowest member of x, or width where x is empty
 -- SetIs r v P         == r is the number v, which is the set of the states p with P p
--- Size x r            == r is the number of members of x
 -- Lowest x r          == r is the lowest member of x, or width where x is empty
 use mathlib.Core.Path.{_≡_}
 use mathlib.Core.Logic.{_↔_}
 use mathlib.Core.Bool.{Bool, true, false, cond}
-use Prim.Native.Nat.{ℕ, zero, suc, _+_, _-_, _/_, _%_, _^_, _≤_, _<_, min}
+use Prim.Native.Nat.{ℕ, _-_, _/_, _%_, _^_, _≤_, _<_, min}
 use lib.Dec.{eqb, ltb}
 use lib.Bits.{bitAnd, bitOr}
-use lib.Count.{ones, trailingZeros}
+use lib.Count.{trailingZeros}
 pub mod Laws
 
 abbrev pub width : ℕ
@@ -50,10 +48,6 @@ abbrev one : Bool → ℕ
 one true = 1
 one false = 0
 
-unfoldable pub count : ℕ → (ℕ → Bool) → ℕ
-count zero p = 0
-count (suc n) p = one (p n) + count n p
-
 abbrev pub lowestOf : ℕ → ℕ
 lowestOf x = trailingZeros width x
 
@@ -61,11 +55,6 @@ pub record SetIs (r v : ℕ) (P : ℕ → Type 0) : Type 0 where
   pub value : r ≡ v
   pub fits : r < 2 ^ width
   pub members : (p : ℕ) → In r p ↔ P p
-
-pub record Size (x r : ℕ) : Type 0 where
-  pub value : r ≡ ones x
-  pub counted : r ≡ count width (λ q. has x q)
-  pub within : r ≤ width
 
 pub record Lowest (x r : ℕ) : Type 0 where
   pub value : r ≡ lowestOf x

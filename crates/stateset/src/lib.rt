@@ -5,7 +5,7 @@ ghost use mathlib.Core.Path.{_≡_};
 ghost use mathlib.Core.Logic.{_⊎_};
 ghost use Prim.Native.Nat.{_<_};
 ghost use lib.Bits.{bitAnd, bitOr};
-ghost use Rattle.stateset.specs.Set.{width, In, has, added, removed, without, below, lowestOf, SetIs, Size, Lowest};
+ghost use Rattle.stateset.specs.Set.{width, In, has, added, removed, without, below, lowestOf, SetIs, Lowest};
 
 // How many states a set can hold.
 pub const WIDTH: usize = 64;
@@ -82,13 +82,6 @@ pub fn difference(a: u64, b: u64) -> u64
     ensures { λ r. ⌜ SetIs r (without a b) (λ p. In a p × (In b p → ⊥)) ⌝ }
 {
     a & !b
-}
-
-// How many members the set has.
-pub fn size(set: u64) -> u32
-    ensures { λ r. ⌜ Size set r ⌝ }
-{
-    u64::count_ones(set)
 }
 
 // The lowest member of the set, or 64 where it has none.

@@ -8,23 +8,21 @@
 -- total-fits              == the total is at most the word's length
 use Prim.Native.Nat.{ℕ, zero, suc, _+_, _*_, _-_, _≤_, _<_}
 use mathlib.Core.Path.{_≡_, refl, sym, subst}
-use mathlib.Core.Bool.{Bool, true, false, cond, not, _&&_, false≢true}
+use mathlib.Core.Bool.{Bool, true, false, cond, _&&_, false≢true}
 use mathlib.Core.List.{List, [], _∷_}
 use native.Mathlib.Omega.{arith}
 use lib.ListN.{length}
 use lib.Dec.{ltb, eqb, eqb·suc-zero}
-use borrow.Author.Tests.{ltb-true, eqb-true, ne-eqb}
+use borrow.Author.Tests.{eqb-true, ne-eqb}
 use Rattle.basics.specs.Search.Laws.{and-true}
-use Rattle.fsbm.specs.Machine.{wellFormed, transitionAt, initial, buffering, matching, bothMatching, final}
-use Rattle.fsbm.specs.Moves.{wellPlaced, readsLetter, advanced, readsStored, after, mayChange, changed, move, startAt, isNormal, accepts, acceptingFrom, accepting, beginBuffering, beginEmptying, backToNormal}
+use Rattle.fsbm.specs.Machine.{wellFormed, transitionAt, initial, buffering, matching, final}
+use Rattle.fsbm.specs.Moves.{advanced, readsStored, after, mayChange, changed, move, startAt, isNormal, accepts, acceptingFrom, accepting, beginBuffering, beginEmptying, backToNormal}
 use Rattle.fsbm.specs.declared.machine.Machine.{Machine}
 use Rattle.fsbm.specs.declared.machine.Transition.{Transition}
 use Rattle.fsbm.specs.declared.config.Config.{Config}
-use Rattle.fsbm.specs.declared.config.Move.{Move}
 use Rattle.fsbm.specs.declared.config.Mode.{Mode}
 use Rattle.fsbm.specs.declared.config.Mode.the-variants.{Normal, Buffering, Emptying}
-use Rattle.basics.specs.Bools.{cond-elim}
-use Rattle.fsbm.specs.Rules.{rules, Placed, placed}
+use Rattle.fsbm.specs.Rules.{rules, Placed}
 use Rattle.fsbm.specs.Moves.Laws.{advanced-fits, move-elim}
 use Rattle.copies.specs.Copies.{copyAt, copiesFrom, copiesOf, totalStored, plainFrom, plainLetters}
 

@@ -3,9 +3,6 @@ use Rattle.images.proofs.SetCases.{add-yes, add-no, members-is}
 use borrow.Author.Needs.{needs}
 use Rattle.images.proofs.add_if.Statement.{statement}
 use Rattle.images.proofs.add_if.Tie as tie
-use Rattle.images.proofs.add_if.Reads as reads
-use Rattle.images.proofs.add_if.Lts as lts
-use Rattle.stateset.proofs.add.Reads as add-reads
 
 add-requires : tie.Need-add-requires
 add-requires c κs = search needs

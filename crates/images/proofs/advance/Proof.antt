@@ -1,13 +1,8 @@
 use Rattle.images.proofs.SetCases.{advance-none, advance-some}
 use Rattle.images.specs.Graph.{graph}
-use native.Mathlib.Omega.{arith}
 use borrow.Author.Needs.{needs}
 use Rattle.images.proofs.advance.Statement.{statement}
 use Rattle.images.proofs.advance.Tie as tie
-use Rattle.images.proofs.advance.Reads as reads
-use Rattle.images.proofs.advance.Lts as lts
-use Rattle.images.proofs.close_set.Reads as close-set-reads
-use Rattle.images.proofs.read_set.Reads as read-set-reads
 
 read-set-requires : tie.Need-read-set-requires
 read-set-requires c κs = search needs

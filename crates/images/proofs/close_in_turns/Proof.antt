@@ -1,4 +1,3 @@
-use native.Mathlib.Omega.{arith}
 use borrow.Author.Needs.{needs}
 use Prim.Native.Nat.{_-_}
 use lib.Count.{ones}
@@ -9,12 +8,6 @@ use Rattle.images.proofs.Sweeps.{Placing, placing-start, placing-turn, 
 use Rattle.images.proofs.SetCases.{members-is}
 use Rattle.images.proofs.close_in_turns.Statement.{statement}
 use Rattle.images.proofs.close_in_turns.Tie as tie
-use Rattle.images.proofs.close_in_turns.Reads as reads
-use Rattle.images.proofs.close_in_turns.Lts as lts
-use Rattle.images.proofs.close_set.Reads as close-set-reads
-use Rattle.images.proofs.empty_copies.Reads as empty-copies-reads
-use Rattle.stateset.proofs.difference.Reads as difference-reads
-use Rattle.stateset.proofs.union.Reads as union-reads
 
 abbrev Inv-loop : tie.InvT-loop
 Inv-loop targets states g h set all₀ new₀ all new = Good targets states g h × Placing (Edge (graph targets states g h) Normal 0) (EmptyCopy (graph targets states g h)) set all new

@@ -9,12 +9,6 @@ use Rattle.images.proofs.Sweeps.{rows-united}
 use borrow.Author.Needs.{needs}
 use Rattle.images.proofs.close_place.Statement.{statement}
 use Rattle.images.proofs.close_place.Tie as tie
-use Rattle.images.proofs.close_place.Reads as reads
-use Rattle.images.proofs.close_place.Lts as lts
-use Rattle.images.proofs.close_in_turns.Reads as close-in-turns-reads
-use Rattle.images.proofs.closed.Reads as closed-reads
-use Rattle.images.proofs.row_union.Reads as row-union-reads
-use Rattle.stateset.proofs.difference.Reads as difference-reads
 
 returns : tie.Need-returns
 returns c = members-none (λ q z. none-in ((c) .if1 .taken) (z .0) (z .1))

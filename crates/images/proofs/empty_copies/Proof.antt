@@ -1,13 +1,8 @@
 use Rattle.images.proofs.SetCases.{empty-none, empty-some, members-is}
 use Rattle.images.specs.Graph.{graph}
-use native.Mathlib.Omega.{arith}
 use borrow.Author.Needs.{needs}
 use Rattle.images.proofs.empty_copies.Statement.{statement}
 use Rattle.images.proofs.empty_copies.Tie as tie
-use Rattle.images.proofs.empty_copies.Reads as reads
-use Rattle.images.proofs.empty_copies.Lts as lts
-use Rattle.images.proofs.close_set.Reads as close-set-reads
-use Rattle.stateset.proofs.intersection.Reads as intersection-reads
 
 intersection-requires : tie.Need-intersection-requires
 intersection-requires c κs = search needs

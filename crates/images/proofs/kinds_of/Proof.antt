@@ -8,11 +8,6 @@ use borrow.Author.Needs.{needs}
 use native.Mathlib.Omega.{arith}
 use Rattle.images.proofs.kinds_of.Statement.{statement}
 use Rattle.images.proofs.kinds_of.Tie as tie
-use Rattle.images.proofs.kinds_of.Reads as reads
-use Rattle.images.proofs.kinds_of.Lts as lts
-use Rattle.images.proofs.add_marked.Reads as add-marked-reads
-use Rattle.fsbm.proofs.machine.mark.Reads as mark-reads
-use Rattle.stateset.proofs.empty.Reads as empty-reads
 
 abbrev Inv-loop : tie.InvT-loop
 Inv-loop marks states initial₀ finals₀ buffering₀ matching₀ q₀ initial finals buffering matching q = (q ≤ states) × (states ≤ width) × Members initial (λ (p : ℕ). (p < q) × (markOf marks p / 2 ^ 0 % 2 ≡ 1)) × Members finals (λ (p : ℕ). (p < q) × (markOf marks p / 2 ^ 1 % 2 ≡ 1)) × Members buffering (λ (p : ℕ). (p < q) × (markOf marks p / 2 ^ 2 % 2 ≡ 1)) × Members matching (λ (p : ℕ). (p < q) × (markOf marks p / 2 ^ 3 % 2 ≡ 1))

@@ -1,12 +1,8 @@
-use native.Mathlib.Omega.{arith}
 use Rattle.images.proofs.SetCases.{read-none, read-some}
 use Rattle.images.specs.Graph.{graph}
 use borrow.Author.Needs.{needs}
 use Rattle.images.proofs.read_set.Statement.{statement}
 use Rattle.images.proofs.read_set.Tie as tie
-use Rattle.images.proofs.read_set.Reads as reads
-use Rattle.images.proofs.read_set.Lts as lts
-use Rattle.images.proofs.step_set.Reads as step-set-reads
 
 returns : tie.Need-returns
 returns c = read-none (graph ((c .before .before .args .targets) .now) (c .before .before .args .states) (c .before .before .args .g) (c .before .before .args .h)) (c .before .before .args .mode) _ _ (c .if1 .taken)

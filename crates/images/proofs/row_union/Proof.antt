@@ -1,8 +1,8 @@
 -- `images::row_union` meets its contract. Assumes nothing.
 use borrow.Author.Needs.{needs}
 use native.Mathlib.Omega.{arith}
-use Rattle.stateset.specs.Set.Laws.{in-lt, drop-lowest, lowest-removed}
-use Rattle.stateset.specs.Set.{width, In}
+use Rattle.stateset.specs.Set.Laws.{drop-lowest, lowest-removed}
+use Rattle.stateset.specs.Set.{In}
 use lib.ListN.{length, getD}
 use lib.Count.{ones}
 use Prim.Native.Nat.{ℕ, _+_, _≤_, _<_}

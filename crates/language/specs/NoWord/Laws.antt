@@ -27,7 +27,7 @@ use Rattle.fsbm.specs.declared.machine.Machine.{Machine}
 use Rattle.fsbm.specs.declared.config.Mode.{Mode}
 use Rattle.fsbm.specs.declared.config.Mode.the-variants.{Normal, Buffering, Emptying}
 use Rattle.language.specs.Agreement.{accepting-published}
-use Rattle.basics.specs.Bools.{false-iff, not-says, says-not}
+use Rattle.basics.specs.Bools.{false-iff, not-says}
 use Rattle.language.specs.Chosen.{numbers, numbers-of, chosen, chosen-of}
 use Rattle.language.specs.NoWord.{Control, control, sameControl, changeable, nextMode, crossings, follows, controls, noWord}
 use Rattle.language.specs.Reached.{sameMode}

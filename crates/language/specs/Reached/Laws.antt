@@ -10,7 +10,7 @@
 use Prim.Native.Nat.{ℕ, _≤_}
 use mathlib.Core.Path.{_≡_, refl, sym, subst}
 use mathlib.Core.Logic.{_↔_}
-use mathlib.Core.Bool.{true, false, _&&_, false≢true}
+use mathlib.Core.Bool.{true, _&&_, false≢true}
 use mathlib.Core.List.{List, [], _∷_, List·Memᴰ, List·Memᴰ·head, List·Memᴰ·tail}
 use native.Mathlib.Omega.{arith}
 use lib.ListN.{length}
@@ -27,10 +27,9 @@ use Rattle.fsbm.specs.Accepted.{runBound, accepted}
 use Rattle.fsbm.specs.Accepted.Laws.{accepted-true}
 use Rattle.fsbm.specs.declared.machine.Machine.{Machine}
 use Rattle.fsbm.specs.declared.config.Config.{Config}
-use Rattle.fsbm.specs.declared.config.Move.{Move}
 use Rattle.fsbm.specs.declared.config.Mode.{Mode}
 use Rattle.fsbm.specs.declared.config.Mode.the-variants.{Normal, Buffering, Emptying}
-use Rattle.basics.specs.Bools.{cond-elim, same-truth}
+use Rattle.basics.specs.Bools.{same-truth}
 use Rattle.language.specs.Bound.{accepted-iff-run}
 use Rattle.language.specs.Chosen.{numbers, numbers-of, numbers-to, chosen-of, chosen-to}
 use Rattle.language.specs.Reached.{sameMode, sameConfig, entries, successors, starts, reached, decided}

@@ -22,7 +22,7 @@ use lib.Seq.{getD-set-same, getD-set-other}
 use borrow.Author.Tests.{ltb-true, ltb-false}
 use Rattle.stateset.specs.Set.{width, In}
 use Rattle.stateset.specs.Set.Laws.{empty-in}
-use Rattle.fsbm.specs.Machine.{transitionAt, matching}
+use Rattle.fsbm.specs.Machine.{transitionAt}
 use Rattle.fsbm.specs.Published.{Listed, fsbmOf, Configuration, config, Yields}
 use Rattle.fsbm.specs.declared.machine.Machine.{Machine}
 use Rattle.fsbm.specs.Rules.{rules}

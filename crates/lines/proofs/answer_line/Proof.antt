@@ -10,10 +10,6 @@ use Rattle.lines.specs.declared.Answer.{Answer}
 use borrow.Author.Needs.{needs}
 use Rattle.lines.proofs.answer_line.Statement.{statement}
 use Rattle.lines.proofs.answer_line.Tie as tie
-use Rattle.lines.proofs.answer_line.Reads as reads
-use Rattle.lines.proofs.answer_line.Lts as lts
-use Rattle.decide.proofs.places.decide.Reads as decide-reads
-use Rattle.lines.proofs.read_word.Reads as read-word-reads
 
 slice-aggregate-read-word : tie.Need-slice-aggregate-read-word
 slice-aggregate-read-word c = search needs

@@ -8,11 +8,6 @@ use lib.ListN.{length}
 use Rattle.lines.proofs.LineCases.{Read, read-none, read-stops, read-more, word-refused, word-taken, refused, refused-long, refused-part, refused-column}
 use Rattle.lines.proofs.read_word.Statement.{statement}
 use Rattle.lines.proofs.read_word.Tie as tie
-use Rattle.lines.proofs.read_word.Reads as reads
-use Rattle.lines.proofs.read_word.Lts as lts
-use Rattle.columns.proofs.number.Reads as number-reads
-use Rattle.lines.proofs.both.Reads as both-reads
-use Rattle.lines.proofs.store_letter.Reads as store-letter-reads
 
 abbrev Inv-loop : tie.InvT-loop
 Inv-loop letters line word₀ n good₀ k₀ word good k = Read letters line n word good k × (length word ≡ length word₀)

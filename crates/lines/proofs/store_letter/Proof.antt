@@ -2,8 +2,6 @@ use Rattle.lines.proofs.LineCases.{stored-zero, stored-large, stored-le
 use borrow.Author.Needs.{needs}
 use Rattle.lines.proofs.store_letter.Statement.{statement}
 use Rattle.lines.proofs.store_letter.Tie as tie
-use Rattle.lines.proofs.store_letter.Reads as reads
-use Rattle.lines.proofs.store_letter.Lts as lts
 
 returns : tie.Need-returns
 returns c = stored-zero (c .before .args .letters) (c .before .args .v) (c .before .args .k) ((c .before .args .word) .now) (c .if1 .taken)

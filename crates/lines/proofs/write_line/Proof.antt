@@ -8,9 +8,6 @@ use Rattle.lines.proofs.LineCases.{line-written}
 use borrow.Author.Needs.{needs}
 use Rattle.lines.proofs.write_line.Statement.{statement}
 use Rattle.lines.proofs.write_line.Tie as tie
-use Rattle.lines.proofs.write_line.Reads as reads
-use Rattle.lines.proofs.write_line.Lts as lts
-use Rattle.columns.proofs.write_number.Reads as write-number-reads
 
 write-number-requires : tie.Need-write-number-requires
 write-number-requires c κs = search needs

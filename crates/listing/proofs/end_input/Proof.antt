@@ -4,10 +4,6 @@ use Rattle.listing.proofs.OutputCases.{last-fits, last-bytes}
 use borrow.Author.Needs.{needs}
 use Rattle.listing.proofs.end_input.Statement.{statement}
 use Rattle.listing.proofs.end_input.Tie as tie
-use Rattle.listing.proofs.end_input.Reads as reads
-use Rattle.listing.proofs.end_input.Lts as lts
-use Rattle.listing.proofs.write_end.Reads as write-end-reads
-use Rattle.stream.proofs.finish.Reads as finish-reads
 
 returns : tie.Need-returns
 returns c = search needs

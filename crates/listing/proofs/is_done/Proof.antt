@@ -3,9 +3,6 @@ use Rattle.listing.proofs.OutputCases.{done-none, done-full, done-else}
 use borrow.Author.Needs.{needs}
 use Rattle.listing.proofs.is_done.Statement.{statement}
 use Rattle.listing.proofs.is_done.Tie as tie
-use Rattle.listing.proofs.is_done.Reads as reads
-use Rattle.listing.proofs.is_done.Lts as lts
-use Rattle.stream.proofs.is_full.Reads as is-full-reads
 
 returns : tie.Need-returns
 returns c = done-none ((c .before .before) .args .t) ((c) .if1 .taken)

@@ -6,12 +6,6 @@ use Rattle.listing.proofs.OutputCases.{used-fits, next-bytes}
 use borrow.Author.Needs.{needs}
 use Rattle.listing.proofs.list_piece.Statement.{statement}
 use Rattle.listing.proofs.list_piece.Tie as tie
-use Rattle.listing.proofs.list_piece.Reads as reads
-use Rattle.listing.proofs.list_piece.Lts as lts
-use Rattle.io.proofs.count.Reads as count-reads
-use Rattle.libc.proofs.read.Reads as read-reads
-use Rattle.listing.proofs.write_piece.Reads as write-piece-reads
-use Rattle.stream.proofs.take_piece.Reads as take-piece-reads
 
 read-requires : tie.Need-read-requires
 read-requires c κs = search needs

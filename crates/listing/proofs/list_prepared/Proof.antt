@@ -4,12 +4,6 @@ use Rattle.targets.specs.Prepared.Laws.{product-small}
 use borrow.Author.Needs.{needs}
 use Rattle.listing.proofs.list_prepared.Statement.{statement}
 use Rattle.listing.proofs.list_prepared.Tie as tie
-use Rattle.listing.proofs.list_prepared.Reads as reads
-use Rattle.listing.proofs.list_prepared.Lts as lts
-use Rattle.images.proofs.kinds_of.Reads as kinds-of-reads
-use Rattle.listing.proofs.list_words.Reads as list-words-reads
-use Rattle.listing.proofs.target_buffer.Reads as target-buffer-reads
-use Rattle.targets.proofs.prepare.Reads as prepare-reads
 
 target-buffer-requires : tie.Need-target-buffer-requires
 target-buffer-requires c κs = search needs

@@ -6,13 +6,6 @@ use Rattle.listing.proofs.OutputCases.{opening-fits, opening-bytes, ope
 use borrow.Author.Needs.{needs}
 use Rattle.listing.proofs.list_sheet.Statement.{statement}
 use Rattle.listing.proofs.list_sheet.Tie as tie
-use Rattle.listing.proofs.list_sheet.Reads as reads
-use Rattle.listing.proofs.list_sheet.Lts as lts
-use Rattle.io.proofs.large_buffer.Reads as large-buffer-reads
-use Rattle.listing.proofs.list_prepared.Reads as list-prepared-reads
-use Rattle.listing.proofs.transition_buffer.Reads as transition-buffer-reads
-use Rattle.listing.proofs.write_opening.Reads as write-opening-reads
-use Rattle.stream.proofs.open.Reads as open-reads
 
 transition-buffer-requires : tie.Need-transition-buffer-requires
 transition-buffer-requires c κs = search needs

@@ -3,12 +3,6 @@ use native.Mathlib.Omega.{arith}
 use borrow.Author.Needs.{needs}
 use Rattle.listing.proofs.list_words.Statement.{statement}
 use Rattle.listing.proofs.list_words.Tie as tie
-use Rattle.listing.proofs.list_words.Reads as reads
-use Rattle.listing.proofs.list_words.Lts as lts
-use Rattle.io.proofs.buffer.Reads as buffer-reads
-use Rattle.listing.proofs.end_input.Reads as end-input-reads
-use Rattle.listing.proofs.line_buffer.Reads as line-buffer-reads
-use Rattle.listing.proofs.take_input.Reads as take-input-reads
 
 buffer-requires : tie.Need-buffer-requires
 buffer-requires c κs = search needs

@@ -9,11 +9,6 @@ use Rattle.listing.specs.Output.{HeldAfter}
 use Rattle.listing.proofs.OutputCases.{reached-begin, reached-more, ready-same, done-closed, still-open}
 use Rattle.listing.proofs.take_input.Statement.{statement}
 use Rattle.listing.proofs.take_input.Tie as tie
-use Rattle.listing.proofs.take_input.Reads as reads
-use Rattle.listing.proofs.take_input.Lts as lts
-use Rattle.listing.proofs.is_done.Reads as is-done-reads
-use Rattle.listing.proofs.list_piece.Reads as list-piece-reads
-use Rattle.stream.proofs.begin.Reads as begin-reads
 
 abbrev Inv-loop : tie.InvT-loop
 Inv-loop sheet m list targets kinds input₀ line₀ out₀ t₀ turns₀ input line out t turns = HeldAfter line (t .held) × (t .held .kept ≤ mostKept) × (t .closed ≡ false) × (length input ≡ length input₀) × (length line ≡ length line₀) × (length out ≡ length out₀)

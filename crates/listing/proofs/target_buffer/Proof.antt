@@ -1,11 +1,9 @@
 use Prim.Native.Nat.{ℕ}
-use mathlib.Core.Path.{refl, sym}
+use mathlib.Core.Path.{sym}
 use lib.ListN.{length-replicate}
 use Rattle.basics.specs.Lists.{zeros-at}
 use Rattle.listing.proofs.target_buffer.Statement.{statement}
 use Rattle.listing.proofs.target_buffer.Tie as tie
-use Rattle.listing.proofs.target_buffer.Reads as reads
-use Rattle.listing.proofs.target_buffer.Lts as lts
 
 returns : tie.Need-returns
 returns c = (sym (length-replicate {A = ℕ} 16130 0), zeros-at 16130)

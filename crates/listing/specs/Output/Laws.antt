@@ -3,7 +3,7 @@
 -- piecesBytes sheet before ps == what is printed for pieces that come after the input before, each as list_piece hands it on
 -- output-is-listing           == the opening, the bytes of the pieces and the bytes of the end are the listing of the joined pieces
 use Prim.Native.Nat.{ℕ}
-use mathlib.Core.Path.{_≡_, refl, sym, ap, _∙_}
+use mathlib.Core.Path.{_≡_, refl, ap, _∙_}
 use mathlib.Core.List.{List, [], _∷_, _++_, flatten}
 use Rattle.sheet.specs.Reading.{firstFault, machineOf, transitionsOf}
 use Rattle.stream.specs.Listing.{listing}

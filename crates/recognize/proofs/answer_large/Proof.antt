@@ -1,11 +1,7 @@
-use native.Mathlib.Omega.{arith}
 use Rattle.basics.specs.Lists.{zeros-at}
 use borrow.Author.Needs.{needs}
 use Rattle.recognize.proofs.answer_large.Statement.{statement}
 use Rattle.recognize.proofs.answer_large.Tie as tie
-use Rattle.recognize.proofs.answer_large.Reads as reads
-use Rattle.recognize.proofs.answer_large.Lts as lts
-use Rattle.recognize.proofs.answer_with.Reads as answer-with-reads
 
 slice-aggregate-answer-with : tie.Need-slice-aggregate-answer-with
 slice-aggregate-answer-with c = search needs

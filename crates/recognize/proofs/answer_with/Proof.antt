@@ -7,11 +7,6 @@ use native.Mathlib.Omega.{arith}
 use borrow.Author.Needs.{needs}
 use Rattle.recognize.proofs.answer_with.Statement.{statement}
 use Rattle.recognize.proofs.answer_with.Tie as tie
-use Rattle.recognize.proofs.answer_with.Reads as reads
-use Rattle.recognize.proofs.answer_with.Lts as lts
-use Rattle.images.proofs.kinds_of.Reads as kinds-of-reads
-use Rattle.recognize.proofs.reach.Reads as reach-reads
-use Rattle.runs.proofs.walk.write_run.Reads as write-run-reads
 
 -- src/lib.rt:51:9
 kinds-of-requires : tie.Need-kinds-of-requires

@@ -3,10 +3,6 @@ use Rattle.recognize.proofs.RecognizeCases.{lettered}
 use borrow.Author.Needs.{needs}
 use Rattle.recognize.proofs.reach.Statement.{statement}
 use Rattle.recognize.proofs.reach.Tie as tie
-use Rattle.recognize.proofs.reach.Reads as reads
-use Rattle.recognize.proofs.reach.Lts as lts
-use Rattle.decide.proofs.places.decide.Reads as decide-reads
-use Rattle.targets.proofs.prepare_for.Reads as prepare-for-reads
 
 -- src/lib.rt:34:5
 prepare-for-requires : tie.Need-prepare-for-requires

@@ -4,18 +4,10 @@ use Rattle.recognize.proofs.RecognizeCases.{needed-fits, refused-table,
 use Rattle.fsbm.proofs.AnswerCases.{table-good}
 use Rattle.targets.specs.Prepared.Laws.{product-small}
 use Rattle.fsbm.specs.Accepted.{runBound}
-use mathlib.Core.Path.{_≡_, refl, sym, _∙_}
+use mathlib.Core.Path.{refl, sym, _∙_}
 use borrow.Author.Needs.{needs}
 use Rattle.recognize.proofs.recognize.Statement.{statement}
 use Rattle.recognize.proofs.recognize.Tie as tie
-use Rattle.recognize.proofs.recognize.Reads as reads
-use Rattle.recognize.proofs.recognize.Lts as lts
-use Rattle.fsbm.proofs.answer.table_and_word.Reads as table-and-word-reads
-use Rattle.recognize.proofs.answer_large.Reads as answer-large-reads
-use Rattle.recognize.proofs.answer_medium.Reads as answer-medium-reads
-use Rattle.recognize.proofs.answer_small.Reads as answer-small-reads
-use Rattle.recognize.proofs.is_too_short.Reads as is-too-short-reads
-use Rattle.targets.proofs.sets_of.Reads as sets-of-reads
 
 table-and-word-requires : tie.Need-table-and-word-requires
 table-and-word-requires c κs = search needs

@@ -20,23 +20,21 @@ use native.Mathlib.Nat.{mul-le-mul-left}
 use lib.ListN.{length, getD, set, take, drop, length-set, length-drop, length-append, take-append-drop}
 use lib.Seq.{slice, slice-cons, slice-empty, length-slice, ext-getD, drop-length, drop-set-lt, drop-drop, take-suc-set}
 use lib.Dec.{ltb, eqb}
-use borrow.Author.Tests.{ltb-true, ltb-false, eqb-true, eq-eqb, lt-ltb}
+use borrow.Author.Tests.{ltb-true, eqb-true, eq-eqb, lt-ltb}
 use Rattle.stateset.specs.Set.{width, below}
 use Rattle.stateset.specs.Set.Laws.{in-and, below-is}
 use Rattle.basics.specs.Search.Laws.{and-true, and-both-true, true-or-false}
 use Rattle.graphs.specs.Paths.{Path, here, step}
-use Rattle.fsbm.specs.Machine.{wellFormed, transitionAt, buffering, matching, bothMatching, final, initial}
-use Rattle.fsbm.specs.Moves.{wellPlaced, bufferFits, readsLetter, advanced, readsStored, after, mayChange, changed, move, isNormal, accepts, acceptingFrom, accepting, startAt, beginBuffering, beginEmptying, backToNormal}
+use Rattle.fsbm.specs.Machine.{wellFormed, transitionAt, buffering, matching, final, initial}
+use Rattle.fsbm.specs.Moves.{wellPlaced, bufferFits, advanced, readsStored, after, mayChange, changed, move, isNormal, accepts, acceptingFrom, accepting, startAt, beginBuffering, beginEmptying, backToNormal}
 use Rattle.fsbm.specs.Accepted.{accepted, runBound}
 use Rattle.fsbm.specs.Accepted.Laws.{accepted-true}
 use Rattle.fsbm.specs.Published.{fsbmOf, Configuration, config, Yields, Run, done, more}
 use Rattle.fsbm.specs.declared.machine.Machine.{Machine}
 use Rattle.fsbm.specs.declared.machine.Transition.{Transition}
 use Rattle.fsbm.specs.declared.config.Config.{Config}
-use Rattle.fsbm.specs.declared.config.Move.{Move}
 use Rattle.fsbm.specs.declared.config.Mode.{Mode}
 use Rattle.fsbm.specs.declared.config.Mode.the-variants.{Normal, Buffering, Emptying}
-use Rattle.basics.specs.Bools.{cond-elim}
 use Rattle.fsbm.specs.Rules.{Rules, rules, Placed, placed, unplaced}
 use Rattle.fsbm.specs.Moves.Laws.{advanced-fits, move-elim, move-placed}
 use Rattle.language.specs.Strings.{slice-none}

@@ -13,11 +13,10 @@
 -- or-grows                         == an or is the same, or has more ones: the measure of a fixpoint
 -- ones-add, add-member             == the size with a new member; adding a member changes nothing
 -- ones-remove                      == the size without a member
--- ones-count                       == the ones are as many as the members
 -- lowest-in, lowest-lt, lowest-not == the lowest is a member, below the width, and nothing below it is a member
 -- less-one, in-less-one            == the digits of x - 1, and the members of x that are members of x - 1: all but the lowest
 -- rest-is, rest-none, lowest-removed == what is left of a set without its lowest member
--- empty-is, below-is, added-is, single-is, removed-is, union-is, intersection-is, without-is, size-is, lowest-is
+-- empty-is, below-is, added-is, single-is, removed-is, union-is, intersection-is, without-is, lowest-is
 --                                  == what each function returns, with its members
 -- removed-size                     == the size after removing
 -- drop-lowest, union-grows         == the measure of a loop that takes out the lowest member; of one that joins sets until nothing changes
@@ -26,15 +25,15 @@ use mathlib.Core.Logic.{_↔_, _⊎_, inl, inr, ⊎-elim}
 use mathlib.Core.Bool.{true, false}
 use Prim.Native.Nat.{ℕ, zero, suc, _+_, _-_, _*_, _/_, _%_, _^_, _≤_, _<_, min, max}
 use native.Mathlib.Omega.{arith}
-use native.Mathlib.Nat.{pow-suc, div-eq-of-lt, lt-of-lt-of-le, sub-zero, mod-lt, mod-eq-of-lt, one-mul}
+use native.Mathlib.Nat.{pow-suc, div-eq-of-lt, lt-of-lt-of-le, sub-zero, mod-eq-of-lt, one-mul}
 use native.Mathlib.Decide.{ℕ-discrete, decLt}
 use native.Mathlib.Numerals.{one-add}
 use borrow.Author.Tests.{eqb-true, eqb-false, eq-eqb, lt-ltb, le-ltb}
 use lib.Arith.{bin-ind}
-use lib.Pow.{shr-shr, pow-mono, pow-pos, pow-lt, mod-pow-add}
+use lib.Pow.{shr-shr, pow-mono, pow-pos, pow-lt}
 use lib.Bits.{bitAnd, bitOr, or-lt, and-lt, or-zero-r, and-step, or-step, and-shr, or-shr}
-use lib.Count.{ones, trailingZeros, under, ones-step, ones-cat, ones-le, trailing-le, trailing-of-zero}
-use Rattle.stateset.specs.Set.{width, digit, In, has, one, count, added, removed, without, below, lowestOf, SetIs, Size, Lowest}
+use lib.Count.{ones, trailingZeros, under, ones-step, ones-le, trailing-le, trailing-of-zero}
+use Rattle.stateset.specs.Set.{width, digit, In, has, one, added, removed, without, below, lowestOf, SetIs, Lowest}
 
 -- Digits
 
@@ -371,37 +370,6 @@ ones-remove w x q h m = sym (ones-add y q (λ k. in-remove w x q q h l .0 k .1 r
         same-members (bitOr y (2 ^ q)) x
         (λ p. (λ k. to p (in-add y q p .0 k), λ k. in-add y q p .1 (of p k (ℕ-discrete p q))))
 
--- a member more, or none more, in a count of members
-one-has : (x q : ℕ) → one (has x q) ≡ digit x q
-one-has x q = at (digit-cases x q)
-  where
-    at : (digit x q ≡ 0) ⊎ (digit x q ≡ 1) → one (has x q) ≡ digit x q
-    at (inl z) = rw z
-    at (inr m) = rw m
-
-ones-digit : (x q : ℕ) → ones (digit x q) ≡ digit x q
-unfolding ones
-ones-digit x q = at (digit-cases x q)
-  where
-    at : (digit x q ≡ 0) ⊎ (digit x q ≡ 1) → ones (digit x q) ≡ digit x q
-    at (inl z) = rw z
-    at (inr m) = rw m
-
-ones-below : (x n : ℕ) → ones (x % 2 ^ suc n) ≡ digit x n + ones (x % 2 ^ n)
-unfolding digit
-ones-below x n =
-    ap (λ k. ones (x % 2 ^ k)) (sym (one-add n)) ∙ ap ones (mod-pow-add x 1 n) ∙ ones-cat n (x / 2 ^ n % 2) (x % 2 ^ n) (mod-lt x (pow-pos n))
-    ∙ ap (λ k. k + ones (x % 2 ^ n)) (ones-digit x n)
-
-count-ones : (x n : ℕ) → count n (λ q. has x q) ≡ ones (x % 2 ^ n)
-unfolding count
-count-ones x zero = sym (ap ones (let h = mod-lt x (pow-pos 0) in omega arith) ∙ ones-of-zero)
-count-ones x (suc n) = let ih = count-ones x n in let a = one-has x n in let s = ones-below x n in omega arith
-
--- the ones are as many as the members
-pub ones-count : (w x : ℕ) → x < 2 ^ w → ones x ≡ count w (λ q. has x q)
-ones-count w x h = sym (count-ones x w ∙ ap ones (mod-eq-of-lt h))
-
 -- The lowest member
 
 -- nothing below it is a member
@@ -619,9 +587,6 @@ below-is n =
       fits = let h = pow-mono {i = min n width} {j = width} (omega arith) in let k = pow-pos (min n width) in omega arith;
       members = λ p. (λ m. let l = in-full (min n width) p .0 m in omega arith, λ k. in-full (min n width) p .1 (let a = k .0 in let b = k .1 in omega arith));
     }
-
-pub size-is : (x : ℕ) → x < 2 ^ width → Size x (ones x)
-size-is x h = record { value = refl; counted = ones-count width x h; within = ones-le width x h }
 
 pub lowest-is : (x : ℕ) → x < 2 ^ width → Lowest x (trailingZeros width x)
 lowest-is x h =

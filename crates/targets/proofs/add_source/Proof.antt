@@ -3,9 +3,6 @@ use mathlib.Core.Logic.{inl, inr}
 use borrow.Author.Needs.{needs}
 use Rattle.targets.proofs.add_source.Statement.{statement}
 use Rattle.targets.proofs.add_source.Tie as tie
-use Rattle.targets.proofs.add_source.Reads as reads
-use Rattle.targets.proofs.add_source.Lts as lts
-use Rattle.stateset.proofs.add.Reads as add-reads
 
 returns : tie.Need-returns
 returns c = search needs

@@ -3,10 +3,6 @@ use Rattle.targets.specs.Prepared.Laws.{closing-end}
 use borrow.Author.Needs.{needs}
 use Rattle.targets.proofs.close_states.Statement.{statement}
 use Rattle.targets.proofs.close_states.Tie as tie
-use Rattle.targets.proofs.close_states.Reads as reads
-use Rattle.targets.proofs.close_states.Lts as lts
-use Rattle.stateset.proofs.full.Reads as full-reads
-use Rattle.targets.proofs.put_closures.Reads as put-closures-reads
 
 put-closures-requires : tie.Need-put-closures-requires
 put-closures-requires c κs = search needs

@@ -1,13 +1,9 @@
 use Rattle.fsbm.specs.Rules.{rules}
-use Rattle.targets.specs.Prepared.Laws.{in-room, made}
+use Rattle.targets.specs.Prepared.Laws.{made}
 use native.Mathlib.Omega.{arith}
 use borrow.Author.Needs.{needs}
 use Rattle.targets.proofs.fill.Statement.{statement}
 use Rattle.targets.proofs.fill.Tie as tie
-use Rattle.targets.proofs.fill.Reads as reads
-use Rattle.targets.proofs.fill.Lts as lts
-use Rattle.targets.proofs.fill_rows.Reads as fill-rows-reads
-use Rattle.targets.proofs.sources.Reads as sources-reads
 
 fill-rows-requires : tie.Need-fill-rows-requires
 fill-rows-requires c κs = search needs

@@ -3,14 +3,11 @@ use Rattle.targets.specs.Prepared.Laws.{inside-at, filled-start}
 use Rattle.fsbm.specs.Machine.{wellFormed}
 use mathlib.Core.Path.{_≡_, refl, _∙_, subst}
 use mathlib.Core.Bool.{true}
-use Prim.Native.Nat.{ℕ, _≤_, _-_}
+use Prim.Native.Nat.{_≤_, _-_}
 use lib.ListN.{length}
 use native.Mathlib.Omega.{arith}
 use Rattle.targets.proofs.fill_rows.Statement.{statement}
 use Rattle.targets.proofs.fill_rows.Tie as tie
-use Rattle.targets.proofs.fill_rows.Reads as reads
-use Rattle.targets.proofs.fill_rows.Lts as lts
-use Rattle.targets.proofs.put.Reads as put-reads
 
 abbrev Inv-loop : tie.InvT-loop
 Inv-loop m list wanted targets₀ k₀ targets k = (wellFormed m list ≡ true) × (k ≤ m .transitions) × (length targets ≡ length targets₀) × Filled m list wanted targets k

@@ -2,8 +2,6 @@ use Rattle.targets.specs.Prepared.Laws.{wanted-zero, wanted-none, wanted
 use borrow.Author.Needs.{needs}
 use Rattle.targets.proofs.is_wanted.Statement.{statement}
 use Rattle.targets.proofs.is_wanted.Tie as tie
-use Rattle.targets.proofs.is_wanted.Reads as reads
-use Rattle.targets.proofs.is_wanted.Lts as lts
 
 returns : tie.Need-returns
 returns c = wanted-zero (((c .before) .args .wanted) .now) ((c .before) .args .x) ((c) .if1 .taken)

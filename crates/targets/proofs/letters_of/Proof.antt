@@ -1,12 +1,10 @@
 use native.Mathlib.Omega.{arith}
-use Prim.Native.Nat.{ℕ, _-_, _≤_, _<_}
+use Prim.Native.Nat.{_-_, _≤_, _<_}
 use mathlib.Core.Path.{_≡_, refl, _∙_}
-use lib.ListN.{length, getD, length-set}
+use lib.ListN.{length, length-set}
 use Rattle.targets.specs.Prepared.Laws.{Marked, marked-turn}
 use Rattle.targets.proofs.letters_of.Statement.{statement}
 use Rattle.targets.proofs.letters_of.Tie as tie
-use Rattle.targets.proofs.letters_of.Reads as reads
-use Rattle.targets.proofs.letters_of.Lts as lts
 
 abbrev Inv-loop : tie.InvT-loop
 Inv-loop word wanted₀ i₀ wanted i = (length wanted ≡ 256) × (i ≤ length word) × Marked word wanted i

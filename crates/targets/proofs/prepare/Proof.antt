@@ -7,10 +7,6 @@ use lib.ListN.{getD-replicate}
 use borrow.Author.Needs.{needs}
 use Rattle.targets.proofs.prepare.Statement.{statement}
 use Rattle.targets.proofs.prepare.Tie as tie
-use Rattle.targets.proofs.prepare.Reads as reads
-use Rattle.targets.proofs.prepare.Lts as lts
-use Rattle.targets.proofs.close_states.Reads as close-states-reads
-use Rattle.targets.proofs.fill.Reads as fill-reads
 
 fill-requires : tie.Need-fill-requires
 fill-requires c κs = search needs

@@ -2,10 +2,6 @@ use Rattle.targets.specs.Prepared.Laws.{made-for}
 use borrow.Author.Needs.{needs}
 use Rattle.targets.proofs.prepare_for.Statement.{statement}
 use Rattle.targets.proofs.prepare_for.Tie as tie
-use Rattle.targets.proofs.prepare_for.Reads as reads
-use Rattle.targets.proofs.prepare_for.Lts as lts
-use Rattle.targets.proofs.fill.Reads as fill-reads
-use Rattle.targets.proofs.letters_of.Reads as letters-of-reads
 
 letters-of-requires : tie.Need-letters-of-requires
 letters-of-requires c κs = search needs

@@ -6,10 +6,6 @@ use Rattle.fsbm.specs.Machine.{transitionAt}
 use borrow.Author.Needs.{needs}
 use Rattle.targets.proofs.put.Statement.{statement}
 use Rattle.targets.proofs.put.Tie as tie
-use Rattle.targets.proofs.put.Reads as reads
-use Rattle.targets.proofs.put.Lts as lts
-use Rattle.stateset.proofs.add.Reads as add-reads
-use Rattle.targets.proofs.is_wanted.Reads as is-wanted-reads
 
 mul-p : tie.Need-mul-p
 mul-p c = search needs

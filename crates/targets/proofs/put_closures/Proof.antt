@@ -9,10 +9,6 @@ use Rattle.targets.specs.Prepared.{Closing}
 use Rattle.targets.specs.Prepared.Laws.{closing-start, closing-good, closing-turn}
 use Rattle.targets.proofs.put_closures.Statement.{statement}
 use Rattle.targets.proofs.put_closures.Tie as tie
-use Rattle.targets.proofs.put_closures.Reads as reads
-use Rattle.targets.proofs.put_closures.Lts as lts
-use Rattle.images.proofs.close_place.Reads as close-place-reads
-use Rattle.stateset.proofs.single.Reads as single-reads
 
 abbrev Inv-loop : tie.InvT-loop
 Inv-loop states g h targets₀ p₀ targets p = Good targets₀ states g h × (getD targets₀ 1 0 ≡ 0) × Closing states g h targets₀ targets p

@@ -3,8 +3,6 @@ use Rattle.targets.specs.Prepared.Laws.{product-small}
 use borrow.Author.Needs.{needs}
 use Rattle.targets.proofs.sets_of.Statement.{statement}
 use Rattle.targets.proofs.sets_of.Tie as tie
-use Rattle.targets.proofs.sets_of.Reads as reads
-use Rattle.targets.proofs.sets_of.Lts as lts
 
 add-result : tie.Need-add-result
 add-result c = search needs

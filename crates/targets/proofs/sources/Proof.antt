@@ -7,10 +7,6 @@ use native.Mathlib.Omega.{arith}
 use borrow.Author.Needs.{needs}
 use Rattle.targets.proofs.sources.Statement.{statement}
 use Rattle.targets.proofs.sources.Tie as tie
-use Rattle.targets.proofs.sources.Reads as reads
-use Rattle.targets.proofs.sources.Lts as lts
-use Rattle.stateset.proofs.empty.Reads as empty-reads
-use Rattle.targets.proofs.add_source.Reads as add-source-reads
 
 abbrev Inv-loop : tie.InvT-loop
 Inv-loop targets states set₀ p₀ set p = (states ≤ width) × (2 + states + states ≤ length targets) × Sources targets states p set

@@ -1,6 +1,6 @@
 use Rattle.decide.proofs.CopyCases.{Copying, copying-start, copying-turn, copying-pass, copying-dead, copying-end, tailed-start, tailed-at}
 use Rattle.images.proofs.SetCases.{members-is}
-use Prim.Native.Nat.{_≤_, _<_, _+_, _-_}
+use Prim.Native.Nat.{_≤_, _+_, _-_}
 use lib.ListN.{length}
 use Rattle.decide.specs.Squares.{Ends}
 use Rattle.decide.specs.Reach.{Rooms, Tailed}
@@ -9,13 +9,6 @@ use borrow.Author.Needs.{needs}
 use native.Mathlib.Omega.{arith}
 use Rattle.decide.proofs.places.copies_from.Statement.{statement}
 use Rattle.decide.proofs.places.copies_from.Tie as tie
-use Rattle.decide.proofs.places.copies_from.Reads as reads
-use Rattle.decide.proofs.places.copies_from.Lts as lts
-use Rattle.decide.proofs.squares.turning.Reads as turning-reads
-use Rattle.decide.proofs.walks.tail_to.Reads as tail-to-reads
-use Rattle.images.proofs.advance.Reads as advance-reads
-use Rattle.images.proofs.close_set.Reads as close-set-reads
-use Rattle.stateset.proofs.union.Reads as union-reads
 
 abbrev Inv-loop : tie.InvT-loop
 Inv-loop targets states g h word ends₀ sets₀ i starts last s₀ tail₀ j₀ ends sets s tail j = Good targets states g h × Rooms targets states word × (length word ≤ 255) × Ends word ends (λ d. i + d) × Copying (graph targets states g h) word i starts sets₀ sets j s last × Tailed (graph targets states g h) word i tail × (tail .place ≤ j)

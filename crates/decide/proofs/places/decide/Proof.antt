@@ -3,15 +3,9 @@ use Rattle.images.proofs.SetCases.{members-is}
 use Rattle.decide.proofs.StageCases.{stage-end}
 use Rattle.decide.proofs.Tables.{good-table, rooms}
 use Rattle.images.specs.Graph.{graph}
-use native.Mathlib.Omega.{arith}
 use borrow.Author.Needs.{needs}
 use Rattle.decide.proofs.places.decide.Statement.{statement}
 use Rattle.decide.proofs.places.decide.Tie as tie
-use Rattle.decide.proofs.places.decide.Reads as reads
-use Rattle.decide.proofs.places.decide.Lts as lts
-use Rattle.decide.proofs.places.reach_all.Reads as reach-all-reads
-use Rattle.decide.proofs.places.start_at.Reads as start-at-reads
-use Rattle.stateset.proofs.intersection.Reads as intersection-reads
 
 start-at-requires : tie.Need-start-at-requires
 start-at-requires c κs = search needs

@@ -6,14 +6,6 @@ use native.Mathlib.Omega.{arith}
 use borrow.Author.Needs.{needs}
 use Rattle.decide.proofs.places.pass_place.Statement.{statement}
 use Rattle.decide.proofs.places.pass_place.Tie as tie
-use Rattle.decide.proofs.places.pass_place.Reads as reads
-use Rattle.decide.proofs.places.pass_place.Lts as lts
-use Rattle.decide.proofs.places.copies_from.Reads as copies-from-reads
-use Rattle.decide.proofs.squares.last_square.Reads as last-square-reads
-use Rattle.images.proofs.close_place.Reads as close-place-reads
-use Rattle.images.proofs.read_set.Reads as read-set-reads
-use Rattle.stateset.proofs.intersection.Reads as intersection-reads
-use Rattle.stateset.proofs.union.Reads as union-reads
 
 mul-close-place : tie.Need-mul-close-place
 mul-close-place c = search needs

@@ -3,14 +3,11 @@ use Rattle.decide.specs.Reach.{Rooms, Stage}
 use Rattle.decide.specs.Squares.{Ends}
 use Rattle.images.specs.Graph.{graph, Good, Fitting}
 use lib.ListN.{length}
-use Prim.Native.Nat.{ℕ, _≤_, _<_, _+_, _-_}
+use Prim.Native.Nat.{ℕ, _≤_, _+_, _-_}
 use Rattle.decide.proofs.StageCases.{stage-turn, stage-to}
 use Rattle.decide.proofs.SquareCases.{ends-start, ends-later}
 use Rattle.decide.proofs.places.reach_all.Statement.{statement}
 use Rattle.decide.proofs.places.reach_all.Tie as tie
-use Rattle.decide.proofs.places.reach_all.Reads as reads
-use Rattle.decide.proofs.places.reach_all.Lts as lts
-use Rattle.decide.proofs.places.pass_place.Reads as pass-place-reads
 
 abbrev Inv-loop : tie.InvT-loop
 Inv-loop targets states g h word sets₀ ends₀ i₀ sets ends i = Good targets states g h × Rooms targets states word × (length word ≤ 255) × (i ≤ length word + 1) × Ends word ends (λ d. i + d) × Fitting 256 sets × ((q : ℕ) → Stage (graph targets states g h) word q sets₀ 0 → Stage (graph targets states g h) word q sets i)

@@ -3,8 +3,6 @@ use native.Mathlib.Omega.{arith}
 use borrow.Author.Needs.{needs}
 use Rattle.decide.proofs.places.start_at.Statement.{statement}
 use Rattle.decide.proofs.places.start_at.Tie as tie
-use Rattle.decide.proofs.places.start_at.Reads as reads
-use Rattle.decide.proofs.places.start_at.Lts as lts
 
 array-write-sets : tie.Need-array-write-sets
 array-write-sets c = search needs

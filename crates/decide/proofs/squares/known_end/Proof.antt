@@ -4,7 +4,6 @@ use native.Mathlib.Omega.{arith}
 use mathlib.Core.Path.{refl}
 use mathlib.Core.Logic.{⊎-elim}
 use Prim.Native.Nat.{_≤_}
-use mathlib.Core.Path.{_≡_}
 use Rattle.decide.proofs.SquareCases.{ends-known, ends-found}
 use Rattle.decide.proofs.squares.known_end.Statement.{statement}
 use Rattle.decide.proofs.squares.known_end.Tie as tie

@@ -4,13 +4,9 @@ use Rattle.decide.specs.Squares.{Ends}
 use Rattle.decide.specs.Reach.{Matches}
 use lib.ListN.{length}
 use Prim.Native.Nat.{ℕ, _<_, _≤_, _-_, _+_, _/_}
-use borrow.Author.Needs.{needs}
 use native.Mathlib.Omega.{arith}
 use Rattle.decide.proofs.squares.last_square.Statement.{statement}
 use Rattle.decide.proofs.squares.last_square.Tie as tie
-use Rattle.decide.proofs.squares.last_square.Reads as reads
-use Rattle.decide.proofs.squares.last_square.Lts as lts
-use Rattle.decide.proofs.squares.is_square.Reads as is-square-reads
 
 abbrev Inv-loop : tie.InvT-loop
 Inv-loop word ends₀ i j₀ ends j = (i ≤ j) × (j + (j - i) ≤ length word) × (length word ≤ 255) × Ends word ends (λ d. i + d) × ((k : ℕ) → j < k → k + (k - i) ≤ length word → Matches word i k → ⊥)

@@ -2,13 +2,8 @@ use Rattle.basics.specs.Search.Laws.{not-both}
 use Rattle.images.proofs.SetCases.{members-is}
 use Rattle.decide.proofs.SquareCases.{turning-none, turning-some, turning-apart}
 use borrow.Author.Needs.{needs}
-use native.Mathlib.Omega.{arith}
 use Rattle.decide.proofs.squares.turning.Statement.{statement}
 use Rattle.decide.proofs.squares.turning.Tie as tie
-use Rattle.decide.proofs.squares.turning.Reads as reads
-use Rattle.decide.proofs.squares.turning.Lts as lts
-use Rattle.decide.proofs.squares.is_square.Reads as is-square-reads
-use Rattle.stateset.proofs.intersection.Reads as intersection-reads
 
 intersection-requires : tie.Need-intersection-requires
 intersection-requires c κs = search needs

@@ -1,9 +1,6 @@
-use mathlib.Core.Path.{refl}
 use Rattle.layers.proofs.LayerCases.{blank-is}
 use Rattle.layers.proofs.layer.blank.Statement.{statement}
 use Rattle.layers.proofs.layer.blank.Tie as tie
-use Rattle.layers.proofs.layer.blank.Reads as reads
-use Rattle.layers.proofs.layer.blank.Lts as lts
 
 returns : tie.Need-returns
 returns c = blank-is

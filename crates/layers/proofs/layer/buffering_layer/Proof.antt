@@ -3,12 +3,6 @@ use Rattle.layers.proofs.LayerCases.{buffering-made, buffering-none, li
 use borrow.Author.Needs.{needs}
 use Rattle.layers.proofs.layer.buffering_layer.Statement.{statement}
 use Rattle.layers.proofs.layer.buffering_layer.Tie as tie
-use Rattle.layers.proofs.layer.buffering_layer.Reads as reads
-use Rattle.layers.proofs.layer.buffering_layer.Lts as lts
-use Rattle.layers.proofs.layer.close_buffering.Reads as close-buffering-reads
-use Rattle.layers.proofs.row.change.Reads as change-reads
-use Rattle.layers.proofs.row.read.Reads as read-reads
-use Rattle.stateset.proofs.full.Reads as full-reads
 
 full-requires : tie.Need-full-requires
 full-requires c κs = search needs

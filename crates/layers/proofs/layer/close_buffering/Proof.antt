@@ -2,10 +2,6 @@ use Rattle.layers.proofs.LayerCases.{closed-buffering}
 use borrow.Author.Needs.{needs}
 use Rattle.layers.proofs.layer.close_buffering.Statement.{statement}
 use Rattle.layers.proofs.layer.close_buffering.Tie as tie
-use Rattle.layers.proofs.layer.close_buffering.Reads as reads
-use Rattle.layers.proofs.layer.close_buffering.Lts as lts
-use Rattle.layers.proofs.row.close.Reads as close-reads
-use Rattle.stateset.proofs.full.Reads as full-reads
 
 full-requires : tie.Need-full-requires
 full-requires c κs = search needs

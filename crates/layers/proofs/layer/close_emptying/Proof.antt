@@ -1,9 +1,6 @@
 use Rattle.layers.proofs.LayerCases.{closed-emptying, matching-inside}
 use Rattle.layers.proofs.layer.close_emptying.Statement.{statement}
 use Rattle.layers.proofs.layer.close_emptying.Tie as tie
-use Rattle.layers.proofs.layer.close_emptying.Reads as reads
-use Rattle.layers.proofs.layer.close_emptying.Lts as lts
-use Rattle.layers.proofs.row.close.Reads as close-reads
 
 close-requires : tie.Need-close-requires
 close-requires c κs = ((c .before .before .before .pre), matching-inside _ _ _ _ _ (c .before .before .before .pre))

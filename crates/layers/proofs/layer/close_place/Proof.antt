@@ -5,10 +5,6 @@ use Rattle.layers.specs.Rows.{weight}
 use Rattle.layers.proofs.LayerCases.{lower-here, lower-then, closed-after, shut-place}
 use Rattle.layers.proofs.layer.close_place.Statement.{statement}
 use Rattle.layers.proofs.layer.close_place.Tie as tie
-use Rattle.layers.proofs.layer.close_place.Reads as reads
-use Rattle.layers.proofs.layer.close_place.Lts as lts
-use Rattle.layers.proofs.layer.close_shut.Reads as close-shut-reads
-use Rattle.layers.proofs.layer.round.Reads as round-reads
 
 abbrev Inv-loop : tie.InvT-loop
 Inv-loop m list targets g h near starts normal₀ buffering₀ emptying₀ normal buffering emptying = LowerPlace m list near starts h normal₀ buffering₀ emptying₀ normal buffering emptying

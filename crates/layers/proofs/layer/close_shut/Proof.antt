@@ -2,11 +2,6 @@ use Rattle.layers.proofs.LayerCases.{shut-made}
 use borrow.Author.Needs.{needs}
 use Rattle.layers.proofs.layer.close_shut.Statement.{statement}
 use Rattle.layers.proofs.layer.close_shut.Tie as tie
-use Rattle.layers.proofs.layer.close_shut.Reads as reads
-use Rattle.layers.proofs.layer.close_shut.Lts as lts
-use Rattle.layers.proofs.layer.close_emptying.Reads as close-emptying-reads
-use Rattle.layers.proofs.row.change.Reads as change-reads
-use Rattle.layers.proofs.row.close.Reads as close-reads
 
 close-requires : tie.Need-close-requires
 close-requires c κs = (c .before .before .before .pre)

@@ -1,12 +1,7 @@
 use borrow.Author.Tests.{not-true}
 use Rattle.layers.proofs.LayerCases.{emptying-made, emptying-none, lives, matching-inside}
-use borrow.Author.Needs.{needs}
 use Rattle.layers.proofs.layer.emptying_layer.Statement.{statement}
 use Rattle.layers.proofs.layer.emptying_layer.Tie as tie
-use Rattle.layers.proofs.layer.emptying_layer.Reads as reads
-use Rattle.layers.proofs.layer.emptying_layer.Lts as lts
-use Rattle.layers.proofs.layer.close_emptying.Reads as close-emptying-reads
-use Rattle.layers.proofs.row.read.Reads as read-reads
 
 read-requires : tie.Need-read-requires
 read-requires c κs = ((c .before .before .before .pre) .0, (c .before .before .before .pre) .1, matching-inside _ _ _ _ _ ((c .before .before .before .pre) .0))

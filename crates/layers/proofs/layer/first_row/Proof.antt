@@ -1,13 +1,7 @@
-use mathlib.Core.Path.{_≡_, refl, sym, _∙_}
-use mathlib.Core.Bool.{false≢true}
 use Rattle.layers.proofs.LayerCases.{first-last, first-not}
 use borrow.Author.Needs.{needs}
 use Rattle.layers.proofs.layer.first_row.Statement.{statement}
 use Rattle.layers.proofs.layer.first_row.Tie as tie
-use Rattle.layers.proofs.layer.first_row.Reads as reads
-use Rattle.layers.proofs.layer.first_row.Lts as lts
-use Rattle.layers.proofs.layer.blank.Reads as blank-reads
-use Rattle.layers.proofs.layer.seeds.Reads as seeds-reads
 
 seeds-requires : tie.Need-seeds-requires
 seeds-requires c κs = search needs

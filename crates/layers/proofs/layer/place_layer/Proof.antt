@@ -4,15 +4,6 @@ use Rattle.layers.proofs.LayerCases.{place-made}
 use borrow.Author.Needs.{needs}
 use Rattle.layers.proofs.layer.place_layer.Statement.{statement}
 use Rattle.layers.proofs.layer.place_layer.Tie as tie
-use Rattle.layers.proofs.layer.place_layer.Reads as reads
-use Rattle.layers.proofs.layer.place_layer.Lts as lts
-use Rattle.layers.proofs.layer.blank.Reads as blank-reads
-use Rattle.layers.proofs.layer.close_place.Reads as close-place-reads
-use Rattle.layers.proofs.layer.first_row.Reads as first-row-reads
-use Rattle.layers.proofs.layer.storing_states.Reads as storing-states-reads
-use Rattle.layers.proofs.row.is_blank.Reads as is-blank-reads
-use Rattle.layers.proofs.row.read.Reads as read-reads
-use Rattle.stateset.proofs.intersection.Reads as intersection-reads
 
 intersection-requires : tie.Need-intersection-requires
 intersection-requires c κs = search needs

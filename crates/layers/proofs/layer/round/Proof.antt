@@ -5,12 +5,6 @@ use Rattle.layers.proofs.LayerCases.{round-made}
 use borrow.Author.Needs.{needs}
 use Rattle.layers.proofs.layer.round.Statement.{statement}
 use Rattle.layers.proofs.layer.round.Tie as tie
-use Rattle.layers.proofs.layer.round.Reads as reads
-use Rattle.layers.proofs.layer.round.Lts as lts
-use Rattle.layers.proofs.layer.close_buffering.Reads as close-buffering-reads
-use Rattle.layers.proofs.layer.close_emptying.Reads as close-emptying-reads
-use Rattle.layers.proofs.row.change.Reads as change-reads
-use Rattle.layers.proofs.row.close.Reads as close-reads
 
 close-requires : tie.Need-close-requires
 close-requires c κs = (c .before .before .before .pre)

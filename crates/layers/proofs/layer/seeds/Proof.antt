@@ -1,16 +1,11 @@
-use Prim.Native.Nat.{_≤_, _<_, _-_, _+_}
+use Prim.Native.Nat.{_≤_, _-_}
 use mathlib.Core.Logic.{⊎-elim}
-use mathlib.Core.Path.{_≡_, refl, sym, ap, _∙_, subst}
 use native.Mathlib.Omega.{arith}
 use borrow.Author.Needs.{needs}
 use Rattle.layers.specs.Layers.{Seeded}
 use Rattle.layers.proofs.LayerCases.{seed-start, seed-joined, seed-end}
 use Rattle.layers.proofs.layer.seeds.Statement.{statement}
 use Rattle.layers.proofs.layer.seeds.Tie as tie
-use Rattle.layers.proofs.layer.seeds.Reads as reads
-use Rattle.layers.proofs.layer.seeds.Lts as lts
-use Rattle.fsbm.proofs.machine.is_final.Reads as is-final-reads
-use Rattle.layers.proofs.layer.blank.Reads as blank-reads
 
 abbrev Inv-loop : tie.InvT-loop
 Inv-loop m row₀ q₀ row q = (q ≤ m .states) × Seeded m q row

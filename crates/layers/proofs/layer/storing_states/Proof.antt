@@ -2,9 +2,6 @@ use Rattle.layers.proofs.LayerCases.{none-storing, all-storing}
 use borrow.Author.Needs.{needs}
 use Rattle.layers.proofs.layer.storing_states.Statement.{statement}
 use Rattle.layers.proofs.layer.storing_states.Tie as tie
-use Rattle.layers.proofs.layer.storing_states.Reads as reads
-use Rattle.layers.proofs.layer.storing_states.Lts as lts
-use Rattle.stateset.proofs.full.Reads as full-reads
 
 returns : tie.Need-returns
 returns c = none-storing _ _ ((c .if1) .taken)

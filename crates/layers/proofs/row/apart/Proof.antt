@@ -2,10 +2,6 @@ use Rattle.layers.proofs.RowCases.{apart-both, apart-one}
 use borrow.Author.Needs.{needs}
 use Rattle.layers.proofs.row.apart.Statement.{statement}
 use Rattle.layers.proofs.row.apart.Tie as tie
-use Rattle.layers.proofs.row.apart.Reads as reads
-use Rattle.layers.proofs.row.apart.Lts as lts
-use Rattle.stateset.proofs.difference.Reads as difference-reads
-use Rattle.stateset.proofs.member.Reads as member-reads
 
 member-requires : tie.Need-member-requires
 member-requires c κs = search needs

@@ -2,10 +2,6 @@ use Rattle.layers.proofs.RowCases.{buffering-open}
 use borrow.Author.Needs.{needs}
 use Rattle.layers.proofs.row.buffering_cut.Statement.{statement}
 use Rattle.layers.proofs.row.buffering_cut.Tie as tie
-use Rattle.layers.proofs.row.buffering_cut.Reads as reads
-use Rattle.layers.proofs.row.buffering_cut.Lts as lts
-use Rattle.layers.proofs.row.apart.Reads as apart-reads
-use Rattle.stateset.proofs.difference.Reads as difference-reads
 
 apart-requires : tie.Need-apart-requires
 apart-requires c κs = search needs

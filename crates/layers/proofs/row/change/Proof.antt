@@ -8,11 +8,6 @@ use Rattle.layers.specs.Rows.{Beside}
 use Rattle.layers.specs.Rows.Laws.{Sweeping, sweep-start, sweep-falls, sweep-stays, sweep-end, beside-one}
 use Rattle.layers.proofs.row.change.Statement.{statement}
 use Rattle.layers.proofs.row.change.Tie as tie
-use Rattle.layers.proofs.row.change.Reads as reads
-use Rattle.layers.proofs.row.change.Lts as lts
-use Rattle.layers.proofs.row.lower.Reads as lower-reads
-use Rattle.stateset.proofs.lowest.Reads as lowest-reads
-use Rattle.stateset.proofs.without_lowest.Reads as without-lowest-reads
 
 abbrev Inv-loop : tie.InvT-loop
 Inv-loop set next row₀ fell₀ rest₀ row fell rest = Sweeping (Beside next) set rest row₀ row fell

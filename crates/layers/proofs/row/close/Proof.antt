@@ -9,10 +9,6 @@ use Rattle.layers.specs.Rows.{weight, Closed}
 use Rattle.layers.specs.Rows.Laws.{closed-here, closed-more, closed-none}
 use Rattle.layers.proofs.row.close.Statement.{statement}
 use Rattle.layers.proofs.row.close.Tie as tie
-use Rattle.layers.proofs.row.close.Reads as reads
-use Rattle.layers.proofs.row.close.Lts as lts
-use Rattle.layers.proofs.row.pass.Reads as pass-reads
-use Rattle.stateset.proofs.intersection.Reads as intersection-reads
 
 abbrev Inv-loop : tie.InvT-loop
 Inv-loop m list targets g h mode set row₀ may row = (out : List ℕ) → Closed m list (In set) mode row out → Closed m list (In set) mode row₀ out

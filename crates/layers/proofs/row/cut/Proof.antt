@@ -2,11 +2,6 @@ use Rattle.layers.proofs.RowCases.{cut-as}
 use borrow.Author.Needs.{needs}
 use Rattle.layers.proofs.row.cut.Statement.{statement}
 use Rattle.layers.proofs.row.cut.Tie as tie
-use Rattle.layers.proofs.row.cut.Reads as reads
-use Rattle.layers.proofs.row.cut.Lts as lts
-use Rattle.layers.proofs.row.buffering_cut.Reads as buffering-cut-reads
-use Rattle.layers.proofs.row.emptying_cut.Reads as emptying-cut-reads
-use Rattle.layers.proofs.row.normal_cut.Reads as normal-cut-reads
 
 enum-told : tie.Need-enum-told
 enum-told c = search needs

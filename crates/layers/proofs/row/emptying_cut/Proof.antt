@@ -2,10 +2,6 @@ use Rattle.layers.proofs.RowCases.{emptying-open, emptying-shut}
 use borrow.Author.Needs.{needs}
 use Rattle.layers.proofs.row.emptying_cut.Statement.{statement}
 use Rattle.layers.proofs.row.emptying_cut.Tie as tie
-use Rattle.layers.proofs.row.emptying_cut.Reads as reads
-use Rattle.layers.proofs.row.emptying_cut.Lts as lts
-use Rattle.stateset.proofs.intersection.Reads as intersection-reads
-use Rattle.stateset.proofs.member.Reads as member-reads
 
 member-requires : tie.Need-member-requires
 member-requires c κs = search needs

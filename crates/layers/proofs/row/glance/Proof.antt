@@ -1,15 +1,10 @@
 use native.Mathlib.Omega.{arith}
 use mathlib.Core.Path.{refl}
-use Prim.Native.Nat.{ℕ, _≤_, _<_, _-_}
+use Prim.Native.Nat.{_-_}
 use Rattle.layers.proofs.RowCases.{Glancing, glancing-start, glancing-turn, glance-end}
 use borrow.Author.Needs.{needs}
 use Rattle.layers.proofs.row.glance.Statement.{statement}
 use Rattle.layers.proofs.row.glance.Tie as tie
-use Rattle.layers.proofs.row.glance.Reads as reads
-use Rattle.layers.proofs.row.glance.Lts as lts
-use Rattle.images.proofs.add_if.Reads as add-if-reads
-use Rattle.layers.proofs.row.least_below.Reads as least-below-reads
-use Rattle.stateset.proofs.empty.Reads as empty-reads
 
 abbrev Inv-loop : tie.InvT-loop
 Inv-loop row states least live₀ lows₀ q₀ live lows q = Glancing row q least live lows

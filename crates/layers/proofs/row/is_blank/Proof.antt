@@ -2,9 +2,6 @@ use Rattle.layers.proofs.RowCases.{blank-said}
 use borrow.Author.Needs.{needs}
 use Rattle.layers.proofs.row.is_blank.Statement.{statement}
 use Rattle.layers.proofs.row.is_blank.Tie as tie
-use Rattle.layers.proofs.row.is_blank.Reads as reads
-use Rattle.layers.proofs.row.is_blank.Lts as lts
-use Rattle.layers.proofs.row.glance.Reads as glance-reads
 
 glance-requires : tie.Need-glance-requires
 glance-requires c κs = search needs

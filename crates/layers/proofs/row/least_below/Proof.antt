@@ -6,9 +6,6 @@ use Rattle.layers.proofs.RowCases.{below-turn}
 use borrow.Author.Needs.{needs}
 use Rattle.layers.proofs.row.least_below.Statement.{statement}
 use Rattle.layers.proofs.row.least_below.Tie as tie
-use Rattle.layers.proofs.row.least_below.Reads as reads
-use Rattle.layers.proofs.row.least_below.Lts as lts
-use Rattle.layers.proofs.row.smaller.Reads as smaller-reads
 
 abbrev Inv-loop : tie.InvT-loop
 Inv-loop row states least₀ q₀ least q = (p : ℕ) → p < q → least ≤ at row p

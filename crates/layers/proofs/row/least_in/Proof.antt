@@ -2,10 +2,6 @@ use Rattle.layers.proofs.RowCases.{least-low}
 use borrow.Author.Needs.{needs}
 use Rattle.layers.proofs.row.least_in.Statement.{statement}
 use Rattle.layers.proofs.row.least_in.Tie as tie
-use Rattle.layers.proofs.row.least_in.Reads as reads
-use Rattle.layers.proofs.row.least_in.Lts as lts
-use Rattle.layers.proofs.row.least_of.Reads as least-of-reads
-use Rattle.stateset.proofs.intersection.Reads as intersection-reads
 
 intersection-requires : tie.Need-intersection-requires
 intersection-requires c κs = search needs

@@ -6,11 +6,6 @@ use Rattle.stateset.specs.Set.Laws.{in-lt, drop-lowest, lowest-removed}
 use Rattle.layers.proofs.RowCases.{Least, least-start, least-turn, least-end}
 use Rattle.layers.proofs.row.least_of.Statement.{statement}
 use Rattle.layers.proofs.row.least_of.Tie as tie
-use Rattle.layers.proofs.row.least_of.Reads as reads
-use Rattle.layers.proofs.row.least_of.Lts as lts
-use Rattle.layers.proofs.row.smaller.Reads as smaller-reads
-use Rattle.stateset.proofs.lowest.Reads as lowest-reads
-use Rattle.stateset.proofs.without_lowest.Reads as without-lowest-reads
 
 abbrev Inv-loop : tie.InvT-loop
 Inv-loop row set least₀ rest₀ least rest = Least row set rest least

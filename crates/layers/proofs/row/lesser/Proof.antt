@@ -3,8 +3,6 @@ use Rattle.layers.proofs.RowCases.{lesser-is, lesser-not}
 use borrow.Author.Needs.{needs}
 use Rattle.layers.proofs.row.lesser.Statement.{statement}
 use Rattle.layers.proofs.row.lesser.Tie as tie
-use Rattle.layers.proofs.row.lesser.Reads as reads
-use Rattle.layers.proofs.row.lesser.Lts as lts
 
 returns : tie.Need-returns
 returns c = (lesser-not _ _ (omega (arith, (c .if1 .taken))), omega arith)

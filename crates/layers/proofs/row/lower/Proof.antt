@@ -2,9 +2,6 @@ use Rattle.layers.proofs.RowCases.{lower-not, lower-is}
 use borrow.Author.Needs.{needs}
 use Rattle.layers.proofs.row.lower.Statement.{statement}
 use Rattle.layers.proofs.row.lower.Tie as tie
-use Rattle.layers.proofs.row.lower.Reads as reads
-use Rattle.layers.proofs.row.lower.Lts as lts
-use Rattle.layers.proofs.row.lesser.Reads as lesser-reads
 
 mul-d : tie.Need-mul-d
 mul-d c = search needs

@@ -2,10 +2,6 @@ use Rattle.layers.proofs.RowCases.{normal-shut, normal-open}
 use borrow.Author.Needs.{needs}
 use Rattle.layers.proofs.row.normal_cut.Statement.{statement}
 use Rattle.layers.proofs.row.normal_cut.Tie as tie
-use Rattle.layers.proofs.row.normal_cut.Reads as reads
-use Rattle.layers.proofs.row.normal_cut.Lts as lts
-use Rattle.layers.proofs.row.apart.Reads as apart-reads
-use Rattle.stateset.proofs.member.Reads as member-reads
 
 member-requires : tie.Need-member-requires
 member-requires c κs = search needs

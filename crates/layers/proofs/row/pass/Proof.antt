@@ -8,12 +8,6 @@ use Rattle.layers.specs.Rows.{Through}
 use Rattle.layers.specs.Rows.Laws.{Sweeping, sweep-start, sweep-falls, sweep-stays, sweep-end}
 use Rattle.layers.proofs.row.pass.Statement.{statement}
 use Rattle.layers.proofs.row.pass.Tie as tie
-use Rattle.layers.proofs.row.pass.Reads as reads
-use Rattle.layers.proofs.row.pass.Lts as lts
-use Rattle.layers.proofs.row.glance.Reads as glance-reads
-use Rattle.layers.proofs.row.visit.Reads as visit-reads
-use Rattle.stateset.proofs.lowest.Reads as lowest-reads
-use Rattle.stateset.proofs.without_lowest.Reads as without-lowest-reads
 
 abbrev Inv-loop : tie.InvT-loop
 Inv-loop m list targets g h mode x set next row₀ s fell₀ rest₀ row fell rest = Sweeping (Through m list mode x next) set rest row₀ row fell

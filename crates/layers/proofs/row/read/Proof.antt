@@ -1,11 +1,8 @@
 use native.Mathlib.Omega.{arith}
 use Rattle.layers.specs.Rows.Laws.{reads-none, through-reads}
-use borrow.Author.Needs.{needs}
 use Rattle.layers.proofs.row.read.Statement.{statement}
 use Rattle.layers.proofs.row.read.Tie as tie
 use Rattle.layers.proofs.row.read.Reads as reads
-use Rattle.layers.proofs.row.read.Lts as lts
-use Rattle.layers.proofs.row.pass.Reads as pass-reads
 
 returns : tie.Need-returns
 returns c = reads-none _ ((c .if1) .taken)

@@ -3,8 +3,6 @@ use mathlib.Core.Logic.{inl, inr}
 use mathlib.Core.Path.{refl}
 use Rattle.layers.proofs.row.smaller.Statement.{statement}
 use Rattle.layers.proofs.row.smaller.Tie as tie
-use Rattle.layers.proofs.row.smaller.Reads as reads
-use Rattle.layers.proofs.row.smaller.Lts as lts
 
 returns : tie.Need-returns
 returns c = (omega arith, omega (arith, (c .if1) .taken), inl refl)

@@ -4,12 +4,6 @@ use Rattle.layers.proofs.RowCases.{visit-seen, visit-live, visit-none}
 use borrow.Author.Needs.{needs}
 use Rattle.layers.proofs.row.visit.Statement.{statement}
 use Rattle.layers.proofs.row.visit.Tie as tie
-use Rattle.layers.proofs.row.visit.Reads as reads
-use Rattle.layers.proofs.row.visit.Lts as lts
-use Rattle.layers.proofs.row.cut.Reads as cut-reads
-use Rattle.layers.proofs.row.least_in.Reads as least-in-reads
-use Rattle.layers.proofs.row.lower.Reads as lower-reads
-use Rattle.stateset.proofs.intersection.Reads as intersection-reads
 
 add-set : tie.Need-add-set
 add-set c = search needs
