@@ -13,7 +13,7 @@
 -- Lowest x r          == r is the lowest member of x, or width where x is empty
 use mathlib.Core.Path.{_≡_}
 use mathlib.Core.Logic.{_↔_}
-use mathlib.Core.Bool.{Bool, true, false, cond}
+use mathlib.Core.Bool.{Bool, cond}
 use Prim.Native.Nat.{ℕ, _-_, _/_, _%_, _^_, _≤_, _<_, min}
 use lib.Dec.{eqb, ltb}
 use lib.Bits.{bitAnd, bitOr}
@@ -43,10 +43,6 @@ removed x q = cond (ltb q width) (without x (2 ^ q)) x
 
 unfoldable pub below : ℕ → ℕ
 below n = 2 ^ min n width - 1
-
-abbrev one : Bool → ℕ
-one true = 1
-one false = 0
 
 abbrev pub lowestOf : ℕ → ℕ
 lowestOf x = trailingZeros width x
