@@ -33,7 +33,7 @@ use lib.Arith.{bin-ind}
 use lib.Pow.{shr-shr, pow-mono, pow-pos, pow-lt}
 use lib.Bits.{bitAnd, bitOr, or-lt, and-lt, or-zero-r, and-step, or-step, and-shr, or-shr}
 use lib.Count.{ones, trailingZeros, under, ones-step, ones-le, trailing-le, trailing-of-zero}
-use Rattle.stateset.specs.Set.{width, digit, In, has, one, added, removed, without, below, lowestOf, SetIs, Lowest}
+use Rattle.stateset.specs.Set.{width, digit, In, has, added, removed, without, below, lowestOf, SetIs, Lowest}
 
 -- Digits
 
