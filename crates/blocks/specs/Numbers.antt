@@ -3,7 +3,7 @@
 --
 -- total b                 == the sum of the numbers
 -- marked d                == how many pairs are marked in d, which has a set of states for each row
--- Marked d s t            == the pair (s, t) is marked
+-- HasMark d s t            == the pair (s, t) is marked
 -- Steps b d b′ d′         == b′ and d′ are b and d with numbers lowered, each of them marked, and no mark lost
 -- Lowers C b d b′ d′      == and what is lowered is lowered to a candidate, until none is less; C s t v says that v is a candidate at (s, t)
 -- One s t v               == the candidate v at (s, t) alone
@@ -28,8 +28,8 @@ unfoldable pub marked : List ℕ → ℕ
 marked [] = zero
 marked (x ∷ l) = ones x + marked l
 
-abbrev pub Marked : List ℕ → ℕ → ℕ → Type 0
-Marked d s t = In (getD d s 0) t
+abbrev pub HasMark : List ℕ → ℕ → ℕ → Type 0
+HasMark d s t = In (getD d s 0) t
 
 -- a block and its marks have their length
 pub record Sized (b d : List ℕ) : Type 0 where
@@ -40,8 +40,8 @@ pub record Steps (b d b′ d′ : List ℕ) : Type 0 where
   pub size : length b′ ≡ length b
   pub rows : length d′ ≡ length d
   pub down : (s t : ℕ) → cell b′ s t ≤ cell b s t
-  pub stays : (s t : ℕ) → Marked d s t → Marked d′ s t
-  pub changed : (s t : ℕ) → (cell b′ s t ≡ cell b s t) ⊎ Marked d′ s t
+  pub stays : (s t : ℕ) → HasMark d s t → HasMark d′ s t
+  pub changed : (s t : ℕ) → (cell b′ s t ≡ cell b s t) ⊎ HasMark d′ s t
   pub falls : 2 * total b′ + marked d′ ≤ 2 * total b + marked d
 
 pub record Lowers (C : ℕ → ℕ → ℕ → Type 0) (b d b′ d′ : List ℕ) : Type 0 where

@@ -25,7 +25,7 @@ use Rattle.fsbm.specs.Published.{fsbmOf}
 use Rattle.fsbm.specs.declared.machine.Machine.{Machine}
 use Rattle.pieces.specs.Pairs.{unit, halves, Pair, PairMove, stores-none, matches-none, letter}
 use Rattle.pieces.specs.Blocks.{cell, costOf, Node, outside, inside, BlockEdge, blockOf}
-use Rattle.blocks.specs.Numbers.{Marked, Steps}
+use Rattle.blocks.specs.Numbers.{HasMark, Steps}
 use Rattle.blocks.specs.Gathered.{From, Stay}
 use Rattle.blocks.specs.Stretches.{Stretches}
 pub mod Laws
@@ -47,11 +47,11 @@ Works m list top h set D Waits b = Working (BlockEdge (fsbmOf m list) h (costOf 
 
 abbrev pub Waiting : List ℕ → Node → Type 0
 Waiting d outside = ⊥
-Waiting d (inside u) = Marked d (u .storing) (u .matching)
+Waiting d (inside u) = HasMark d (u .storing) (u .matching)
 
 abbrev pub Busy : List ℕ → ℕ → ℕ → Node → Type 0
 Busy d s set outside = ⊥
-Busy d s set (inside u) = Marked d (u .storing) (u .matching) ⊎ ((u .storing ≡ s) × In set (u .matching))
+Busy d s set (inside u) = HasMark d (u .storing) (u .matching) ⊎ ((u .storing ≡ s) × In set (u .matching))
 
 abbrev pub Early : (m : Machine) (list : List ℕ) → ℕ → {u v : Pair} {w : ℕ} → PairMove (fsbmOf m list) u v w → Type 0
 Early m list k (stores-none e a b) = e .number < k
@@ -60,7 +60,7 @@ Early m list k (letter e a b f c g) = e .number < k
 
 abbrev pub Looked : Machine → List ℕ → ℕ → ℕ → ℕ → ℕ → List ℕ → List ℕ → Type 0
 Looked m list top s set k b d =
-    (u v : Pair) (w : ℕ) (e : PairMove (fsbmOf m list) u v w) → u .storing ≡ s → In set (u .matching) → (Marked d s (u .matching) → ⊥) → Early m list k e
+    (u v : Pair) (w : ℕ) (e : PairMove (fsbmOf m list) u v w) → u .storing ≡ s → In set (u .matching) → (HasMark d s (u .matching) → ⊥) → Early m list k e
     → w + cell b s (u .matching) < top → cell b (v .storing) (v .matching) ≤ w + cell b s (u .matching)
 
 abbrev pub Still : Machine → List ℕ → List ℕ → Type 0

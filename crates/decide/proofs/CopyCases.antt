@@ -2,13 +2,13 @@
 --
 -- walk-forward        == a walk does not go back
 -- walk-last           == a walk that reads something splits before its last letter
--- walk-before         == a walk passes every place on its way
+-- walk-before         == a walk passes every position on its way
 -- walk-free           == a walk that reads nothing is epsilon moves
 -- walk-matching       == an emptying walk from a matching state ends in one
--- walks-start, walks-turn, walks-to, walks-dead == the set of what walks reach: at the start, after one more letter, at an equal place,
+-- walks-start, walks-turn, walks-to, walks-dead == the set of what walks reach: at the start, after one more letter, at an equal position,
 --                        and where no state is left
 -- tailed-start, tailed-on, tailed-anew == the tail before any walk, after a walk that goes on, and after one that begins anew
--- tailed-at           == what a tail has reached, of an equal set and an equal place
+-- tailed-at           == what a tail has reached, of an equal set and an equal position
 -- Copying             == the invariant of copies_from; copying-start, copying-turn, copying-pass, copying-dead, copying-end: it begins, one
 --                        turn, one where no state turns to matching, its two ends
 use Prim.Native.Nat.{ℕ, _+_, _-_, _^_, _≤_, _<_}
@@ -23,7 +23,7 @@ use Rattle.fsbm.specs.declared.config.Mode.{Mode}
 use Rattle.fsbm.specs.declared.config.Mode.the-variants.{Buffering, Emptying}
 use Rattle.decide.specs.declared.walks.Tail.{Tail}
 use Rattle.images.specs.Graph.{Members, Fitting, From, here, more, Graph, Free, Advance}
-use Rattle.decide.specs.Reach.{Walk, still, reads, Tailed, Matches, LastSquare, CopyTo, Copied}
+use Rattle.decide.specs.Reach.{Walk, still, reads, Tailed, Square, LastSquare, CopyTo, Copied}
 use Rattle.images.proofs.SetCases.{members-as, members-none, none-in, row-cases}
 
 module _ {G : Graph} {w : List ℕ} {T : Mode} {i p : ℕ} where
@@ -76,26 +76,26 @@ module _ (G : Graph) (w : List ℕ) (T : Mode) (i : ℕ) where
   walks-dead starts s j k le ge e so-far = members-none (λ q z. let (r, v) = walk-before j (z .2) le ge in none-in e r (so-far .members r .1 (z .0, z .1, v)))
 
 module _ (G : Graph) (w : List ℕ) (i : ℕ) where
-  pub tailed-start : Tailed G w i (record { ready = 0; place = i; reached = 0 })
+  pub tailed-start : Tailed G w i (record { ready = 0; position = i; reached = 0 })
   tailed-start = record { from = omega arith; walked = members-none (λ q z. none-in refl (z .0) (z .1)) }
 
-  pub tailed-at : (tail : Tail) (ready j : ℕ) → Tailed G w i tail → tail .ready ≡ ready → tail .place ≡ j → Members (tail .reached) (From ready (λ p q. Walk G w Emptying i p j q))
+  pub tailed-at : (tail : Tail) (ready j : ℕ) → Tailed G w i tail → tail .ready ≡ ready → tail .position ≡ j → Members (tail .reached) (From ready (λ p q. Walk G w Emptying i p j q))
   tailed-at tail ready j so-far e at =
-      walks-to G w Emptying i ready (tail .reached) (tail .place) j at
-      (subst (λ (x : ℕ). Members (tail .reached) (From x (λ p q. Walk G w Emptying i p (tail .place) q))) e (so-far .walked))
+      walks-to G w Emptying i ready (tail .reached) (tail .position) j at
+      (subst (λ (x : ℕ). Members (tail .reached) (From x (λ p q. Walk G w Emptying i p (tail .position) q))) e (so-far .walked))
 
-  pub tailed-on : (tail : Tail) (ready j r : ℕ) → Tailed G w i tail → tail .ready ≡ ready → tail .place ≤ j
-      → ((o set : ℕ) → o ≤ tail .place → Members (tail .reached) (From set (λ p q. Walk G w Emptying o p (tail .place) q)) → Members r (From set (λ p q. Walk G w Emptying o p j q)))
-      → Tailed G w i (record { ready = ready; place = j; reached = r })
+  pub tailed-on : (tail : Tail) (ready j r : ℕ) → Tailed G w i tail → tail .ready ≡ ready → tail .position ≤ j
+      → ((o set : ℕ) → o ≤ tail .position → Members (tail .reached) (From set (λ p q. Walk G w Emptying o p (tail .position) q)) → Members r (From set (λ p q. Walk G w Emptying o p j q)))
+      → Tailed G w i (record { ready = ready; position = j; reached = r })
   tailed-on tail ready j r so-far e le on =
       record {
         from = omega (arith, so-far .from);
-        walked = on i ready (so-far .from) (tailed-at tail ready (tail .place) so-far e refl);
+        walked = on i ready (so-far .from) (tailed-at tail ready (tail .position) so-far e refl);
       }
 
   pub tailed-anew : (ready near j r : ℕ) → i ≤ j → Members near (From ready (Free G Emptying))
       → ((o set : ℕ) → o ≤ i → Members near (From set (λ p q. Walk G w Emptying o p i q)) → Members r (From set (λ p q. Walk G w Emptying o p j q)))
-      → Tailed G w i (record { ready = ready; place = j; reached = r })
+      → Tailed G w i (record { ready = ready; position = j; reached = r })
   tailed-anew ready near j r le m on = record { from = le; walked = on i ready (omega arith) (walks-start G w Emptying i ready near m) }
 
 pub record Copying (G : Graph) (w : List ℕ) (i starts : ℕ) (a b : List ℕ) (j s last : ℕ) : Type 0 where
@@ -141,7 +141,7 @@ module _ (G : Graph) (w : List ℕ) (i starts : ℕ) (a : List ℕ) where
           where
             at : Dec (c .end ≤ j) → c .end ≤ j
             at (yes y) = y
-            at (no n) = let e = c .place in let f = c .inside in absurd (cp .squares .last (c .end) (omega arith) (omega arith) (c .same))
+            at (no n) = let e = c .position in let f = c .inside in absurd (cp .squares .last (c .end) (omega arith) (omega arith) (c .same))
 
     -- or where no state is left that stores
     pub copying-dead : s ≡ 0 → Copied G w i starts a b
@@ -166,7 +166,7 @@ module _ (G : Graph) (w : List ℕ) (i starts : ℕ) (a : List ℕ) where
                 absurd (none-in e r (cp .storing .members r .1 (c .from, c .begins, v)))
 
     -- one more letter is stored; ready are the states that turn to matching there
-    module _ (next ready : ℕ) (lt : j < last) (m : Members next (From s (Advance G Buffering (getD w j 0)))) (turning : Members ready (λ p. Matches w i (j + 1) × (In next p × In (G .matching) p))) where
+    module _ (next ready : ℕ) (lt : j < last) (m : Members next (From s (Advance G Buffering (getD w j 0)))) (turning : Members ready (λ p. Square w i (j + 1) × (In next p × In (G .matching) p))) where
       reading : j < length w
       reading = let z = cp .squares .room in let y = cp .from in omega arith
 
@@ -181,7 +181,7 @@ module _ (G : Graph) (w : List ℕ) (i starts : ℕ) (a : List ℕ) where
       turns-here : (k q : ℕ) (c : CopyTo G w i starts k q) → c .end ≡ j + 1 → In ready (c .middle)
       turns-here k q c here-ends =
           let v = subst (λ (x : ℕ). Walk G w Buffering i (c .from) x (c .middle)) here-ends (c .storing) in
-          let same = subst (λ (x : ℕ). Matches w i x) here-ends (c .same) in
+          let same = subst (λ (x : ℕ). Square w i x) here-ends (c .same) in
           turning .members (c .middle) .1 (same, (storing .members (c .middle) .1 (c .from, c .begins, v), c .turns))
 
       -- no state turns to matching: no copy ends
@@ -236,7 +236,7 @@ module _ (G : Graph) (w : List ℕ) (i starts : ℕ) (a : List ℕ) where
               at (yes y) = y
               at (no o) =
                   let last-one : c .end ≡ j + 1 = omega arith in
-                  absurd (n (c .place ∙ ap (λ (x : ℕ). x + (x - i)) last-one))
+                  absurd (n (c .position ∙ ap (λ (x : ℕ). x + (x - i)) last-one))
 
           to : (q : ℕ) → In (getD b e 0) q ⊎ In t q → In (getD a e 0) q ⊎ ((c : CopyTo G w i starts e q) × (c .end ≤ j + 1))
           to q (inl h) = wider e q (cp .members e q .0 h)
@@ -255,7 +255,7 @@ module _ (G : Graph) (w : List ℕ) (i starts : ℕ) (a : List ℕ) where
                   turns = hp;
                   emptying = y;
                   same = same;
-                  place = refl;
+                  position = refl;
                   inside = room;
                 },
                 omega arith,
@@ -281,4 +281,4 @@ copied-none G w i starts last a sq le fit = record { fitting = fit; members = λ
   where
     back : (k q : ℕ) → In (getD a k 0) q ⊎ CopyTo G w i starts k q → In (getD a k 0) q
     back k q (inl h) = h
-    back k q (inr c) = let e = c .place in let f = c .inside in let s = c .some in absurd (sq .last (c .end) (omega arith) (omega arith) (c .same))
+    back k q (inr c) = let e = c .position in let f = c .inside in let s = c .some in absurd (sq .last (c .end) (omega arith) (omega arith) (c .same))

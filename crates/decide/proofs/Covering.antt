@@ -29,7 +29,7 @@ use Rattle.decide.specs.Reach.{Walk, still, reads, Reach, begins, passes
 use Rattle.decide.proofs.CopyCases.{walk-forward}
 use Rattle.decide.proofs.StageCases.{reach-inside}
 use Rattle.decide.proofs.Runs.{advanced-some}
-use Rattle.decide.proofs.Tables.{Read, Table, listed-edge}
+use Rattle.decide.proofs.Tables.{Read, TableOf, listed-edge}
 
 -- the test of a letter: it is epsilon, or it stands there
 pub reads-says : (w : List ℕ) (p e x : ℕ) → readsLetter w p e x ≡ true → (x ≡ 0) ⊎ ((0 < x) × (p < e) × (getD w p 0 ≡ x))
@@ -73,82 +73,82 @@ reach-reads {G} {w} {start} {k} {p} {q} x r e (inr (some, lt, same)) =
     moves r lt (let z = same in omega arith) (subst (λ (y : ℕ). Edge G Normal y p q) (sym same) e) (advanced-some k x some)
 
 pub record CoverNormal (G : Graph) (w : List ℕ) (start : ℕ) (D : Configuration) : Type 0 where
-  pub place : ℕ
-  pub reach : Reach G w start place (D .state)
-  pub input : D .input ≡ drop place w
+  pub position : ℕ
+  pub reach : Reach G w start position (D .state)
+  pub input : D .input ≡ drop position w
 
 pub record CoverBuffering (G : Graph) (w : List ℕ) (start : ℕ) (D : Configuration) : Type 0 where
   pub from : ℕ
-  pub place : ℕ
+  pub position : ℕ
   pub first : ℕ
   pub reach : Reach G w start from first
   pub stores : In (G .buffering) first
-  pub walk : Walk G w Buffering from first place (D .state)
-  pub inside : place ≤ length w
-  pub input : D .input ≡ drop place w
-  pub stored : D .buffer ≡ slice from place w
+  pub walk : Walk G w Buffering from first position (D .state)
+  pub inside : position ≤ length w
+  pub input : D .input ≡ drop position w
+  pub stored : D .buffer ≡ slice from position w
 
 pub record CoverEmptying (G : Graph) (w : List ℕ) (start : ℕ) (D : Configuration) : Type 0 where
   pub from : ℕ
   pub end : ℕ
-  pub place : ℕ
+  pub position : ℕ
   pub first : ℕ
   pub middle : ℕ
   pub reach : Reach G w start from first
   pub stores : In (G .buffering) first
   pub storing : Walk G w Buffering from first end middle
   pub turns : In (G .matching) middle
-  pub emptying : Walk G w Emptying from middle place (D .state)
-  pub behind : place ≤ end
-  pub inside : end + (place - from) ≤ length w
-  pub same : (t : ℕ) → t < place - from → getD w (from + t) 0 ≡ getD w (end + t) 0
-  pub input : D .input ≡ drop (end + (place - from)) w
-  pub stored : D .buffer ≡ slice place end w
+  pub emptying : Walk G w Emptying from middle position (D .state)
+  pub behind : position ≤ end
+  pub inside : end + (position - from) ≤ length w
+  pub same : (t : ℕ) → t < position - from → getD w (from + t) 0 ≡ getD w (end + t) 0
+  pub input : D .input ≡ drop (end + (position - from)) w
+  pub stored : D .buffer ≡ slice position end w
 
 abbrev pub Covered : Graph → List ℕ → ℕ → Mode → Configuration → Type 0
 Covered G w start Normal D = CoverNormal G w start D
 Covered G w start Buffering D = CoverBuffering G w start D
 Covered G w start Emptying D = CoverEmptying G w start D
 
-module _ {m : Machine} {list targets : List ℕ} {g h : ℕ} (w : List ℕ) (t : Table m list w targets g h) (start : ℕ) where
+module _ {m : Machine} {list targets : List ℕ} {g h : ℕ} (w : List ℕ) (t : TableOf m list w targets g h) (start : ℕ) where
   cover-normal : {x p q : ℕ} (u : List ℕ) → (Read w x → Edge (graph targets (m .states) g h) Normal x p q) → CoverNormal (graph targets (m .states) g h) w start (config (symbol x ++ u) p [] Normal)
       → CoverNormal (graph targets (m .states) g h) w start (config u q [] Normal)
   cover-normal {x} u e c =
-      let (reading, rest) = drop-reads w (c .place) x u (sym (c .input)) in
-      record { place = advanced (c .place) x; reach = let r = reads-says w (c .place) (length w) x reading in reach-reads x (c .reach) (e (read-of w (c .place) x r)) r; input = sym rest }
+      let (reading, rest) = drop-reads w (c .position) x u (sym (c .input)) in
+      record { position = advanced (c .position) x; reach = let r = reads-says w (c .position) (length w) x reading in reach-reads x (c .reach) (e (read-of w (c .position) x r)) r; input = sym rest }
 
   cover-buffering : {x p q : ℕ} (u v : List ℕ) → (Read w x → Edge (graph targets (m .states) g h) Buffering x p q) → CoverBuffering (graph targets (m .states) g h) w start (config (symbol x ++ u) p v Buffering)
       → CoverBuffering (graph targets (m .states) g h) w start (config u q (v ++ symbol x) Buffering)
   cover-buffering {x} u v e c =
-      let (reading, rest) = drop-reads w (c .place) x u (sym (c .input)) in
+      let (reading, rest) = drop-reads w (c .position) x u (sym (c .input)) in
       record {
         from = c .from;
-        place = advanced (c .place) x;
+        position = advanced (c .position) x;
         first = c .first;
         reach = c .reach;
         stores = c .stores;
-        walk = let r = reads-says w (c .place) (length w) x reading in walk-reads x (c .walk) (e (read-of w (c .place) x r)) r;
-        inside = advanced-fits w (c .place) (length w) x (c .inside) reading .1;
+        walk = let r = reads-says w (c .position) (length w) x reading in walk-reads x (c .walk) (e (read-of w (c .position) x r)) r;
+        inside = advanced-fits w (c .position) (length w) x (c .inside) reading .1;
         input = sym rest;
-        stored = ap (λ (y : List ℕ). y ++ symbol x) (c .stored) ∙ sym (slice-grows w (c .from) (c .place) x (walk-forward (c .walk)) reading);
+        stored = ap (λ (y : List ℕ). y ++ symbol x) (c .stored) ∙ sym (slice-grows w (c .from) (c .position) x (walk-forward (c .walk)) reading);
       }
 
   cover-emptying : {x p q : ℕ} (u v : List ℕ) → (Read w x → Edge (graph targets (m .states) g h) Emptying x p q) → CoverEmptying (graph targets (m .states) g h) w start (config (symbol x ++ u) p (symbol x ++ v) Emptying)
       → CoverEmptying (graph targets (m .states) g h) w start (config u q v Emptying)
-  cover-emptying {x} {p} {q} u v e c = at (reads-says w (c .end + (c .place - c .from)) (length w) x (input .0)) (reads-says w (c .place) (c .end) x (stored .0))
+  cover-emptying {x} {p} {q} u v e c = at (reads-says w (c .end + (c .position - c .from)) (length w) x (input .0)) (reads-says w (c .position) (c .end) x (stored .0))
     where
-      input : (readsLetter w (c .end + (c .place - c .from)) (length w) x ≡ true) × (drop (advanced (c .end + (c .place - c .from)) x) w ≡ u)
-      input = drop-reads w (c .end + (c .place - c .from)) x u (sym (c .input))
+      input : (readsLetter w (c .end + (c .position - c .from)) (length w) x ≡ true) × (drop (advanced (c .end + (c .position - c .from)) x) w ≡ u)
+      input = drop-reads w (c .end + (c .position - c .from)) x u (sym (c .input))
 
-      stored : (readsLetter w (c .place) (c .end) x ≡ true) × (slice (advanced (c .place) x) (c .end) w ≡ v)
-      stored = slice-reads w (c .place) (c .end) x v (let z = c .inside in omega arith) (sym (c .stored))
+      stored : (readsLetter w (c .position) (c .end) x ≡ true) × (slice (advanced (c .position) x) (c .end) w ≡ v)
+      stored = slice-reads w (c .position) (c .end) x v (let z = c .inside in omega arith) (sym (c .stored))
 
       stays : x ≡ 0 → CoverEmptying (graph targets (m .states) g h) w start (config u q v Emptying)
       stays z =
           record {
             from = c .from;
             end = c .end;
-            place = c .place;
+            position = c .position;
             first = c .first;
             middle = c .middle;
             reach = c .reach;
@@ -159,41 +159,41 @@ module _ {m : Machine} {list targets : List ℕ} {g h : ℕ} (w : List ℕ) (t :
             behind = c .behind;
             inside = c .inside;
             same = c .same;
-            input = sym (input .1) ∙ ap (λ (n : ℕ). drop n w) (advanced-zero (c .end + (c .place - c .from)) x z);
-            stored = sym (stored .1) ∙ ap (λ (n : ℕ). slice n (c .end) w) (advanced-zero (c .place) x z);
+            input = sym (input .1) ∙ ap (λ (n : ℕ). drop n w) (advanced-zero (c .end + (c .position - c .from)) x z);
+            stored = sym (stored .1) ∙ ap (λ (n : ℕ). slice n (c .end) w) (advanced-zero (c .position) x z);
           }
 
-      goes : 0 < x → c .end + (c .place - c .from) < length w → getD w (c .end + (c .place - c .from)) 0 ≡ x → c .place < c .end → getD w (c .place) 0 ≡ x
+      goes : 0 < x → c .end + (c .position - c .from) < length w → getD w (c .end + (c .position - c .from)) 0 ≡ x → c .position < c .end → getD w (c .position) 0 ≡ x
           → CoverEmptying (graph targets (m .states) g h) w start (config u q v Emptying)
       goes some lt there before here′ =
           let ge = walk-forward (c .emptying) in
-          let next : suc (c .end + (c .place - c .from)) ≡ c .end + (suc (c .place) - c .from) = omega arith in
+          let next : suc (c .end + (c .position - c .from)) ≡ c .end + (suc (c .position) - c .from) = omega arith in
           record {
             from = c .from;
             end = c .end;
-            place = suc (c .place);
+            position = suc (c .position);
             first = c .first;
             middle = c .middle;
             reach = c .reach;
             stores = c .stores;
             storing = c .storing;
             turns = c .turns;
-            emptying = subst (λ (n : ℕ). Walk (graph targets (m .states) g h) w Emptying (c .from) (c .middle) n q) (advanced-some (c .place) x some) (walk-reads x (c .emptying) (e (inr (c .place, omega arith, here′, some))) (inr (some, omega arith, here′)));
+            emptying = subst (λ (n : ℕ). Walk (graph targets (m .states) g h) w Emptying (c .from) (c .middle) n q) (advanced-some (c .position) x some) (walk-reads x (c .emptying) (e (inr (c .position, omega arith, here′, some))) (inr (some, omega arith, here′)));
             behind = omega arith;
             inside = omega arith;
-            same = λ (t : ℕ) (l : t < suc (c .place) - c .from). one ge there here′ t (ℕ-discrete t (c .place - c .from)) l;
-            input = sym (input .1) ∙ ap (λ (n : ℕ). drop n w) (advanced-some (c .end + (c .place - c .from)) x some ∙ next);
-            stored = sym (stored .1) ∙ ap (λ (n : ℕ). slice n (c .end) w) (advanced-some (c .place) x some);
+            same = λ (t : ℕ) (l : t < suc (c .position) - c .from). one ge there here′ t (ℕ-discrete t (c .position - c .from)) l;
+            input = sym (input .1) ∙ ap (λ (n : ℕ). drop n w) (advanced-some (c .end + (c .position - c .from)) x some ∙ next);
+            stored = sym (stored .1) ∙ ap (λ (n : ℕ). slice n (c .end) w) (advanced-some (c .position) x some);
           }
         where
-          one : c .from ≤ c .place → getD w (c .end + (c .place - c .from)) 0 ≡ x → getD w (c .place) 0 ≡ x → (t : ℕ) → Dec (t ≡ c .place - c .from) → t < suc (c .place) - c .from → getD w (c .from + t) 0 ≡ getD w (c .end + t) 0
+          one : c .from ≤ c .position → getD w (c .end + (c .position - c .from)) 0 ≡ x → getD w (c .position) 0 ≡ x → (t : ℕ) → Dec (t ≡ c .position - c .from) → t < suc (c .position) - c .from → getD w (c .from + t) 0 ≡ getD w (c .end + t) 0
           one ge there here′ t (yes y) l =
-              let at : c .from + t ≡ c .place = omega arith in
+              let at : c .from + t ≡ c .position = omega arith in
               ap (λ (n : ℕ). getD w n 0) at ∙ (here′ ∙ (sym there ∙ ap (λ (n : ℕ). getD w (c .end + n) 0) (sym y)))
           one ge there here′ t (no n) l = c .same t (omega arith)
 
-      at : (x ≡ 0) ⊎ ((0 < x) × (c .end + (c .place - c .from) < length w) × (getD w (c .end + (c .place - c .from)) 0 ≡ x))
-          → (x ≡ 0) ⊎ ((0 < x) × (c .place < c .end) × (getD w (c .place) 0 ≡ x)) → CoverEmptying (graph targets (m .states) g h) w start (config u q v Emptying)
+      at : (x ≡ 0) ⊎ ((0 < x) × (c .end + (c .position - c .from) < length w) × (getD w (c .end + (c .position - c .from)) 0 ≡ x))
+          → (x ≡ 0) ⊎ ((0 < x) × (c .position < c .end) × (getD w (c .position) 0 ≡ x)) → CoverEmptying (graph targets (m .states) g h) w start (config u q v Emptying)
       at (inl z) b = stays z
       at (inr a) (inl z) = stays z
       at (inr a) (inr b) = goes (a .0) (a .1) (a .2) (b .1) (b .2)
@@ -207,22 +207,22 @@ module _ {m : Machine} {list targets : List ℕ} {g h : ℕ} (w : List ℕ) (t :
       cover-emptying {x = x} {p = p} {q = q} u v (λ i. listed-edge t i δ (t .matches p .1 hp, t .matches q .1 hq)) c
   covers (begin-buffering {q = q} {u = u} gq) c =
       record {
-        from = c .place;
-        place = c .place;
+        from = c .position;
+        position = c .position;
         first = q;
         reach = c .reach;
         stores = t .stores q .1 gq;
         walk = still refl here;
         inside = reach-inside (graph targets (m .states) g h) w start (c .reach);
         input = c .input;
-        stored = sym (slice-empty (c .place) w);
+        stored = sym (slice-empty (c .position) w);
       }
   covers (begin-emptying {q = q} {u = u} {v = v} hq) c =
-      let none : c .place + (c .from - c .from) ≡ c .place = omega arith in
+      let none : c .position + (c .from - c .from) ≡ c .position = omega arith in
       record {
         from = c .from;
-        end = c .place;
-        place = c .from;
+        end = c .position;
+        position = c .from;
         first = c .first;
         middle = q;
         reach = c .reach;
@@ -238,9 +238,9 @@ module _ {m : Machine} {list targets : List ℕ} {g h : ℕ} (w : List ℕ) (t :
       }
   covers (back-to-normal {q = q} {u = u} hq) c =
       let room : c .end ≤ length w = let z = c .inside in omega arith in
-      let used : c .place ≡ c .end = slice-none w (c .place) (c .end) (c .behind) room (sym (c .stored)) in
+      let used : c .position ≡ c .end = slice-none w (c .position) (c .end) (c .behind) room (sym (c .stored)) in
       record {
-        place = c .end + (c .place - c .from);
+        position = c .end + (c .position - c .from);
         reach = copies {j = c .end} (c .reach) (c .stores) (walk-forward (c .storing)) (c .storing) (c .turns)
             (subst (λ (n : ℕ). Walk (graph targets (m .states) g h) w Emptying (c .from) (c .middle) n q) used (c .emptying))
             (subst (λ (n : ℕ). (k : ℕ) → k < n - c .from → getD w (c .from + k) 0 ≡ getD w (c .end + k) 0) used (c .same))
@@ -254,9 +254,9 @@ module _ {m : Machine} {list targets : List ℕ} {g h : ℕ} (w : List ℕ) (t :
 
   pub run-reach : {o q : ℕ} {u : List ℕ} → In start o → Run (fsbmOf m list) (config w o [] Normal) (config u q [] Normal) → Reach (graph targets (m .states) g h) w start (length w - length u) q
   run-reach {o} {q} {u} i r =
-      let c = run-covers r (record { place = 0; reach = begins refl i; input = refl }) in
+      let c = run-covers r (record { position = 0; reach = begins refl i; input = refl }) in
       let inside = reach-inside (graph targets (m .states) g h) w start (c .reach) in
-      let all : length u ≡ length (drop (c .place) w) = ap length (c .input) in
-      let z = length-drop (c .place) w in
-      let e : c .place ≡ length w - length u = omega arith in
+      let all : length u ≡ length (drop (c .position) w) = ap length (c .input) in
+      let z = length-drop (c .position) w in
+      let e : c .position ≡ length w - length u = omega arith in
       subst (λ (n : ℕ). Reach (graph targets (m .states) g h) w start n q) e (c .reach)

@@ -26,13 +26,13 @@ use Rattle.images.specs.Graph.{Members, graph, KindsOf}
 use Rattle.decide.specs.Reach.{Reach, Stage}
 use Rattle.decide.specs.Covers.{Covers}
 use Rattle.images.proofs.SetCases.{none-in, some-member}
-use Rattle.decide.proofs.Tables.{Table, initial-says, final-says, buffering-says, matching-says}
+use Rattle.decide.proofs.Tables.{TableOf, initial-says, final-says, buffering-says, matching-says}
 use Rattle.decide.proofs.Runs.{reach-run}
 use Rattle.decide.proofs.Covering.{run-reach}
 use Rattle.decide.proofs.StageCases.{stage-reach}
 
 module _ (m : Machine) (list w targets : List ℕ) (good : wellFormed m list ≡ true) (t : Prepared m list w targets) (k : Kinds) (kinds : KindsOf (m .marks) (m .states) k) where
-  table : Table m list w targets (k .buffering) (k .matching)
+  table : TableOf m list w targets (k .buffering) (k .matching)
   table =
       record {
         rules = rules m list good;

@@ -1,4 +1,4 @@
--- Every state that is reached at a place in normal mode is reached there by a run of the published definition.
+-- Every state that is reached at a position in normal mode is reached there by a run of the published definition.
 --
 -- run-join          == a run and a run from its end
 -- reads-letter      == a letter of the word passes the test of a letter
@@ -22,9 +22,9 @@ use Rattle.fsbm.specs.declared.machine.Machine.{Machine}
 use Rattle.fsbm.specs.declared.config.Mode.the-variants.{Normal, Buffering, Emptying}
 use Rattle.language.specs.Strings.{reads-drop, reads-slice, slice-grows}
 use Rattle.images.specs.Graph.{here, more, graph, Edge, Free}
-use Rattle.decide.specs.Reach.{Walk, still, reads, Matches, Reach, begins, passes, moves, copies}
+use Rattle.decide.specs.Reach.{Walk, still, reads, Square, Reach, begins, passes, moves, copies}
 use Rattle.decide.proofs.CopyCases.{walk-forward, walk-matching}
-use Rattle.decide.proofs.Tables.{Read, Table, edge-listed}
+use Rattle.decide.proofs.Tables.{Read, TableOf, edge-listed}
 
 pub run-join : {M : FSBM} {A B C : Configuration} → Run M A B → Run M B C → Run M A C
 run-join done r = r
@@ -51,7 +51,7 @@ slice-letter w p e x lt le same some = reads-slice w p e x le (reads-letter w p 
 slice-more : (w : List ℕ) (i e x : ℕ) → i ≤ e → e < length w → getD w e 0 ≡ x → 0 < x → slice i (suc e) w ≡ slice i e w ++ symbol x
 slice-more w i e x le lt same some = sym (ap (λ (n : ℕ). slice i n w) (advanced-some e x some)) ∙ slice-grows w i e x le (reads-letter w e (length w) x lt same)
 
-module _ {m : Machine} {list targets : List ℕ} {g h : ℕ} (w : List ℕ) (t : Table m list w targets g h) where
+module _ {m : Machine} {list targets : List ℕ} {g h : ℕ} (w : List ℕ) (t : TableOf m list w targets g h) where
   -- a buffering move, and an emptying move, that reads x
   store-one : {x p q : ℕ} → Read w x → Edge (graph targets (m .states) g h) Buffering x p q → (u v : List ℕ) → Yields (fsbmOf m list) (config (symbol x ++ u) p v Buffering) (config u q (v ++ symbol x) Buffering)
   store-one {x} {p} {q} i e u v =
@@ -90,7 +90,7 @@ module _ {m : Machine} {list targets : List ℕ} {g h : ℕ} (w : List ℕ) (t :
       (run-join (run-one (storing-run v) step) (store-free (a .free) (drop (suc k) w) (slice i (suc k) w)))
 
   -- the letters from i up to k are taken from the buffer, and stand in the word from j on
-  emptying-run : (i j : ℕ) → i ≤ j → j + (j - i) ≤ length w → Matches w i j → {s k q : ℕ} → Walk (graph targets (m .states) g h) w Emptying i s k q → k ≤ j
+  emptying-run : (i j : ℕ) → i ≤ j → j + (j - i) ≤ length w → Square w i j → {s k q : ℕ} → Walk (graph targets (m .states) g h) w Emptying i s k q → k ≤ j
       → Run (fsbmOf m list) (config (drop j w) s (slice i j w) Emptying) (config (drop (j + (k - i)) w) q (slice k j w) Emptying)
   emptying-run i j ij room same {s} {k} {q} (still e f) le =
       let at : j ≡ j + (k - i) = omega arith in
@@ -111,23 +111,23 @@ module _ {m : Machine} {list targets : List ℕ} {g h : ℕ} (w : List ℕ) (t :
       (run-join (run-one (emptying-run i j ij room same v (omega arith)) step) (empty-free (a .free) (drop (suc (j + (o - i))) w) (slice (suc o) j w)))
 
   copy-run : {i j k p s q : ℕ} → In g p → i ≤ j → Walk (graph targets (m .states) g h) w Buffering i p j s → In h s → Walk (graph targets (m .states) g h) w Emptying i s j q
-      → Matches w i j → k ≡ j + (j - i) → k ≤ length w → Run (fsbmOf m list) (config (drop i w) p [] Normal) (config (drop k w) q [] Normal)
-  copy-run {i} {j} {k} {p} {s} {q} gp le v hs y same place in-word =
+      → Square w i j → k ≡ j + (j - i) → k ≤ length w → Run (fsbmOf m list) (config (drop i w) p [] Normal) (config (drop k w) q [] Normal)
+  copy-run {i} {j} {k} {p} {s} {q} gp le v hs y same position in-word =
       let turn = run-one (Run.more (begin-buffering (t .stores p .0 gp)) (storing-run v)) (begin-emptying (t .matches s .0 hs)) in
       let read = emptying-run i j le (omega arith) same y (omega arith) in
       let whole = run-join turn read in
       let ended = subst (λ (z : List ℕ). Run (fsbmOf m list) (config (drop i w) p [] Normal) (config (drop (j + (j - i)) w) q z Emptying)) (slice-empty j w) whole in
-      subst (λ (n : ℕ). Run (fsbmOf m list) (config (drop i w) p [] Normal) (config (drop n w) q [] Normal)) (sym place)
+      subst (λ (n : ℕ). Run (fsbmOf m list) (config (drop i w) p [] Normal) (config (drop n w) q [] Normal)) (sym position)
       (run-one ended (back-to-normal (t .matches q .0 (walk-matching hs y))))
 
   pub reach-run : {start k q : ℕ} → Reach (graph targets (m .states) g h) w start k q → (o : ℕ) × In start o × Run (fsbmOf m list) (config w o [] Normal) (config (drop k w) q [] Normal)
   reach-run {q = q} (begins e i) = (q, i, subst (λ (n : ℕ). Run (fsbmOf m list) (config w q [] Normal) (config (drop n w) q [] Normal)) (sym e) done)
   reach-run {k = k} (passes r e) = let (o, i, run) = reach-run r in (o, i, run-one run (normal-one (inl refl) e (drop k w)))
-  reach-run {q = q} (moves {i = k} {p = p} r lt some e place) =
+  reach-run {q = q} (moves {i = k} {p = p} r lt some e position) =
       let (o, i, run) = reach-run r in
       let x = getD w k 0 in
       let step = subst (λ (u : List ℕ). Yields (fsbmOf m list) (config u p [] Normal) (config (drop (suc k) w) q [] Normal)) (sym (drop-letter w k x lt refl some)) (normal-one (inr (k, lt, refl, some)) e (drop (suc k) w)) in
-      (o, i, subst (λ (n : ℕ). Run (fsbmOf m list) (config w o [] Normal) (config (drop n w) q [] Normal)) (sym place) (run-one run step))
-  reach-run (copies r gp le v hs y same place in-word) =
+      (o, i, subst (λ (n : ℕ). Run (fsbmOf m list) (config w o [] Normal) (config (drop n w) q [] Normal)) (sym position) (run-one run step))
+  reach-run (copies r gp le v hs y same position in-word) =
       let (o, i, run) = reach-run r in
-      (o, i, run-join run (copy-run gp le v hs y same place in-word))
+      (o, i, run-join run (copy-run gp le v hs y same position in-word))

@@ -1,11 +1,11 @@
--- The ways through pass_place, and what each place adds to what is known of the sets.
+-- The ways through pass_position, and what each position adds to what is known of the sets.
 --
--- passed-none, passed-over, passed-read, passed-copies == the ways through pass_place
--- turns           == what is reached at a place by epsilon moves and empty copies from what is reached there
+-- passed-none, passed-over, passed-read, passed-copies == the ways through pass_position
+-- turns           == what is reached at a position by epsilon moves and empty copies from what is reached there
 -- stage-start     == the sets at the start of a word
--- stage-turn      == one place more
--- stage-to        == the same at an equal place
--- stage-reach     == at the end the sets are those of the reached states; stage-end: that of the last place
+-- stage-turn      == one position more
+-- stage-to        == the same at an equal position
+-- stage-reach     == at the end the sets are those of the reached states; stage-end: that of the last position
 use Prim.Native.Nat.{ℕ, suc, _+_, _-_, _^_, _≤_, _<_}
 use mathlib.Core.Path.{_≡_, refl, sym, ap, _∙_, subst}
 use mathlib.Core.Logic.{_↔_, _⊎_, inl, inr}
@@ -20,11 +20,11 @@ use Rattle.stateset.specs.Set.Laws.{in-and}
 use Rattle.fsbm.specs.declared.config.Mode.the-variants.{Normal, Buffering, Emptying}
 use Rattle.basics.specs.Lists.{zeros-at}
 use Rattle.images.specs.Graph.{Members, Fitting, From, Star, here, more, Graph, Edge, Turn}
-use Rattle.decide.specs.Reach.{Walk, still, Matches, Reach, begins, passes, moves, copies, CopyTo, Copied, ReadTo, Passed, Stage}
+use Rattle.decide.specs.Reach.{Walk, still, Square, Reach, begins, passes, moves, copies, CopyTo, Copied, ReadTo, Passed, Stage}
 use Rattle.images.proofs.SetCases.{none-in, row-cases}
 use Rattle.decide.proofs.CopyCases.{walk-free}
 
--- a set at one place changes
+-- a set at one position changes
 pub fitting-set : (a : List ℕ) (i v : ℕ) → Fitting 256 a → i < 256 → v < 2 ^ width → Fitting 256 (set a i v)
 fitting-set a i v f lt fits =
     record {
@@ -56,7 +56,7 @@ module _ (G : Graph) (w : List ℕ) (a : List ℕ) (i near : ℕ) (fit : Fitting
   pub passed-over : length w ≤ i → Passed G w a (set a i near) i
   passed-over le = passed-same
       (λ k q r. let z = r .inside in absurd (omega arith))
-      (λ k q c. let z = c .inside in let y = c .place in let x = c .some in absurd (omega arith))
+      (λ k q c. let z = c .inside in let y = c .position in let x = c .some in absurd (omega arith))
 
   module _ (read u : ℕ) (lt : i < length w) (short : length w ≤ 255) (reading : Members read (λ q. (0 < getD w i 0) × From near (Edge G Normal (getD w i 0)) q))
       (union : Members u (λ q. In (getD (set a i near) (i + 1) 0) q ⊎ In read q)) where
@@ -75,7 +75,7 @@ module _ (G : Graph) (w : List ℕ) (a : List ℕ) (i near : ℕ) (fit : Fitting
       where
         to : In (getD (set a i near) (i + 1) 0) q ⊎ In read q → In (getD (set a i near) (i + 1) 0) q ⊎ ReadTo G w i near (i + 1) q
         to (inl h) = inl h
-        to (inr h) = let z = reading .members q .0 h in inr (record { place = omega arith; inside = lt; letter = z .0; from = z .1 })
+        to (inr h) = let z = reading .members q .0 h in inr (record { position = omega arith; inside = lt; letter = z .0; from = z .1 })
 
         back : In (getD (set a i near) (i + 1) 0) q ⊎ ReadTo G w i near (i + 1) q → In (getD (set a i near) (i + 1) 0) q ⊎ In read q
         back (inl h) = inl h
@@ -83,7 +83,7 @@ module _ (G : Graph) (w : List ℕ) (a : List ℕ) (i near : ℕ) (fit : Fitting
 
         elsewhere : (k : ℕ) → (k ≡ i + 1 → ⊥) → In (getD (set a i near) k 0) q ⊎ ReadTo G w i near k q → In (getD (set a i near) k 0) q
         elsewhere k n (inl h) = h
-        elsewhere k n (inr r) = let z = r .place in absurd (n (omega arith))
+        elsewhere k n (inr r) = let z = r .position in absurd (n (omega arith))
 
     pub passed-read : (starts : ℕ) → starts ≡ bitAnd near (G .buffering) → starts ≡ 0 → Passed G w a (set (set a i near) (i + 1) u) i
     passed-read starts value e =
@@ -139,7 +139,7 @@ stage-start G w start fits =
     }
 
 module _ (G : Graph) (w : List ℕ) (start : ℕ) where
-  -- what is reached at a place in epsilon moves and empty copies is reached there
+  -- what is reached at a position in epsilon moves and empty copies is reached there
   pub turns : {k p q : ℕ} → k ≤ length w → Reach G w start k p → Star (Turn G) p q → Reach G w start k q
   turns {k} {p} le h here = h
   turns {k} {p} {q} le h (more {q = r} s t) = one (turns le h s) t
@@ -162,13 +162,13 @@ module _ (G : Graph) (w : List ℕ) (start : ℕ) where
 
     sound : (k q : ℕ) → In (getD (set a i (ps .near)) k 0) q ⊎ (ReadTo G w i (ps .near) k q ⊎ CopyTo G w i (bitAnd (ps .near) (G .buffering)) k q) → Reach G w start k q
     sound k q (inl h) = at-sound k q h
-    sound k q (inr (inl r)) = moves (near-sound (r .from .0) (r .from .1)) (r .inside) (r .letter) (r .from .2) (r .place)
+    sound k q (inr (inl r)) = moves (near-sound (r .from .0) (r .from .1)) (r .inside) (r .letter) (r .from .2) (r .position)
     sound k q (inr (inr c)) =
         let z = in-and (ps .near) (G .buffering) (c .from) .0 (c .begins) in
         let lt = c .some in
-        copies {j = c .end} (near-sound (c .from) (z .0)) (z .1) (omega arith) (c .storing) (c .turns) (c .emptying) (c .same) (c .place) (c .inside)
+        copies {j = c .end} (near-sound (c .from) (z .0)) (z .1) (omega arith) (c .storing) (c .turns) (c .emptying) (c .same) (c .position) (c .inside)
 
-    -- at place i the set is the completed one; below it nothing changes; no set loses a member
+    -- at position i the set is the completed one; below it nothing changes; no set loses a member
     into-near : (q : ℕ) → In (ps .near) q → In (getD b i 0) q
     into-near q h = ps .members i q .1 (inl (subst (λ (n : ℕ). In n q) (sym (getD-set-same a i (ps .near) 0 inside)) h))
 
@@ -177,16 +177,16 @@ module _ (G : Graph) (w : List ℕ) (start : ℕ) where
       where
         at : In (getD (set a i (ps .near)) i 0) q ⊎ (ReadTo G w i (ps .near) i q ⊎ CopyTo G w i (bitAnd (ps .near) (G .buffering)) i q) → In (ps .near) q
         at (inl y) = subst (λ (n : ℕ). In n q) (getD-set-same a i (ps .near) 0 inside) y
-        at (inr (inl r)) = let z = r .place in absurd (omega arith)
-        at (inr (inr c)) = let z = c .place in let y = c .some in absurd (omega arith)
+        at (inr (inl r)) = let z = r .position in absurd (omega arith)
+        at (inr (inr c)) = let z = c .position in let y = c .some in absurd (omega arith)
 
     lower : (k q : ℕ) → k < i → In (getD b k 0) q → In (getD a k 0) q
     lower k q lt h = at (ps .members k q .0 h)
       where
         at : In (getD (set a i (ps .near)) k 0) q ⊎ (ReadTo G w i (ps .near) k q ⊎ CopyTo G w i (bitAnd (ps .near) (G .buffering)) k q) → In (getD a k 0) q
         at (inl y) = subst (λ (n : ℕ). In n q) (getD-set-other a i k (ps .near) 0 (λ (e : k ≡ i). absurd (omega arith))) y
-        at (inr (inl r)) = let z = r .place in absurd (omega arith)
-        at (inr (inr c)) = let z = c .place in let y = c .some in absurd (omega arith)
+        at (inr (inl r)) = let z = r .position in absurd (omega arith)
+        at (inr (inr c)) = let z = c .position in let y = c .some in absurd (omega arith)
 
     grows : (k q : ℕ) → In (getD a k 0) q → In (getD b k 0) q
     grows k q h = at (ℕ-discrete k i)
@@ -197,7 +197,7 @@ module _ (G : Graph) (w : List ℕ) (start : ℕ) where
             subst (λ (n : ℕ). In (getD b n 0) q) (sym e) (into-near q (ps .completes .members q .1 (q, h′, here)))
         at (no n) = ps .members k q .1 (inl (subst (λ (y : ℕ). In y q) (sym (getD-set-other a i k (ps .near) 0 n)) h))
 
-    -- a step at place i stays in the completed set
+    -- a step at position i stays in the completed set
     near-turn : (p q : ℕ) → In (ps .near) p → Turn G p q → In (ps .near) q
     near-turn p q h t = let z = ps .completes .members p .0 h in ps .completes .members q .1 (z .0, z .1, more (z .2) t)
 
@@ -218,12 +218,12 @@ module _ (G : Graph) (w : List ℕ) (start : ℕ) where
             let h′ = subst (λ (n : ℕ). In (getD b n 0) p) y h in
             let e′ = subst (λ (n : ℕ). Edge G Normal (getD w n 0) p q) y e in
             let some′ = subst (λ (n : ℕ). 0 < getD w n 0) y some in
-            ps .members (suc k) q .1 (inr (inl (record { place = ap suc y; inside = omega arith; letter = some′; from = (p, from-near p h′, e′) })))
+            ps .members (suc k) q .1 (inr (inl (record { position = ap suc y; inside = omega arith; letter = some′; from = (p, from-near p h′, e′) })))
         at (no n) = grows (suc k) q (st .read k p q (omega arith) in-word some (lower k p (omega arith) h) e)
 
     copied-here : (j k p s q : ℕ) → In (ps .near) p → In (G .buffering) p → i ≤ j → Walk G w Buffering i p j s → In (G .matching) s
-        → Walk G w Emptying i s j q → Matches w i j → k ≡ j + (j - i) → k ≤ length w → In (getD b k 0) q
-    copied-here j k p s q h g ge v m y same place in-word = at (ℕ-discrete j i)
+        → Walk G w Emptying i s j q → Square w i j → k ≡ j + (j - i) → k ≤ length w → In (getD b k 0) q
+    copied-here j k p s q h g ge v m y same position in-word = at (ℕ-discrete j i)
       where
         at : Dec (j ≡ i) → In (getD b k 0) q
         at (yes e) =
@@ -243,13 +243,13 @@ module _ (G : Graph) (w : List ℕ) (start : ℕ) where
               turns = m;
               emptying = y;
               same = same;
-              place = place;
+              position = position;
               inside = in-word;
             })))
 
     copied : (o j k p s q : ℕ) → o < i + 1 → In (getD b o 0) p → In (G .buffering) p → o ≤ j → Walk G w Buffering o p j s → In (G .matching) s
-        → Walk G w Emptying o s j q → Matches w o j → k ≡ j + (j - o) → k ≤ length w → In (getD b k 0) q
-    copied o j k p s q lt h g ge v m y same place in-word = at (ℕ-discrete o i)
+        → Walk G w Emptying o s j q → Square w o j → k ≡ j + (j - o) → k ≤ length w → In (getD b k 0) q
+    copied o j k p s q lt h g ge v m y same position in-word = at (ℕ-discrete o i)
       where
         at : Dec (o ≡ i) → In (getD b k 0) q
         at (yes e) =
@@ -257,9 +257,9 @@ module _ (G : Graph) (w : List ℕ) (start : ℕ) where
             (from-near p (subst (λ (n : ℕ). In (getD b n 0) p) e h)) g (omega arith)
             (subst (λ (n : ℕ). Walk G w Buffering n p j s) e v) m
             (subst (λ (n : ℕ). Walk G w Emptying n s j q) e y)
-            (subst (λ (n : ℕ). Matches w n j) e same)
-            (subst (λ (n : ℕ). k ≡ j + (j - n)) e place) in-word
-        at (no n) = grows k q (st .copied o j k p s q (omega arith) (lower o p (omega arith) h) g ge v m y same place in-word)
+            (subst (λ (n : ℕ). Square w n j) e same)
+            (subst (λ (n : ℕ). k ≡ j + (j - n)) e position) in-word
+        at (no n) = grows k q (st .copied o j k p s q (omega arith) (lower o p (omega arith) h) g ge v m y same position in-word)
 
     pub stage-turn : Stage G w start b (i + 1)
     stage-turn =
@@ -281,10 +281,10 @@ module _ (G : Graph) (w : List ℕ) (start : ℕ) where
   pub stage-reach : (sets : List ℕ) (t : ℕ) → Stage G w start sets t → length w < t → {k q : ℕ} → Reach G w start k q → In (getD sets k 0) q
   stage-reach sets t st lt {k} {q} (begins e h) = subst (λ (n : ℕ). In (getD sets n 0) q) (sym e) (st .begun q h)
   stage-reach sets t st lt {k} {q} (passes {p = p} h e) = st .passed k p q (let z = reach-inside h in omega arith) (stage-reach sets t st lt h) e
-  stage-reach sets t st lt {k} {q} (moves {i = i} {p = p} h in-word some e place) =
-      subst (λ (n : ℕ). In (getD sets n 0) q) (sym place) (st .read i p q (omega arith) in-word some (stage-reach sets t st lt h) e)
-  stage-reach sets t st lt {k} {q} (copies {i = i} {j = j} {p = p} {s = s} h g ge v m y same place in-word) =
-      st .copied i j k p s q (let z = reach-inside h in omega arith) (stage-reach sets t st lt h) g ge v m y same place in-word
+  stage-reach sets t st lt {k} {q} (moves {i = i} {p = p} h in-word some e position) =
+      subst (λ (n : ℕ). In (getD sets n 0) q) (sym position) (st .read i p q (omega arith) in-word some (stage-reach sets t st lt h) e)
+  stage-reach sets t st lt {k} {q} (copies {i = i} {j = j} {p = p} {s = s} h g ge v m y same position in-word) =
+      st .copied i j k p s q (let z = reach-inside h in omega arith) (stage-reach sets t st lt h) g ge v m y same position in-word
 
 pub stage-to : (G : Graph) (w : List ℕ) (start : ℕ) (sets : List ℕ) (t u : ℕ) → t ≡ u → Stage G w start sets t → Stage G w start sets u
 stage-to G w start sets t u e s = subst (λ (n : ℕ). Stage G w start sets n) e s

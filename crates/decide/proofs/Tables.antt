@@ -4,7 +4,7 @@
 -- good-table, rooms == a prepared table is one that the functions on sets ask for
 -- row-read          == it has the row of each letter that is read
 -- kind-says         == a set made of one bit of the marks is the set of the states of that kind
--- Table m list w targets g h == the table of m's list for the letters of w, the set of its buffering states, the set of its matching states
+-- TableOf m list w targets g h == the table of m's list for the letters of w, the set of its buffering states, the set of its matching states
 -- edge-listed, listed-edge == an edge of a letter of w, or of epsilon, is a transition that the mode may take
 use Prim.Native.Nat.{ℕ, _/_, _%_, _<_}
 use mathlib.Core.Path.{_≡_, sym, subst}
@@ -88,13 +88,13 @@ module _ (m : Machine) (list : List ℕ) (s : Rules m list) (set : ℕ) where
       same : (y : ℕ) → y % 2 ≡ 1 → y / 1 % 2 ≡ 1
       same y e = omega arith
 
-pub record Table (m : Machine) (list w targets : List ℕ) (g h : ℕ) : Type 0 where
+pub record TableOf (m : Machine) (list w targets : List ℕ) (g h : ℕ) : Type 0 where
   pub rules : Rules m list
   pub holds : Prepared m list w targets
   pub stores : (q : ℕ) → In g q ↔ (buffering (m .marks) q ≡ true)
   pub matches : (q : ℕ) → In h q ↔ (matching (m .marks) q ≡ true)
 
-module _ {m : Machine} {list w targets : List ℕ} {g h : ℕ} (t : Table m list w targets g h) where
+module _ {m : Machine} {list w targets : List ℕ} {g h : ℕ} (t : TableOf m list w targets g h) where
   pub edge-listed : {T : Mode} {y p q : ℕ} → Read w y → Edge (graph targets (m .states) g h) T y p q → Listed list (m .transitions) p y q
   edge-listed {y = y} {p = p} {q = q} r e = row-read (t .holds) r .listed p q (e .state) .0 (e .target)
 

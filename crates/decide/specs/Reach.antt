@@ -1,16 +1,16 @@
--- The states that a run reaches at each place in normal mode, copies taken as one step.
+-- The states that a run reaches at each position in normal mode, copies taken as one step.
 --
 -- Rooms targets states w   == the table has room for the row of each letter of w
 -- Walk G w T i p j q       == in mode T the letters of w from i up to j lead from p to q
--- Tailed G w i tail        == what the tail has reached is what emptying walks from i up to its place reach from its set
--- Matches w i j            == the letters of w from i up to j stand once more from j on
+-- Tailed G w i tail        == what the tail has reached is what emptying walks from i up to its position reach from its set
+-- Square w i j            == the letters of w from i up to j stand once more from j on
 -- LastSquare w i r         == no square of w that starts at i is longer than the one up to r and as far again
--- Reach G w start k q      == some run from a state of the set start is in state q at place k in normal mode
--- CopyTo G w i starts k q  == a copy of at least one letter that begins at place i in a state of the set starts ends at k in q
+-- Reach G w start k q      == some run from a state of the set start is in state q at position k in normal mode
+-- CopyTo G w i starts k q  == a copy of at least one letter that begins at position i in a state of the set starts ends at k in q
 -- Copied G w i starts a b  == the sets b are the sets a with what such copies reach
--- ReadTo G w i near k q     == a normal move from a state of the set near reads the letter at i and ends at place k in q
--- Passed G w a b i         == the sets b are the sets a once place i is completed and what it reaches at later places is added
--- Stage G w start sets t   == the sets of the places below t are complete; every member of a set is reached
+-- ReadTo G w i near k q     == a normal move from a state of the set near reads the letter at i and ends at position k in q
+-- Passed G w a b i         == the sets b are the sets a once position i is completed and what it reaches at later positions is added
+-- Stage G w start sets t   == the sets of the positions below t are complete; every member of a set is reached
 use Prim.Native.Nat.{ℕ, suc, _+_, _-_, _≤_, _<_}
 use mathlib.Core.Path.{_≡_}
 use mathlib.Core.Logic.{_↔_, _⊎_}
@@ -31,23 +31,23 @@ pub data Walk (G : Graph) (w : List ℕ) (T : Mode) (i p : ℕ) : ℕ → ℕ �
   reads : {j k q r : ℕ} → Walk G w T i p j q → j < length w → Advance G T (getD w j 0) q r → k ≡ suc j → Walk G w T i p k r
 
 pub record Tailed (G : Graph) (w : List ℕ) (i : ℕ) (tail : Tail) : Type 0 where
-  pub from : i ≤ tail .place
-  pub walked : Members (tail .reached) (From (tail .ready) (λ p q. Walk G w Emptying i p (tail .place) q))
+  pub from : i ≤ tail .position
+  pub walked : Members (tail .reached) (From (tail .ready) (λ p q. Walk G w Emptying i p (tail .position) q))
 
-abbrev pub Matches : List ℕ → ℕ → ℕ → Type 0
-Matches w i j = (t : ℕ) → t < j - i → getD w (i + t) 0 ≡ getD w (j + t) 0
+abbrev pub Square : List ℕ → ℕ → ℕ → Type 0
+Square w i j = (t : ℕ) → t < j - i → getD w (i + t) 0 ≡ getD w (j + t) 0
 
 pub record LastSquare (w : List ℕ) (i r : ℕ) : Type 0 where
   pub from : i ≤ r
   pub room : r + (r - i) ≤ length w
-  pub last : (j : ℕ) → r < j → j + (j - i) ≤ length w → Matches w i j → ⊥
+  pub last : (j : ℕ) → r < j → j + (j - i) ≤ length w → Square w i j → ⊥
 
 pub data Reach (G : Graph) (w : List ℕ) (start : ℕ) : ℕ → ℕ → Type 0 where
   begins : {k q : ℕ} → k ≡ 0 → In start q → Reach G w start k q
   passes : {k p q : ℕ} → Reach G w start k p → Edge G Normal 0 p q → Reach G w start k q
   moves : {i k p q : ℕ} → Reach G w start i p → i < length w → 0 < getD w i 0 → Edge G Normal (getD w i 0) p q → k ≡ suc i → Reach G w start k q
   copies : {i j k p s q : ℕ} → Reach G w start i p → In (G .buffering) p → i ≤ j → Walk G w Buffering i p j s → In (G .matching) s
-      → Walk G w Emptying i s j q → Matches w i j → k ≡ j + (j - i) → k ≤ length w → Reach G w start k q
+      → Walk G w Emptying i s j q → Square w i j → k ≡ j + (j - i) → k ≤ length w → Reach G w start k q
 
 pub record CopyTo (G : Graph) (w : List ℕ) (i starts k q : ℕ) : Type 0 where
   pub from : ℕ
@@ -58,8 +58,8 @@ pub record CopyTo (G : Graph) (w : List ℕ) (i starts k q : ℕ) : Type 0 where
   pub storing : Walk G w Buffering i from end middle
   pub turns : In (G .matching) middle
   pub emptying : Walk G w Emptying i middle end q
-  pub same : Matches w i end
-  pub place : k ≡ end + (end - i)
+  pub same : Square w i end
+  pub position : k ≡ end + (end - i)
   pub inside : k ≤ length w
 
 pub record Copied (G : Graph) (w : List ℕ) (i starts : ℕ) (a b : List ℕ) : Type 0 where
@@ -67,7 +67,7 @@ pub record Copied (G : Graph) (w : List ℕ) (i starts : ℕ) (a b : List ℕ) :
   pub members : (k q : ℕ) → In (getD b k 0) q ↔ (In (getD a k 0) q ⊎ CopyTo G w i starts k q)
 
 pub record ReadTo (G : Graph) (w : List ℕ) (i near k q : ℕ) : Type 0 where
-  pub place : k ≡ suc i
+  pub position : k ≡ suc i
   pub inside : i < length w
   pub letter : 0 < getD w i 0
   pub from : From near (Edge G Normal (getD w i 0)) q
@@ -85,4 +85,4 @@ pub record Stage (G : Graph) (w : List ℕ) (start : ℕ) (sets : List ℕ) (t :
   pub passed : (k p q : ℕ) → k < t → In (getD sets k 0) p → Edge G Normal 0 p q → In (getD sets k 0) q
   pub read : (k p q : ℕ) → k < t → k < length w → 0 < getD w k 0 → In (getD sets k 0) p → Edge G Normal (getD w k 0) p q → In (getD sets (suc k) 0) q
   pub copied : (i j k p s q : ℕ) → i < t → In (getD sets i 0) p → In (G .buffering) p → i ≤ j → Walk G w Buffering i p j s → In (G .matching) s
-      → Walk G w Emptying i s j q → Matches w i j → k ≡ j + (j - i) → k ≤ length w → In (getD sets k 0) q
+      → Walk G w Emptying i s j q → Square w i j → k ≡ j + (j - i) → k ≤ length w → In (getD sets k 0) q

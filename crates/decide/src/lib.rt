@@ -2,7 +2,7 @@
 //
 // walks    the states that a stretch of letters leads to
 // squares  stretches of a word that stand twice in a row
-// places   the states reached at each place of a word; decide
-pub mod places;
+// positions   the states reached at each position of a word; decide
+pub mod positions;
 pub mod squares;
 pub mod walks;

@@ -4,10 +4,10 @@ ghost use mathlib.Core.Path.{_≡_};
 ghost use mathlib.Core.Logic.{_⊎_};
 ghost use lib.ListN.{length};
 ghost use Rattle.decide.specs.Reach.{LastSquare};
-ghost use Rattle.decide.specs.Squares.{RunEnd, Ends, EndsAt, Ended, Squared, Turning};
+ghost use Rattle.decide.specs.Squares.{RunEnd, RepeatEnds, RepeatEndsAt, Ended, Squared, Turning};
 use fsbm::limits::POSITIONS;
 
-// The first place from q up to stop where the letter is not the one d places before it; stop where there is none.
+// The first position from q up to stop where the letter is not the one d positions before it; stop where there is none.
 fn run_end(word: &[u8], d: usize, q: usize, stop: usize) -> usize
     requires { ⌜ (d ≤ q) × (q ≤ stop) × (stop ≤ length (now word)) ⌝ }
     ensures { λ r. ⌜ RunEnd (now (word .entry)) d q stop r ⌝ }
@@ -32,10 +32,10 @@ fn later(a: usize, b: usize) -> usize
     a
 }
 
-// A place up to which the letters from q on repeat those d places before them; where it is before stop, the letter there does not. It
-// goes on from the place up to which letters were compared before at this distance.
+// A position up to which the letters from q on repeat those d positions before them; where it is before stop, the letter there does not. It
+// goes on from the position up to which letters were compared before at this distance.
 fn known_end(word: &[u8], ends: &mut [u8; POSITIONS], d: usize, q: usize, stop: usize) -> usize
-    requires { ⌜ (0 < d) × (d ≤ q) × (q ≤ stop) × (stop ≤ length (now word)) × (length (now word) ≤ 255) × EndsAt (now word) (now ends) d q ⌝ }
+    requires { ⌜ (0 < d) × (d ≤ q) × (q ≤ stop) × (stop ≤ length (now word)) × (length (now word) ≤ 255) × RepeatEndsAt (now word) (now ends) d q ⌝ }
     ensures { λ r. ⌜ Ended (now (word .entry)) (now (ends .entry)) (now (ends .exit)) d q stop r ⌝ }
 {
     let e = ends[d] as usize;
@@ -49,7 +49,7 @@ fn known_end(word: &[u8], ends: &mut [u8; POSITIONS], d: usize, q: usize, stop: 
 
 // Whether the letters from i up to j stand once more from j on. Letters that were found the same before are not compared again.
 fn is_square(word: &[u8], ends: &mut [u8; POSITIONS], i: usize, j: usize) -> bool
-    requires { ⌜ (i < j) × (j + (j - i) ≤ length (now word)) × (length (now word) ≤ 255) × EndsAt (now word) (now ends) (j - i) j ⌝ }
+    requires { ⌜ (i < j) × (j + (j - i) ≤ length (now word)) × (length (now word) ≤ 255) × RepeatEndsAt (now word) (now ends) (j - i) j ⌝ }
     ensures { λ r. ⌜ Squared (now (word .entry)) (now (ends .entry)) (now (ends .exit)) i j r ⌝ }
 {
     let d = j - i;
@@ -62,8 +62,8 @@ fn is_square(word: &[u8], ends: &mut [u8; POSITIONS], i: usize, j: usize) -> boo
 
 // The end of the first half of the longest square that starts at i; i where there is none.
 pub fn last_square(word: &[u8], ends: &mut [u8; POSITIONS], i: usize) -> usize
-    requires { ⌜ (i ≤ length (now word)) × (length (now word) ≤ 255) × Ends (now word) (now ends) (λ d. i + d) ⌝ }
-    ensures { λ r. ⌜ Ends (now (word .entry)) (now (ends .exit)) (λ d. i + d) × LastSquare (now (word .entry)) i r ⌝ }
+    requires { ⌜ (i ≤ length (now word)) × (length (now word) ≤ 255) × RepeatEnds (now word) (now ends) (λ d. i + d) ⌝ }
+    ensures { λ r. ⌜ RepeatEnds (now (word .entry)) (now (ends .exit)) (λ d. i + d) × LastSquare (now (word .entry)) i r ⌝ }
 {
     let mut j = i + (word.len() - i) / 2;
     while i < j {
@@ -77,7 +77,7 @@ pub fn last_square(word: &[u8], ends: &mut [u8; POSITIONS], i: usize) -> usize
 
 // The states of s with which storing ends at j, where the letters from i up to j stand once more from j on.
 pub fn turning(h: u64, word: &[u8], ends: &mut [u8; POSITIONS], i: usize, j: usize, s: u64) -> u64
-    requires { ⌜ (i < j) × (j + (j - i) ≤ length (now word)) × (length (now word) ≤ 255) × EndsAt (now word) (now ends) (j - i) j ⌝ }
+    requires { ⌜ (i < j) × (j + (j - i) ≤ length (now word)) × (length (now word) ≤ 255) × RepeatEndsAt (now word) (now ends) (j - i) j ⌝ }
     ensures { λ r. ⌜ Turning h (now (word .entry)) (now (ends .entry)) (now (ends .exit)) i j s r ⌝ }
 {
     let ready = stateset::intersection(s, h);

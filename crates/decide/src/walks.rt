@@ -36,10 +36,10 @@ fn walk_on(
     near
 }
 
-// The matching half of copies that were followed last: from the states of ready the letters up to place lead to the states of reached.
+// The matching half of copies that were followed last: from the states of ready the letters up to position lead to the states of reached.
 pub struct Tail {
     pub ready: u64,
-    pub place: usize,
+    pub position: usize,
     pub reached: u64,
 }
 
@@ -56,8 +56,8 @@ pub fn tail_to(
     ready: u64,
     tail: Tail,
 ) -> Tail
-    requires { ⌜ Good (now targets) states g h × Rooms (now targets) states (now word) × Tailed (graph (now targets) states g h) (now word) i tail × (tail .place ≤ j) × (j ≤ length (now word)) ⌝ }
-    ensures { λ r. ⌜ Tailed (graph (now (targets .entry)) states g h) (now (word .entry)) i r × (r .ready ≡ ready) × (r .place ≡ j) ⌝ }
+    requires { ⌜ Good (now targets) states g h × Rooms (now targets) states (now word) × Tailed (graph (now targets) states g h) (now word) i tail × (tail .position ≤ j) × (j ≤ length (now word)) ⌝ }
+    ensures { λ r. ⌜ Tailed (graph (now (targets .entry)) states g h) (now (word .entry)) i r × (r .ready ≡ ready) × (r .position ≡ j) ⌝ }
 {
     if tail.ready == ready {
         let on = walk_on(
@@ -67,13 +67,13 @@ pub fn tail_to(
             h,
             Mode::Emptying,
             word,
-            tail.place,
+            tail.position,
             j,
             tail.reached,
         );
         return Tail {
             ready: ready,
-            place: j,
+            position: j,
             reached: on,
         };
     }
@@ -81,7 +81,7 @@ pub fn tail_to(
     let anew = walk_on(targets, states, g, h, Mode::Emptying, word, i, j, near);
     Tail {
         ready: ready,
-        place: j,
+        position: j,
         reached: anew,
     }
 }

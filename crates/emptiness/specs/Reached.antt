@@ -3,7 +3,7 @@
 -- At s T q             == q is in the set for mode T
 -- Turns g h T q        == the kind of q lets mode T change there: g has the buffering states, h the matching states
 -- Grown s r            == the sets of r hold those of s
--- Next set barred p q r == r holds the set, and q where p is in the set and the way is not barred
+-- WithNext set barred p q r == r holds the set, and q where p is in the set and the way is not barred
 -- Apart g p q s r      == the sets with q where a transition from p to q leads there in normal and in buffering mode
 -- Crossed g h p q s r  == r has q in each mode that may take a transition from p to q and has p in s
 -- Moved g h p q s r    == the sets with q where a transition from p to q leads there
@@ -37,7 +37,7 @@ Turns g h Emptying q = In h q
 abbrev pub Grown : Reached → Reached → Type 0
 Grown s r = (T : Mode) (q : ℕ) → At s T q → At r T q
 
-pub record Next (set : ℕ) (barred : Bool) (p q r : ℕ) : Type 0 where
+pub record WithNext (set : ℕ) (barred : Bool) (p q r : ℕ) : Type 0 where
   pub stays : (x : ℕ) → In set x → In r x
   pub this : q < width → barred ≡ false → In set p → In r q
 

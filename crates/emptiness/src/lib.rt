@@ -8,7 +8,7 @@ ghost use lib.ListN.{length};
 ghost use Rattle.fsbm.specs.Machine.{wellFormed, transitionAt};
 ghost use Rattle.fsbm.specs.Published.{fsbmOf, InLanguage};
 ghost use Rattle.images.specs.Graph.{KindsOf};
-ghost use Rattle.emptiness.specs.Reached.{Next, Moved, Apart, Changed, Passed, Same};
+ghost use Rattle.emptiness.specs.Reached.{WithNext, Moved, Apart, Changed, Passed, Same};
 use fsbm::machine::Machine;
 use images::Kinds;
 
@@ -24,7 +24,7 @@ pub struct Reached {
 
 // The set with q, if p is in it and the way is not barred.
 fn with_next(set: u64, barred: bool, p: usize, q: usize) -> u64
-    ensures { λ r. ⌜ Next «set» barred p q r ⌝ }
+    ensures { λ r. ⌜ WithNext «set» barred p q r ⌝ }
 {
     if barred {
         return set;

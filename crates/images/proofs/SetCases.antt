@@ -5,7 +5,7 @@
 -- members-none            == the number 0 has no members
 -- some-member             == any other number has one
 -- none-other              == a set without another is empty: its members are members of the other
--- row-cases               == what holds of a list whose element at one place is new
+-- row-cases               == what holds of a list whose element at one position is new
 -- normal-moves, buffering-moves, emptying-moves == what step_normal, step_buffering, step_emptying put together
 -- edges-taken             == the moves by the row of a letter are its edges
 -- states-image            == the image of those states of a set that are below a number

@@ -16,7 +16,7 @@
 -- EmptyCopy G p q        == from p in normal mode to q in normal mode by a copy of nothing, in epsilon moves
 -- Turn G p q             == an epsilon move in normal mode, or an empty copy
 -- Room targets states x  == the table has room for the row of the letter x
--- Closed targets states g h p == the table has the closure of the state p: what p reaches at a place by epsilon moves and empty copies
+-- Closed targets states g h p == the table has the closure of the state p: what p reaches at a position by epsilon moves and empty copies
 -- Good targets states g h == the table has room for the row of letter 0, each state with an epsilon transition is in the table's first set, and the
 --                           closure of each state of its second set is there
 -- Kind marks states b set == the set of the states below a number whose mark has the bit of value b

@@ -222,7 +222,7 @@ fn empty_copies(targets: &[u64], states: usize, g: u64, h: u64, set: u64) -> u64
     )
 }
 
-// The states that a set reaches at one place in normal mode, found in turns: copies of nothing from the states that came last, and then
+// The states that a set reaches at one position in normal mode, found in turns: copies of nothing from the states that came last, and then
 // epsilon moves from those that are new.
 fn close_in_turns(targets: &[u64], states: usize, g: u64, h: u64, set: u64) -> u64
     requires { ⌜ Good (now targets) states g h ⌝ }
@@ -241,9 +241,9 @@ fn close_in_turns(targets: &[u64], states: usize, g: u64, h: u64, set: u64) -> u
     }
 }
 
-// The states that a set reaches at one place in normal mode: by epsilon moves and copies of nothing, as often as wanted.
+// The states that a set reaches at one position in normal mode: by epsilon moves and copies of nothing, as often as wanted.
 // Time: the members of the set, each once, where the table has the closures of all of them; else some turns of epsilon moves and copies.
-pub fn close_place(targets: &[u64], states: usize, g: u64, h: u64, set: u64) -> u64
+pub fn close_position(targets: &[u64], states: usize, g: u64, h: u64, set: u64) -> u64
     requires { ⌜ Good (now targets) states g h ⌝ }
     ensures { λ r. ⌜ Members r (From set (Star (Turn (graph (now (targets .entry)) states g h)))) ⌝ }
 {

@@ -4,11 +4,11 @@
 -- seed-start, seed-joined, seed-end, first-last, first-not == the row of the end of the word
 -- closed-buffering, closed-emptying == the rows of these modes, closed along the transitions from all states
 -- emptying-made, emptying-none, buffering-made, buffering-none == the layers, and where no number fell
--- round-made                   == one round over a place
+-- round-made                   == one round over a position
 -- lower-here, lower-then, closed-after == rounds one after the other
--- shut-made, shut-place        == a place where no copy begins
+-- shut-made, shut-position        == a position where no copy begins
 -- none-storing, all-storing    == the returns of storing_states
--- place-made                   == the rows of a place
+-- position-made                   == the rows of a position
 use Prim.Native.Nat.{ℕ, zero, suc, _+_, _≤_, _<_}
 use mathlib.Core.Path.{_≡_, refl, sym, ap, _∙_, subst}
 use mathlib.Core.Logic.{_⊎_, inl, inr, _↔_}
@@ -29,12 +29,12 @@ use Rattle.fsbm.specs.declared.machine.Machine.{Machine}
 use Rattle.fsbm.specs.declared.config.Mode.{Mode}
 use Rattle.fsbm.specs.declared.config.Mode.the-variants.{Normal, Buffering, Emptying}
 use Rattle.fsbm.specs.Rules.{Rules, rules, matching-below}
-use Rattle.layers.specs.Costs.{none, Near, Go, at, Leads, RowReal, RowBest, Bounded, Marked}
+use Rattle.layers.specs.Costs.{none, Near, Go, at, Leads, RowReal, RowBest, Bounded, ChangeBound}
 use Rattle.layers.specs.Costs.Laws.{normal-yields, buffer-yields, empty-yields}
 use Rattle.layers.specs.Rows.{Given, weight, Lowering, Reads, Beside, Within, Closed}
 use Rattle.layers.specs.Rows.Laws.{through-bounded, through-real, reads-through, reads-same, beside-marked, beside-real, emptying-from}
-use Rattle.layers.specs.Layers.{headOf, tailOf, blankRow, Seeded, FirstRow, EmptyingLayer, BufferingLayer, Begins, Sets, Storing, PlaceReal, PlaceBest, Settled, LowerPlace, Round, ClosedPlace, PlaceLayer}
-use Rattle.layers.specs.Layers.Laws.{emptying-best, buffering-best, place-best, blank-at, blank-size, blank-none, blank-real, blank-bounded}
+use Rattle.layers.specs.Layers.{headOf, tailOf, blankRow, Seeded, FirstRow, EmptyingLayer, BufferingLayer, Begins, Sets, Storing, PositionReal, PositionBest, Settled, LowerPlace, Round, ClosedPlace, PositionLayer}
+use Rattle.layers.specs.Layers.Laws.{emptying-best, buffering-best, position-best, blank-at, blank-size, blank-none, blank-real, blank-bounded}
 
 pub blank-is : replicate 64 none ≡ blankRow
 unfolding blankRow
@@ -93,7 +93,7 @@ lives a = (a, λ h. absurd (false≢true (sym h)))
 bounded-lower : {m : Machine} {list : List ℕ} {t : Mode} {x : ℕ} (S : ℕ → Type 0) (row row′ next : List ℕ) → ((q : ℕ) → at row′ q ≤ at row q) → Bounded m list S t x row next → Bounded m list S t x row′ next
 bounded-lower {list = list} S row row′ next down h k l i = omega (arith, down (transitionAt list k .from), h k l i)
 
-marked-lower : {S : ℕ → Type 0} (row row′ next : List ℕ) → ((q : ℕ) → at row′ q ≤ at row q) → Marked S row next → Marked S row′ next
+marked-lower : {S : ℕ → Type 0} (row row′ next : List ℕ) → ((q : ℕ) → at row′ q ≤ at row q) → ChangeBound S row next → ChangeBound S row′ next
 marked-lower row row′ next down h q is = omega (arith, down q, h q is)
 
 -- closed along the transitions from some states, where those from all are among them
@@ -200,7 +200,7 @@ module _ (m : Machine) (list targets : List ℕ) (g h : ℕ) (given : Given m li
 
   module _ (near starts : ℕ) (n b e n₁ b₁ e₁ n₂ b₂ e₂ : List ℕ) (x y z : Bool) (fn : Closed m list (In near) Normal n n₁) (fb : Closed m list (λ q. q < m .states) Buffering b b₁)
       (fe : Closed m list (λ q. q < m .states) Emptying e e₁) (gn : Lowering (Within (Beside b₁) starts) n₁ n₂ x) (gb : Lowering (Within (Beside e₁) h) b₁ b₂ y) (ge : Lowering (Within (Beside n₂) h) e₁ e₂ z) where
-    round-real : (N : ℕ → ℕ) (u : List ℕ) → Sets m N u near starts h → PlaceReal m list N u n b e → PlaceReal m list N u n₂ b₂ e₂
+    round-real : (N : ℕ → ℕ) (u : List ℕ) → Sets m N u near starts h → PositionReal m list N u n b e → PositionReal m list N u n₂ b₂ e₂
     round-real N u sets real =
         let rn : RowReal m list N u [] Normal n₁ = fn .real N u [] (λ c. refl) (λ c q i. sets .nears q .1 i) (real .normal) in
         let rb : RowReal m list N u [] Buffering b₁ = fb .real N u [] (λ c. refl) (λ c. let d : _≡_ {A = ℕ} 0 1 = cc in absurd (omega arith)) (real .buffering) in
@@ -228,8 +228,8 @@ module _ (m : Machine) (list targets : List ℕ) (g h : ℕ) (given : Given m li
           in-normal = subst (λ (s : List ℕ). Bounded m list (In near) Normal 0 s s) en (fn .bounded);
           in-buffering = λ some. subst (λ (s : List ℕ). Bounded m list (λ q. q < m .states) Buffering 0 s s) eb (fb .bounded);
           in-emptying = subst (λ (s : List ℕ). Bounded m list (λ q. q < m .states) Emptying 0 s s) ee (fe .bounded);
-          begin-buffering = subst (λ (s : List ℕ). Marked (In starts) n₂ s) eb (beside-marked gn);
-          begin-emptying = λ some. subst (λ (s : List ℕ). Marked (In h) b₂ s) ee (beside-marked gb);
+          begin-buffering = subst (λ (s : List ℕ). ChangeBound (In starts) n₂ s) eb (beside-marked gn);
+          begin-emptying = λ some. subst (λ (s : List ℕ). ChangeBound (In h) b₂ s) ee (beside-marked gb);
           back-to-normal = beside-marked ge;
         }
 
@@ -263,7 +263,7 @@ module _ (m : Machine) (list targets : List ℕ) (g h : ℕ) (given : Given m li
         → ClosedPlace m list near starts h n b e n₂ b₂ e₂
     closed-after n b e n₁ b₁ e₁ n₂ b₂ e₂ s f g i = record { lower = lower-then n b e n₁ b₁ e₁ n₂ b₂ e₂ f (g .lower); settled = g .settled i }
 
-  -- A place where no copy begins
+  -- A position where no copy begins
 
   module _ (near : ℕ) (n e n₁ e₁ e₂ : List ℕ) (z : Bool) (fn : Closed m list (In near) Normal n n₁) (ge : Lowering (Within (Beside n₁) h) e e₁ z)
       (fe : Closed m list (λ q. q < m .states) Emptying e₁ e₂) where
@@ -289,10 +289,10 @@ module _ (m : Machine) (list targets : List ℕ) (g h : ℕ) (given : Given m li
           };
         }
 
-  pub shut-place : (near starts : ℕ) (n b e n₁ e₁ : List ℕ) → starts ≡ 0 → ((b : List ℕ) → ClosedPlace m list near 0 h n b e n₁ b e₁) → ClosedPlace m list near starts h n b e n₁ b e₁
-  shut-place near starts n b e n₁ e₁ z f = subst (λ (s : ℕ). ClosedPlace m list near s h n b e n₁ b e₁) (sym z) (f b)
+  pub shut-position : (near starts : ℕ) (n b e n₁ e₁ : List ℕ) → starts ≡ 0 → ((b : List ℕ) → ClosedPlace m list near 0 h n b e n₁ b e₁) → ClosedPlace m list near starts h n b e n₁ b e₁
+  shut-position near starts n b e n₁ e₁ z f = subst (λ (s : ℕ). ClosedPlace m list near s h n b e n₁ b e₁) (sym z) (f b)
 
-  -- A place
+  -- A position
 
   first-real : (N : ℕ → ℕ) (last : Bool) (row u : List ℕ) → FirstRow m last row → (last ≡ true) ↔ (u ≡ []) → RowReal m list N u [] Normal row
   first-real N true row u f iff q lt l = on (true-or-false (final (m .marks) q))
@@ -307,11 +307,11 @@ module _ (m : Machine) (list targets : List ℕ) (g h : ℕ) (given : Given m li
   first-goal : (last : Bool) (row u : List ℕ) → FirstRow m last row → (last ≡ true) ↔ (u ≡ []) → u ≡ [] → (q : ℕ) → q < m .states → final (m .marks) q ≡ true → at row q ≡ 0
   first-goal last row u f iff e q lt t = f .at-end (iff .1 e) .done q lt ∙ ap (λ (b : Bool). cond b 0 none) t
 
-  pub place-made : (near starts all : ℕ) {w : ℕ} (last : Bool) (x : ℕ) (next-n next-b n₀ b₀ e₀ n₁ b₁ n b e : List ℕ) (c d : Bool) → SetIs starts w (λ q. In near q × In g q)
+  pub position-made : (near starts all : ℕ) {w : ℕ} (last : Bool) (x : ℕ) (next-n next-b n₀ b₀ e₀ n₁ b₁ n b e : List ℕ) (c d : Bool) → SetIs starts w (λ q. In near q × In g q)
       → Storing starts (m .states) all → FirstRow m last n₀ → b₀ ≡ blankRow → e₀ ≡ blankRow → Lowering (Within (Reads m list Normal x next-n) near) n₀ n₁ c
-      → Lowering (Within (Reads m list Buffering x next-b) all) b₀ b₁ d → ClosedPlace m list near starts h n₁ b₁ e₀ n b e → PlaceLayer m list near last x next-n next-b n b e
-  place-made near starts all last x next-n next-b n₀ b₀ e₀ n₁ b₁ n b e c d shared every first blank-b blank-e pn pb f =
-      record { best = λ N u nears iff head best-n best-b. place N u nears iff head best-n best-b (sets-of N u nears) }
+      → Lowering (Within (Reads m list Buffering x next-b) all) b₀ b₁ d → ClosedPlace m list near starts h n₁ b₁ e₀ n b e → PositionLayer m list near last x next-n next-b n b e
+  position-made near starts all last x next-n next-b n₀ b₀ e₀ n₁ b₁ n b e c d shared every first blank-b blank-e pn pb f =
+      record { best = λ N u nears iff head best-n best-b. position N u nears iff head best-n best-b (sets-of N u nears) }
     where
       sets-of : (N : ℕ → ℕ) (u : List ℕ) → ((q : ℕ) → Near N u q ↔ In near q) → Sets m N u near starts h
       sets-of N u nears =
@@ -333,10 +333,10 @@ module _ (m : Machine) (list targets : List ℕ) (g h : ℕ) (given : Given m li
           on q lt k (inl z) = rw z (start-real N u [] Buffering b₀ blank-b q lt (omega arith))
           on q lt k (inr z) = absurd (l (every .inside q (z .inside) .1))
 
-      place : (N : ℕ → ℕ) (u : List ℕ) → ((q : ℕ) → Near N u q ↔ In near q) → (last ≡ true) ↔ (u ≡ []) → x ≡ headOf u → (0 < x → RowBest m list N (tailOf u) [] Normal next-n)
-          → (Begins m N u → 0 < x → RowBest m list N (tailOf u) (x ∷ []) Buffering next-b) → Sets m N u near starts h → PlaceBest m list N u n b e
-      place N u nears iff head best-n best-b sets =
-          place-best m list r N x u next-n next-b n b e near starts h sets head best-n best-b
+      position : (N : ℕ → ℕ) (u : List ℕ) → ((q : ℕ) → Near N u q ↔ In near q) → (last ≡ true) ↔ (u ≡ []) → x ≡ headOf u → (0 < x → RowBest m list N (tailOf u) [] Normal next-n)
+          → (Begins m N u → 0 < x → RowBest m list N (tailOf u) (x ∷ []) Buffering next-b) → Sets m N u near starts h → PositionBest m list N u n b e
+      position N u nears iff head best-n best-b sets =
+          position-best m list r N x u next-n next-b n b e near starts h sets head best-n best-b
           (f .lower .real N u sets (record {
             normal = normal-real N near x u next-n n₀ n₁ c (λ q i. nears q .1 i) head best-n pn (first-real N last n₀ u first iff);
             buffering = stored N u nears head best-b (decLt 0 starts);

@@ -12,7 +12,7 @@
 -- RowBest m list N u v t row == each number of the row is Best
 -- Leads m list t x k         == transition k reads x, and the marks let it be taken in mode t
 -- Bounded m list S t x row next == no such transition from a state of which S holds into the row `next` would lower a number of the row
--- Marked S row next          == nor would a change of mode at such a state
+-- ChangeBound S row next          == nor would a change of mode at such a state
 use Prim.Native.Nat.{ℕ, suc, _≤_, _<_}
 use mathlib.Core.Path.{_≡_}
 use mathlib.Core.Bool.{true}
@@ -66,5 +66,5 @@ abbrev pub Bounded : Machine → List ℕ → (ℕ → Type 0) → Mode → ℕ 
 Bounded m list S t x row next =
     (k : ℕ) → Leads m list t x k → S (transitionAt list k .from) → at row (transitionAt list k .from) ≤ suc (at next (transitionAt list k .to))
 
-abbrev pub Marked : (ℕ → Type 0) → List ℕ → List ℕ → Type 0
-Marked S row next = (q : ℕ) → S q → at row q ≤ suc (at next q)
+abbrev pub ChangeBound : (ℕ → Type 0) → List ℕ → List ℕ → Type 0
+ChangeBound S row next = (q : ℕ) → S q → at row q ≤ suc (at next q)

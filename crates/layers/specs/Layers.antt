@@ -7,13 +7,13 @@
 -- FirstRow m last row  == 0 at the final states at the end of the word, none elsewhere
 -- EmptyingLayer, BufferingLayer == the row of one mode, from those of the layers after it
 -- Begins m N u         == a copy begins at the input u: some state that is kept in normal mode there is buffering
--- PlaceBest m list N u n b e == the three rows of a place with an empty buffer; that of buffering mode only where a copy begins
+-- PositionBest m list N u n b e == the three rows of a position with an empty buffer; that of buffering mode only where a copy begins
 -- Sets m N u near starts h == at the input u normal mode is kept in the states of near; starts has the buffering ones among them, h all
 --                         matching states
 -- Storing starts n r   == r has the states below n that a copy may be stored in
--- Settled m list near starts h n b e == no move within a place that reads nothing would lower a number of its three rows
+-- Settled m list near starts h n b e == no move within a position that reads nothing would lower a number of its three rows
 -- ClosedPlace .. n b e n′ b′ e′ == the three rows, lowered until they are Settled
--- PlaceLayer           == the three rows of a place, from those of the layers after it
+-- PositionLayer           == the three rows of a position, from those of the layers after it
 use Prim.Native.Nat.{ℕ, _+_, _≤_, _<_}
 use mathlib.Core.Path.{_≡_}
 use mathlib.Core.Logic.{_↔_}
@@ -24,7 +24,7 @@ use Rattle.stateset.specs.Set.{In}
 use Rattle.fsbm.specs.Machine.{final, buffering, matching}
 use Rattle.fsbm.specs.declared.machine.Machine.{Machine}
 use Rattle.fsbm.specs.declared.config.Mode.the-variants.{Normal, Buffering, Emptying}
-use Rattle.layers.specs.Costs.{none, at, Near, RowReal, RowBest, Bounded, Marked}
+use Rattle.layers.specs.Costs.{none, at, Near, RowReal, RowBest, Bounded, ChangeBound}
 use Rattle.layers.specs.Rows.{weight}
 pub mod Laws
 
@@ -66,7 +66,7 @@ pub record Begins (m : Machine) (N : ℕ → ℕ) (u : List ℕ) : Type 0 where
   pub kept : Near N u state
   pub is : buffering (m .marks) state ≡ true
 
-pub record PlaceReal (m : Machine) (list : List ℕ) (N : ℕ → ℕ) (u n b e : List ℕ) : Type 0 where
+pub record PositionReal (m : Machine) (list : List ℕ) (N : ℕ → ℕ) (u n b e : List ℕ) : Type 0 where
   pub normal : RowReal m list N u [] Normal n
   pub buffering : RowReal m list N u [] Buffering b
   pub emptying : RowReal m list N u [] Emptying e
@@ -76,9 +76,9 @@ pub record Settled (m : Machine) (list : List ℕ) (near starts h : ℕ) (n b e 
   pub in-normal : Bounded m list (In near) Normal 0 n n
   pub in-buffering : 0 < starts → Bounded m list (λ q. q < m .states) Buffering 0 b b
   pub in-emptying : Bounded m list (λ q. q < m .states) Emptying 0 e e
-  pub begin-buffering : Marked (In starts) n b
-  pub begin-emptying : 0 < starts → Marked (In h) b e
-  pub back-to-normal : Marked (In h) e n
+  pub begin-buffering : ChangeBound (In starts) n b
+  pub begin-emptying : 0 < starts → ChangeBound (In h) b e
+  pub back-to-normal : ChangeBound (In h) e n
 
 pub record Sets (m : Machine) (N : ℕ → ℕ) (u : List ℕ) (near starts h : ℕ) : Type 0 where
   pub nears : (q : ℕ) → Near N u q ↔ In near q
@@ -91,7 +91,7 @@ pub record Storing (starts n r : ℕ) : Type 0 where
   pub all : 0 < starts → (q : ℕ) → q < n → q < 64 → In r q
 
 pub record LowerPlace (m : Machine) (list : List ℕ) (near starts h : ℕ) (n b e n′ b′ e′ : List ℕ) : Type 0 where
-  pub real : (N : ℕ → ℕ) (u : List ℕ) → Sets m N u near starts h → PlaceReal m list N u n b e → PlaceReal m list N u n′ b′ e′
+  pub real : (N : ℕ → ℕ) (u : List ℕ) → Sets m N u near starts h → PositionReal m list N u n b e → PositionReal m list N u n′ b′ e′
   pub normal : (q : ℕ) → at n′ q ≤ at n q
   pub buffering : (q : ℕ) → at b′ q ≤ at b q
   pub emptying : (q : ℕ) → at e′ q ≤ at e q
@@ -106,12 +106,12 @@ pub record ClosedPlace (m : Machine) (list : List ℕ) (near starts h : ℕ) (n 
   pub lower : LowerPlace m list near starts h n b e n′ b′ e′
   pub settled : Settled m list near starts h n′ b′ e′
 
-pub record PlaceBest (m : Machine) (list : List ℕ) (N : ℕ → ℕ) (u n b e : List ℕ) : Type 0 where
+pub record PositionBest (m : Machine) (list : List ℕ) (N : ℕ → ℕ) (u n b e : List ℕ) : Type 0 where
   pub normal : RowBest m list N u [] Normal n
   pub buffering : Begins m N u → RowBest m list N u [] Buffering b
   pub emptying : RowBest m list N u [] Emptying e
 
 -- x is the first letter of the input, 0 where there is none; `last` says that the input is empty; normal mode is kept in the states of near
-pub record PlaceLayer (m : Machine) (list : List ℕ) (near : ℕ) (last : Bool) (x : ℕ) (next-n next-b n b e : List ℕ) : Type 0 where
+pub record PositionLayer (m : Machine) (list : List ℕ) (near : ℕ) (last : Bool) (x : ℕ) (next-n next-b n b e : List ℕ) : Type 0 where
   pub best : (N : ℕ → ℕ) (u : List ℕ) → ((q : ℕ) → Near N u q ↔ In near q) → (last ≡ true) ↔ (u ≡ []) → x ≡ headOf u → (0 < x → RowBest m list N (tailOf u) [] Normal next-n)
-      → (Begins m N u → 0 < x → RowBest m list N (tailOf u) (x ∷ []) Buffering next-b) → PlaceBest m list N u n b e
+      → (Begins m N u → 0 < x → RowBest m list N (tailOf u) (x ∷ []) Buffering next-b) → PositionBest m list N u n b e

@@ -8,7 +8,7 @@ ghost use Rattle.stateset.specs.Set.{In};
 ghost use Rattle.fsbm.specs.declared.config.Mode.the-variants.{Buffering, Emptying};
 ghost use Rattle.targets.specs.Prepared.{Row};
 ghost use Rattle.layers.specs.Rows.{Given, Closed};
-ghost use Rattle.layers.specs.Layers.{blankRow, NoneBelow, Seeded, FirstRow, EmptyingLayer, BufferingLayer, Storing, Round, ClosedPlace, PlaceLayer};
+ghost use Rattle.layers.specs.Layers.{blankRow, NoneBelow, Seeded, FirstRow, EmptyingLayer, BufferingLayer, Storing, Round, ClosedPlace, PositionLayer};
 use crate::row;
 use crate::row::NONE;
 use fsbm::config::Mode;
@@ -16,8 +16,8 @@ use fsbm::limits::MAX_STATES;
 use fsbm::machine;
 use fsbm::machine::Machine;
 
-// The three rows of a place, the buffer empty. Where no copy ends there, that of emptying mode says none.
-pub struct Place {
+// The three rows of a position, the buffer empty. Where no copy ends there, that of emptying mode says none.
+pub struct Position {
     pub normal: [u32; MAX_STATES],
     pub buffering: [u32; MAX_STATES],
     pub emptying: [u32; MAX_STATES],
@@ -136,7 +136,7 @@ pub fn buffering_layer(
     true
 }
 
-// One round over the rows of a place: the moves that read nothing, then the changes of mode. It says whether a change lowered
+// One round over the rows of a position: the moves that read nothing, then the changes of mode. It says whether a change lowered
 // anything. Normal mode goes on in the states of near, and begins a copy in those of starts.
 fn round(
     m: Machine,
@@ -168,7 +168,7 @@ fn round(
     c
 }
 
-// Lowers the rows of normal and emptying mode at a place where no copy begins along the moves that read nothing.
+// Lowers the rows of normal and emptying mode at a position where no copy begins along the moves that read nothing.
 fn close_shut(
     m: Machine,
     list: &[u16],
@@ -187,8 +187,8 @@ fn close_shut(
     close_emptying(m, list, targets, g, h, emptying);
 }
 
-// Lowers the three rows of a place along the moves that read nothing until none of them would lower a number.
-fn close_place(
+// Lowers the three rows of a position along the moves that read nothing until none of them would lower a number.
+fn close_position(
     m: Machine,
     list: &[u16],
     targets: &[u64],
@@ -236,7 +236,7 @@ fn first_row(m: Machine, last: bool) -> [u32; MAX_STATES]
     blank()
 }
 
-// The states that a copy is stored in at a place: all where one begins, else none.
+// The states that a copy is stored in at a position: all where one begins, else none.
 fn storing_states(starts: u64, states: usize) -> u64
     ensures { λ r. ⌜ Storing starts states r ⌝ }
 {
@@ -246,10 +246,10 @@ fn storing_states(starts: u64, states: usize) -> u64
     stateset::full(states)
 }
 
-// The three rows of a place where x is the first letter of the input (0: there is none), from the rows after it is read. `last` says
+// The three rows of a position where x is the first letter of the input (0: there is none), from the rows after it is read. `last` says
 // that the word is read to its end. Normal mode goes on in the states of near; where none of them is buffering, no copy begins, and
 // nothing is said of the row of buffering mode.
-pub fn place_layer(
+pub fn position_layer(
     m: Machine,
     list: &[u16],
     targets: &[u64],
@@ -260,9 +260,9 @@ pub fn place_layer(
     x: u16,
     onward: &[u32; MAX_STATES],
     storing: &[u32; MAX_STATES],
-) -> Place
+) -> Position
     requires { ⌜ Given m (now list) (now targets) g h × Row m (now list) (now targets) x × ((q : ℕ) → In near q → q < m .states) ⌝ }
-    ensures { λ r. ⌜ PlaceLayer m (now (list .entry)) near last x (now (onward .entry)) (now (storing .entry)) (r .normal) (r .buffering) (r .emptying)
+    ensures { λ r. ⌜ PositionLayer m (now (list .entry)) near last x (now (onward .entry)) (now (storing .entry)) (r .normal) (r .buffering) (r .emptying)
         × (r .ends ≡ false → NoneBelow (m .states) (r .emptying)) ⌝ }
 {
     let starts = stateset::intersection(near, g);
@@ -294,7 +294,7 @@ pub fn place_layer(
         storing,
         &mut buffering,
     );
-    close_place(
+    close_position(
         m,
         list,
         targets,
@@ -307,7 +307,7 @@ pub fn place_layer(
         &mut emptying,
     );
     let ends = !row::is_blank(&emptying, m.states);
-    Place {
+    Position {
         normal,
         buffering,
         emptying,

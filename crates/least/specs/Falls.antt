@@ -8,7 +8,7 @@
 -- Steps list lo hi may n == the same for the transitions of lo, .., hi - 1
 -- NormalFrom m list d q  == the number of q and the weight of a normal move from it, for the state that the move enters
 -- End top z v            == v + 2 for z, if v is less than top
--- Ends top b guess P     == for a state z with P: the number of (guess, z) in a block, if it is less than top, and 2 more
+-- CopyEnds top b guess P     == for a state z with P: the number of (guess, z) in a block, if it is less than top, and 2 more
 -- Enterable h q may      == the states that a normal move from q may enter
 use Prim.Native.Nat.{ℕ, _+_, _*_, _^_, _≤_, _<_}
 use mathlib.Core.Path.{_≡_}
@@ -60,7 +60,7 @@ pub record End (top z v z′ v′ : ℕ) : Type 0 where
   pub known : v < top
   pub single : Single z (v + 2) z′ v′
 
-pub record Ends (top : ℕ) (b : List ℕ) (guess : ℕ) (P : ℕ → Type 0) (z v : ℕ) : Type 0 where
+pub record CopyEnds (top : ℕ) (b : List ℕ) (guess : ℕ) (P : ℕ → Type 0) (z v : ℕ) : Type 0 where
   pub holds : P z
   pub known : cell b guess z < top
   pub value : v ≡ cell b guess z + 2

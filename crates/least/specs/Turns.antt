@@ -34,7 +34,7 @@ use Rattle.pieces.specs.Blocks.{nothing, costOf}
 use Rattle.pieces.specs.Rounds.{Rounds}
 use Rattle.blocks.specs.Numbers.{total}
 use Rattle.blocks.specs.Settling.{BlockTo}
-use Rattle.least.specs.Falls.{Falls, Ends}
+use Rattle.least.specs.Falls.{Falls, CopyEnds}
 pub mod Laws
 
 pub record Entered (m : Machine) (list : List ℕ) (ends : ℕ) : Type 0 where
@@ -100,7 +100,7 @@ pub record Guessed (m : Machine) (list : List ℕ) (limit h guess set : ℕ) (d 
   pub top : ℕ
   pub tops : Tops limit h d top
   pub block : BlockTo m list top guess set d b
-  pub falls : Falls (Ends top b guess (In h)) (Ends top b guess (In h)) d got d′ got′
+  pub falls : Falls (CopyEnds top b guess (In h)) (CopyEnds top b guess (In h)) d got d′ got′
 
 -- a limit of the numbers: `nothing`, or more than some final state has
 pub record Limit (marks d : List ℕ) (top : ℕ) : Type 0 where

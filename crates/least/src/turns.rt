@@ -13,7 +13,7 @@ ghost use Rattle.pieces.specs.Blocks.{nothing};
 ghost use Rattle.blocks.specs.Readers.{Readers};
 ghost use Rattle.blocks.specs.Works.{Kind, Ready};
 ghost use Rattle.blocks.specs.Settling.{Past};
-ghost use Rattle.least.specs.Falls.{Falls, End, Ends};
+ghost use Rattle.least.specs.Falls.{Falls, End, CopyEnds};
 ghost use Rattle.least.specs.Turns.{Entered, EnteredBy, NormalTurn, Lowered, Tops, Guessed, CopyTurn, First, firstOf, Costs};
 use crate::fall;
 use blocks::block;
@@ -59,7 +59,7 @@ pub fn ends(m: Machine, list: &[u16], h: u64) -> u64
 }
 
 // A turn of normal moves from the fresh states, until no number is lowered any more; the states that were fresh or were lowered.
-fn settle(
+fn normal_turn(
     m: Machine,
     list: &[u16],
     index: &[u16; MOST_KEYS],
@@ -148,7 +148,7 @@ fn end_all(
     top: u64,
 ) -> u64
     requires { ⌜ (length (now d) ≡ 64) × (guess < 64) × (top ≤ nothing) ⌝ }
-    ensures { λ r. ⌜ Falls (Ends top (now (b .entry)) guess (In h)) (Ends top (now (b .entry)) guess (In h)) (now (d .entry)) got (now (d .exit)) r ⌝ }
+    ensures { λ r. ⌜ Falls (CopyEnds top (now (b .entry)) guess (In h)) (CopyEnds top (now (b .entry)) guess (In h)) (now (d .entry)) got (now (d .exit)) r ⌝ }
 {
     let mut all = got;
     let mut rest = h;
@@ -315,7 +315,7 @@ fn turns(
     let mut fresh = kinds.initial;
     let mut limit = NOTHING;
     loop {
-        let started = settle(m, list, index, g, h, d, fresh);
+        let started = normal_turn(m, list, index, g, h, d, fresh);
         let set = stateset::intersection(started, g);
         if set == 0 {
             return;

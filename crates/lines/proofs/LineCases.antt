@@ -30,7 +30,7 @@ use Rattle.fsbm.specs.Accepted.{accepted}
 use Rattle.targets.specs.Prepared.{Lettered}
 use Rattle.fsbm.specs.declared.machine.Machine.{Machine}
 use Rattle.lines.specs.declared.Answer.{Answer}
-use Rattle.lines.specs.Line.{letterAt, tabulate, wordOf, holdsNumber, holdsLetter, lineRefusal, lineAnswer, answerLine, Stored, WordRead}
+use Rattle.lines.specs.Line.{letterAt, tabulate, wordOf, holdsNumber, holdsLetter, lineRefusal, lineAnswer, answerLine, LetterStored, WordRead}
 
 module _ (letters : ℕ) (line : List ℕ) where
   pub refused-long : 800 < length line → 9 ≡ lineRefusal letters line
@@ -73,7 +73,7 @@ module _ (letters : ℕ) (line : List ℕ) (n : ℕ) (word : List ℕ) (good : B
   pub read-stops : v ≡ noNumber → allBelow n (holdsNumber line) ≡ false
   read-stops h = allBelow-false (holdsNumber line) n .1 (k, inside, number-fails h)
 
-  pub read-more : (v ≡ noNumber → ⊥) → (b g : Bool) (word′ : List ℕ) → n ≤ 160 → Stored letters v k b word word′ → g ≡ (good && b) → Read letters line n word′ g (k + 1)
+  pub read-more : (v ≡ noNumber → ⊥) → (b g : Bool) (word′ : List ℕ) → n ≤ 160 → LetterStored letters v k b word word′ → g ≡ (good && b) → Read letters line n word′ g (k + 1)
   unfolding allBelow tabulate
   read-more h b g word′ fits s e =
       record {
@@ -126,13 +126,13 @@ pub refused : (letters : ℕ) (line : List ℕ) (r : ℕ) (word : List ℕ) → 
 refused letters line r word p e = record { refusal = e; word-read = λ (z : r ≡ 0). absurd (omega arith) }
 
 module _ (letters v k : ℕ) (word : List ℕ) where
-  pub stored-zero : v < 1 → Stored letters v k false word word
+  pub stored-zero : v < 1 → LetterStored letters v k false word word
   stored-zero h = record { is-letter = stop _ (lt-leb _ _ h); stored = λ e. absurd (true≢false (sym e)); kept = refl }
 
-  pub stored-large : 1 ≤ v → letters < v → Stored letters v k false word word
+  pub stored-large : 1 ≤ v → letters < v → LetterStored letters v k false word word
   stored-large l h = record { is-letter = pass (le-leb _ _ l) (sym (lt-leb _ _ h)); stored = λ e. absurd (true≢false (sym e)); kept = refl }
 
-  pub stored-letter : 1 ≤ v → v ≤ letters → Stored letters v k true word (set word k v)
+  pub stored-letter : 1 ≤ v → v ≤ letters → LetterStored letters v k true word (set word k v)
   stored-letter l h = record { is-letter = pass (le-leb _ _ l) (sym (le-leb _ _ h)); stored = λ e. refl; kept = length-set word k v }
 
 -- a byte behind bytes is put by a store

@@ -74,7 +74,7 @@ pub record WordRead (letters : ℕ) (line : List ℕ) (r : ℕ) (word : List ℕ
   pub word-read : r ≡ 0 → take (length line / 5) word ≡ wordOf line
 
 -- what store_letter leaves: the number as letter k where it is one
-pub record Stored (letters v k : ℕ) (r : Bool) (before after : List ℕ) : Type 0 where
+pub record LetterStored (letters v k : ℕ) (r : Bool) (before after : List ℕ) : Type 0 where
   pub is-letter : r ≡ goodLetter letters v
   pub stored : r ≡ true → after ≡ set before k v
   pub kept : length after ≡ length before

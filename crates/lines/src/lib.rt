@@ -8,8 +8,8 @@ ghost use mathlib.Core.Path.{_≡_};
 ghost use mathlib.Core.Bool.{true, _&&_};
 ghost use lib.ListN.{length};
 ghost use Rattle.basics.specs.Lists.{put};
-ghost use Rattle.lines.specs.Line.{WordRead, Stored, lineAnswer, answerLine, Ready};
-use decide::places;
+ghost use Rattle.lines.specs.Line.{WordRead, LetterStored, lineAnswer, answerLine, Ready};
+use decide::positions;
 use fsbm::machine::Machine;
 use images::Kinds;
 
@@ -28,7 +28,7 @@ pub struct Answer {
 // Stores the number v as letter k of a word, where a machine of this many letters has it; answers whether it does.
 fn store_letter(letters: usize, v: usize, k: usize, word: &mut [u8]) -> bool
     requires { ⌜ (letters ≤ 250) × (k < length (now word)) ⌝ }
-    ensures { λ r. ⌜ Stored letters v k r (now (word .entry)) (now (word .exit)) ⌝ }
+    ensures { λ r. ⌜ LetterStored letters v k r (now (word .entry)) (now (word .exit)) ⌝ }
 {
     if v < 1 {
         return false;
@@ -100,7 +100,7 @@ pub fn answer_line(m: Machine, list: &[u16], targets: &[u64], kinds: Kinds, line
         return Answer { answer: 2, refusal };
     }
     let n = line.len() / 5;
-    let reached = places::decide(m, list, targets, kinds, &word[..n]);
+    let reached = positions::decide(m, list, targets, kinds, &word[..n]);
     if reached.accepted {
         return Answer {
             answer: 1,

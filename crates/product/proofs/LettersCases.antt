@@ -20,7 +20,7 @@ use borrow.Author.Count.{below-more}
 use Rattle.stateset.specs.Set.{width, digit, In, Lowest}
 use Rattle.stateset.specs.Set.Laws.{empty-in, in-lt}
 use Rattle.product.specs.Each.{zerosOf}
-use Rattle.product.specs.Letters.{Marked, Matches, Occurs, KeySet, Starts, Common, LeastFrom, Least}
+use Rattle.product.specs.Letters.{HasKey, MayPair, Occurs, KeySet, Starts, Common, LeastFrom, Least}
 use Rattle.product.specs.Order.{letterKey}
 use Rattle.product.proofs.FaultCases.{zeros-length, zeros-at}
 
@@ -32,10 +32,10 @@ module _ (words : List ℕ) (y w c : ℕ) (at-y : y ≡ w * 64 + c) (small : c <
   place-is : y % 64 ≡ c
   place-is = omega arith
 
-  pub marked-by : In (getD words w 0) c → Marked words y
+  pub marked-by : In (getD words w 0) c → HasKey words y
   marked-by m = subst (λ (z : ℕ). In (getD words z 0) (y % 64)) (sym word-is) (subst (λ (z : ℕ). In (getD words w 0) z) (sym place-is) m)
 
-  pub marked-as : Marked words y → In (getD words w 0) c
+  pub marked-as : HasKey words y → In (getD words w 0) c
   marked-as m = subst (λ (z : ℕ). In (getD words w 0) z) place-is (subst (λ (z : ℕ). In (getD words z 0) (y % 64)) word-is m)
 
 -- The keys of a list
@@ -55,36 +55,36 @@ module _ (list words : List ℕ) (k y v : ℕ) (size : length words ≡ 256) (so
   same-word : (z : ℕ) → z / 64 ≡ y / 64 → getD (set words (y / 64) v) (z / 64) 0 ≡ v
   same-word z e = ap (λ (w : ℕ). getD (set words (y / 64) v) w 0) e ∙ getD-set-same words (y / 64) v 0 (omega arith)
 
-  more-of : (z : ℕ) → Marked words z → Marked (set words (y / 64) v) z
+  more-of : (z : ℕ) → HasKey words z → HasKey (set words (y / 64) v) z
   more-of z m = at (ℕ-discrete (z / 64) (y / 64))
     where
-      at : Dec (z / 64 ≡ y / 64) → Marked (set words (y / 64) v) z
+      at : Dec (z / 64 ≡ y / 64) → HasKey (set words (y / 64) v) z
       at (yes e) =
           subst (λ (n : ℕ). In n (z % 64)) (sym (same-word z e))
           (members (z % 64) .1 (inl (subst (λ (w : ℕ). In (getD words w 0) (z % 64)) e m)))
       at (no d) = subst (λ (n : ℕ). In n (z % 64)) (sym (getD-set-other words (y / 64) (z / 64) v 0 d)) m
 
-  new-one : Marked (set words (y / 64) v) y
+  new-one : HasKey (set words (y / 64) v) y
   new-one = subst (λ (n : ℕ). In n (y % 64)) (sym (same-word y refl)) (members (y % 64) .1 (inr (refl, omega arith)))
 
-  more-only : (z : ℕ) → Marked (set words (y / 64) v) z → Marked words z ⊎ (z ≡ y)
+  more-only : (z : ℕ) → HasKey (set words (y / 64) v) z → HasKey words z ⊎ (z ≡ y)
   more-only z m = at (ℕ-discrete (z / 64) (y / 64))
     where
-      old-or-new : z / 64 ≡ y / 64 → (In (getD words (y / 64) 0) (z % 64) ⊎ ((z % 64 ≡ y % 64) × (z % 64 < width))) → Marked words z ⊎ (z ≡ y)
+      old-or-new : z / 64 ≡ y / 64 → (In (getD words (y / 64) 0) (z % 64) ⊎ ((z % 64 ≡ y % 64) × (z % 64 < width))) → HasKey words z ⊎ (z ≡ y)
       old-or-new e (inl o) = inl (subst (λ (w : ℕ). In (getD words w 0) (z % 64)) (sym e) o)
       old-or-new e (inr n) = let f = n .0 in inr (omega arith)
 
-      at : Dec (z / 64 ≡ y / 64) → Marked words z ⊎ (z ≡ y)
+      at : Dec (z / 64 ≡ y / 64) → HasKey words z ⊎ (z ≡ y)
       at (yes e) = old-or-new e (members (z % 64) .0 (subst (λ (n : ℕ). In n (z % 64)) (same-word z e) m))
       at (no d) = inl (subst (λ (n : ℕ). In n (z % 64)) (getD-set-other words (y / 64) (z / 64) v 0 d) m)
 
   pub keying-next : (length (set words (y / 64) v) ≡ 256) × KeySet list (k + 1) (set words (y / 64) v)
   keying-next = (length-set words (y / 64) v ∙ size, record { all = below-more _ k (λ i lt. more-of (letterKey list i) (so-far .all i lt)) at-k; only = λ z lt m. only z lt (more-only z m) })
     where
-      at-k : Marked (set words (y / 64) v) (letterKey list k)
-      at-k = subst (λ (z : ℕ). Marked (set words (y / 64) v) z) at-y new-one
+      at-k : HasKey (set words (y / 64) v) (letterKey list k)
+      at-k = subst (λ (z : ℕ). HasKey (set words (y / 64) v) z) at-y new-one
 
-      only : (z : ℕ) → z < 16384 → Marked words z ⊎ (z ≡ y) → Occurs list (k + 1) z
+      only : (z : ℕ) → z < 16384 → HasKey words z ⊎ (z ≡ y) → Occurs list (k + 1) z
       only z lt (inl m) = let o = so-far .only z lt m in record { place = o .place; within = omega (arith, o .within); keyed = o .keyed }
       only z lt (inr e) = record { place = k; within = omega arith; keyed = sym at-y ∙ sym e }
 
@@ -141,19 +141,19 @@ starting-end list n places k s none = record { before = λ j b. s .before j (ome
 
 module _ (first : List ℕ) (p : ℕ) (second : List ℕ) (r w v : ℕ) where
   abbrev pub WordOf : Type 0
-  WordOf = (c : ℕ) → c < 64 → In v c ↔ (Marked first (p * 256 + (w * 64 + c)) × Matches second r (w * 64 + c))
+  WordOf = (c : ℕ) → c < 64 → In v c ↔ (HasKey first (p * 256 + (w * 64 + c)) × MayPair second r (w * 64 + c))
 
   module _ (c : ℕ) (small : c < 64) where
-    own-in : In (getD first (p * 4 + w) 0) c → Marked first (p * 256 + (w * 64 + c))
+    own-in : In (getD first (p * 4 + w) 0) c → HasKey first (p * 256 + (w * 64 + c))
     own-in = marked-by first (p * 256 + (w * 64 + c)) (p * 4 + w) c (omega arith) small
 
-    own-out : Marked first (p * 256 + (w * 64 + c)) → In (getD first (p * 4 + w) 0) c
+    own-out : HasKey first (p * 256 + (w * 64 + c)) → In (getD first (p * 4 + w) 0) c
     own-out = marked-as first (p * 256 + (w * 64 + c)) (p * 4 + w) c (omega arith) small
 
-    other-in : In (getD second (r * 4 + w) 0) c → Marked second (r * 256 + (w * 64 + c))
+    other-in : In (getD second (r * 4 + w) 0) c → HasKey second (r * 256 + (w * 64 + c))
     other-in = marked-by second (r * 256 + (w * 64 + c)) (r * 4 + w) c (omega arith) small
 
-    other-out : Marked second (r * 256 + (w * 64 + c)) → In (getD second (r * 4 + w) 0) c
+    other-out : HasKey second (r * 256 + (w * 64 + c)) → In (getD second (r * 4 + w) 0) c
     other-out = marked-as second (r * 256 + (w * 64 + c)) (r * 4 + w) c (omega arith) small
 
   module _ (own other : ℕ) (at-own : own ≡ getD first (p * 4 + w) 0) (at-other : other ≡ getD second (r * 4 + w) 0) where
@@ -166,31 +166,31 @@ module _ (first : List ℕ) (p : ℕ) (second : List ℕ) (r w v : ℕ) where
     pub word-of-letters : (w ≡ 0 → ⊥) → ((c : ℕ) → In v c ↔ (In own c × In other c)) → WordOf
     word-of-letters some members c lt = (there, back)
       where
-        there : In v c → Marked first (p * 256 + (w * 64 + c)) × Matches second r (w * 64 + c)
+        there : In v c → HasKey first (p * 256 + (w * 64 + c)) × MayPair second r (w * 64 + c)
         there m = let (a, b) = members c .0 m in (own-in c lt (own-is c .0 a), inr (other-in c lt (other-is c .0 b)))
 
-        letter : Matches second r (w * 64 + c) → In (getD second (r * 4 + w) 0) c
+        letter : MayPair second r (w * 64 + c) → In (getD second (r * 4 + w) 0) c
         letter (inl z) = absurd (some (omega arith))
         letter (inr m) = other-out c lt m
 
-        back : Marked first (p * 256 + (w * 64 + c)) × Matches second r (w * 64 + c) → In v c
+        back : HasKey first (p * 256 + (w * 64 + c)) × MayPair second r (w * 64 + c) → In v c
         back m = members c .1 (own-is c .1 (own-out c lt (m .0)), other-is c .1 (letter (m .1)))
 
     pub word-of-epsilon : w ≡ 0 → (more : ℕ) → ((c : ℕ) → In more c ↔ (In other c ⊎ ((c ≡ 0) × (c < width)))) → ((c : ℕ) → In v c ↔ (In own c × In more c)) → WordOf
     word-of-epsilon none more more-members members c lt = (there, back)
       where
-        matches : (In other c ⊎ ((c ≡ 0) × (c < width))) → Matches second r (w * 64 + c)
+        matches : (In other c ⊎ ((c ≡ 0) × (c < width))) → MayPair second r (w * 64 + c)
         matches (inl m) = inr (other-in c lt (other-is c .0 m))
         matches (inr e) = let z = e .0 in inl (omega arith)
 
-        there : In v c → Marked first (p * 256 + (w * 64 + c)) × Matches second r (w * 64 + c)
+        there : In v c → HasKey first (p * 256 + (w * 64 + c)) × MayPair second r (w * 64 + c)
         there m = let (a, b) = members c .0 m in (own-in c lt (own-is c .0 a), matches (more-members c .0 b))
 
-        letter : Matches second r (w * 64 + c) → In other c ⊎ ((c ≡ 0) × (c < width))
+        letter : MayPair second r (w * 64 + c) → In other c ⊎ ((c ≡ 0) × (c < width))
         letter (inl z) = inr (omega arith, lt)
         letter (inr m) = inl (other-is c .1 (other-out c lt m))
 
-        back : Marked first (p * 256 + (w * 64 + c)) × Matches second r (w * 64 + c) → In v c
+        back : HasKey first (p * 256 + (w * 64 + c)) × MayPair second r (w * 64 + c) → In v c
         back m = members c .1 (own-is c .1 (own-out c lt (m .0)), more-members c .1 (letter (m .1)))
 
 module _ (first : List ℕ) (p : ℕ) (second : List ℕ) (r a b c d : ℕ) (at-a : WordOf first p second r 0 a) (at-b : WordOf first p second r 1 b) (at-c : WordOf first p second r 2 c)
@@ -201,17 +201,17 @@ module _ (first : List ℕ) (p : ℕ) (second : List ℕ) (r a b c d : ℕ) (at-
       letters : List ℕ
       letters = a ∷ b ∷ c ∷ d ∷ []
 
-      by : (w v : ℕ) → x / 64 ≡ w → getD letters w 0 ≡ v → WordOf first p second r w v → Marked letters x ↔ (Marked first (p * 256 + x) × Matches second r x)
+      by : (w v : ℕ) → x / 64 ≡ w → getD letters w 0 ≡ v → WordOf first p second r w v → HasKey letters x ↔ (HasKey first (p * 256 + x) × MayPair second r x)
       by w v e f g =
           let small : x % 64 < 64 = omega arith in
           let sum : x ≡ w * 64 + x % 64 = omega arith in
           let word = g (x % 64) small in (
-            λ m. subst (λ (z : ℕ). Marked first (p * 256 + z) × Matches second r z) (sym sum) (word .0 (subst (λ (z : ℕ). In z (x % 64)) f (marked-as letters x w (x % 64) sum small m))),
+            λ m. subst (λ (z : ℕ). HasKey first (p * 256 + z) × MayPair second r z) (sym sum) (word .0 (subst (λ (z : ℕ). In z (x % 64)) f (marked-as letters x w (x % 64) sum small m))),
             λ m. marked-by letters x w (x % 64) sum small
-                (subst (λ (z : ℕ). In z (x % 64)) (sym f) (word .1 (subst (λ (z : ℕ). Marked first (p * 256 + z) × Matches second r z) sum m))),
+                (subst (λ (z : ℕ). In z (x % 64)) (sym f) (word .1 (subst (λ (z : ℕ). HasKey first (p * 256 + z) × MayPair second r z) sum m))),
           )
 
-      at : (w : ℕ) → x / 64 ≡ w → Marked letters x ↔ (Marked first (p * 256 + x) × Matches second r x)
+      at : (w : ℕ) → x / 64 ≡ w → HasKey letters x ↔ (HasKey first (p * 256 + x) × MayPair second r x)
       at zero e = by 0 a e refl at-a
       at (suc zero) e = by 1 b e refl at-b
       at (suc (suc zero)) e = by 2 c e refl at-c
@@ -253,7 +253,7 @@ module _ (word x : ℕ) (small : x < 64) where
 pub record Looking (letters : List ℕ) (x b : ℕ) : Type 0 where
   pub low : x ≤ b
   pub high : b ≤ 256
-  pub none : (c : ℕ) → x ≤ c → c < b → Marked letters c → ⊥
+  pub none : (c : ℕ) → x ≤ c → c < b → HasKey letters c → ⊥
 
 pub letter-start : (letters : List ℕ) (x : ℕ) → x ≤ 256 → Looking letters x x
 letter-start letters x le = record { low = omega arith; high = le; none = λ (c : ℕ) (a : x ≤ c) (b : c < x) m. absurd (omega arith) }
@@ -263,7 +263,7 @@ letter-end letters x b s le = record { low = s .low; high = s .high; none = s .n
 
 module _ (letters : List ℕ) (x b : ℕ) (s : Looking letters x b) (lt : b < 256) (word c : ℕ) (at-word : word ≡ getD letters (b / 64) 0) (l : LeastFrom word (b % 64) c) where
   -- nothing below c in the word of b
-  still-none : (d : ℕ) → x ≤ d → d < b / 64 * 64 + c → Marked letters d → ⊥
+  still-none : (d : ℕ) → x ≤ d → d < b / 64 * 64 + c → HasKey letters d → ⊥
   still-none d le up m = at (decLt d b)
     where
       at : Dec (d < b) → ⊥

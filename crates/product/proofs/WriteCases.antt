@@ -33,7 +33,7 @@ use Rattle.basics.specs.Lists.{put}
 use Rattle.product.specs.Each.{each}
 use Rattle.product.specs.Each.Laws.{each-step, each-over, each-same, each-none, each-block, each-skip, length-each, Putting, putting-start, putting-room, putting-step, putting-at, putting-end}
 use Rattle.product.specs.Each.Sums.{sum-const}
-use Rattle.product.specs.Letters.{Marked, Matches, Occurs, Starts, Indexed, Common, Least, Searching, NextMove}
+use Rattle.product.specs.Letters.{HasKey, MayPair, Occurs, Starts, Indexed, Common, Least, Searching, NextMove}
 use Rattle.product.specs.Order.{letterKey, Lower, Block, Moving}
 use Rattle.product.specs.Product.{joint, jointMoves, joinedFrom, joined, flat, joinedTransitions}
 use Rattle.product.specs.Steps.{letterMove}
@@ -245,7 +245,7 @@ module _ {list starts letters : List ℕ} {p i hi : ℕ} (s : Searching list sta
           low = omega arith;
           high = omega arith;
           passed = λ (k : ℕ) (a : i ≤ k) (c : k < i) m. absurd (omega arith);
-          reached = λ h. subst (λ (z : ℕ). Marked letters z) (e ∙ same-letter) (l .member (omega arith));
+          reached = λ h. subst (λ (z : ℕ). HasKey letters z) (e ∙ same-letter) (l .member (omega arith));
         }
 
     pub next-end : b ≡ 256 → NextMove list letters i hi hi
@@ -314,7 +314,7 @@ module _ {list starts letters : List ℕ} {p i hi : ℕ} (s : Searching list sta
                 let key = keyed next after before in
                 let found = next-key in
                 let e : b ≡ letter next = omega arith in
-                subst (λ (z : ℕ). Marked letters z) e (l .member small-b);
+                subst (λ (z : ℕ). HasKey letters z) e (l .member small-b);
           }
 
 -- Tables
@@ -348,7 +348,7 @@ module _ {m₁ : Machine} {l₁ : List ℕ} {m₂ : Machine} {l₂ : List ℕ} (
     pub low : lo ≤ i
     pub high : i ≤ hi
     pub putting : Putting entry k (flat (joinedFrom m₁ l₁ m₂ l₂ p r)) list at (flat (each i (hi - i) (moves r)))
-    pub reached : i < hi → Marked letters (transitionAt l₁ i .letter)
+    pub reached : i < hi → HasKey letters (transitionAt l₁ i .letter)
 
   from-block : (p r lo hi : ℕ) → Block l₁ (m₁ .transitions) p lo hi → joinedFrom m₁ l₁ m₂ l₂ p r ≡ each lo (hi - lo) (moves r)
   unfolding joinedFrom
@@ -392,16 +392,16 @@ module _ {m₁ : Machine} {l₁ : List ℕ} {m₂ : Machine} {l₂ : List ℕ} (
         omega arith
 
     -- a transition of the first whose letter is not common gives nothing
-    not-common : (i : ℕ) → lo ≤ i → i < hi → (Marked letters (transitionAt l₁ i .letter) → ⊥) → moves r i ≡ []
+    not-common : (i : ℕ) → lo ≤ i → i < hi → (HasKey letters (transitionAt l₁ i .letter) → ⊥) → moves r i ≡ []
     not-common i a c none =
         let top = g .block .high in
         let inside : i < m₁ .transitions = omega arith in
         let small = first-small i inside in
-        let own : Marked keys₁ (p * 256 + transitionAt l₁ i .letter) =
-        subst (λ (y : ℕ). Marked keys₁ y) (first-key i a c) (g .first-index .keys .all i inside) in
+        let own : HasKey keys₁ (p * 256 + transitionAt l₁ i .letter) =
+        subst (λ (y : ℕ). HasKey keys₁ y) (first-key i a c) (g .first-index .keys .all i inside) in
         nothing-given (m₂ .states) (m₂ .transitions) l₂ r (transitionAt l₁ i)
         (λ e. none (g .common (transitionAt l₁ i .letter) small .1 (own, inl e)))
-        (λ u lt e. none (g .common (transitionAt l₁ i .letter) small .1 (own, inr (subst (λ (y : ℕ). Marked keys₂ y) e (g .second-index .keys .all u lt)))))
+        (λ u lt e. none (g .common (transitionAt l₁ i .letter) small .1 (own, inr (subst (λ (y : ℕ). HasKey keys₂ y) e (g .second-index .keys .all u lt)))))
 
     pub meeting-searching : (i : ℕ) → lo ≤ i → i ≤ hi → Searching l₁ starts₁ letters p i hi
     meeting-searching i a c =
@@ -451,7 +451,7 @@ module _ {m₁ : Machine} {l₁ : List ℕ} {m₂ : Machine} {l₂ : List ℕ} (
             start = λ some. begin some (g .common (transitionAt l₁ i .letter) (first-small i inside) .0 (s .reached lt) .1);
           })
         where
-          begin : (transitionAt l₁ i .letter ≡ 0 → ⊥) → Matches keys₂ r (transitionAt l₁ i .letter)
+          begin : (transitionAt l₁ i .letter ≡ 0 → ⊥) → MayPair keys₂ r (transitionAt l₁ i .letter)
               → Lower l₂ (m₂ .transitions) 0 (r * 256 + transitionAt l₁ i .letter) (getD starts₂ (r * 256 + transitionAt l₁ i .letter) 0)
           begin some (inl z) = absurd (some z)
           begin some (inr m) =

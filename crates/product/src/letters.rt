@@ -13,7 +13,7 @@ ghost use mathlib.Core.Logic.{_↔_};
 ghost use lib.ListN.{length};
 ghost use Rattle.stateset.specs.Set.{In};
 ghost use Rattle.product.specs.Each.{zerosOf};
-ghost use Rattle.product.specs.Letters.{Marked, Matches, KeySet, Starts, Common, Least, LeastFrom};
+ghost use Rattle.product.specs.Letters.{HasKey, MayPair, KeySet, Starts, Common, Least, LeastFrom};
 ghost use Rattle.product.specs.Order.{letterKey};
 use fsbm::machine;
 
@@ -82,7 +82,7 @@ fn common_word(
     w: usize,
 ) -> u64
     requires { ⌜ (p < 64) × (r < 64) × (w < 4) ⌝ }
-    ensures { λ v. ⌜ ((c : ℕ) → c < 64 → In v c ↔ (Marked (now (first .entry)) (p * 256 + (w * 64 + c)) × Matches (now (second .entry)) r (w * 64 + c))) ⌝ }
+    ensures { λ v. ⌜ ((c : ℕ) → c < 64 → In v c ↔ (HasKey (now (first .entry)) (p * 256 + (w * 64 + c)) × MayPair (now (second .entry)) r (w * 64 + c))) ⌝ }
 {
     let own = first[p * 4 + w];
     let other = second[r * 4 + w];

@@ -9,8 +9,8 @@ ghost use Rattle.images.specs.Graph.{setOf, KindsOf};
 ghost use Rattle.targets.specs.Prepared.{Prepared};
 ghost use Rattle.decide.specs.Covers.{Covers};
 ghost use Rattle.recognize.specs.Recognition.{longestRecognized, Recognition};
-use decide::places;
-use decide::places::Reached;
+use decide::positions;
+use decide::positions::Reached;
 use fsbm::answer;
 use fsbm::answer::Refusal;
 use fsbm::limits::LONGEST_WORD;
@@ -39,7 +39,7 @@ fn reach(m: Machine, list: &[u16], targets: &mut [u64], kinds: Kinds, word: &[u8
         × Prepared m (now (list .entry)) (now (word .entry)) (now (targets .exit)) ⌝ }
 {
     targets::prepare_for(m, list, word, targets);
-    places::decide(m, list, &*targets, kinds, word)
+    positions::decide(m, list, &*targets, kinds, word)
 }
 
 // The answer to input that is not refused, with a table of zeros lent.
@@ -121,7 +121,7 @@ fn is_too_short(room: usize, needed: usize) -> bool
 // what stands past the run. It refuses 16 (the record and its list break the rules of a table), 9 (a word of more than 255 letters),
 // 8 (a letter that is not there), 17 (run shorter than 3 × states × (letters + 1), which is the length needed), in this order, before
 // the answer is known.
-// Time: the transitions once, and the sets of states reached at each position (decide::places); on yes also the fewest entries to
+// Time: the transitions once, and the sets of states reached at each position (decide::positions); on yes also the fewest entries to
 // acceptance along them (runs::walk). Memory: on the stack, no heap; see docs/PERFORMANCE.md.
 pub fn recognize(m: Machine, list: &[u16], word: &[u8], run: &mut [u16]) -> Recognized
     ensures { λ r. ⌜ Recognition m (now (list .entry)) (now (word .entry)) (now (run .entry)) (now (run .exit)) r ⌝ }

@@ -124,8 +124,8 @@ module _ (m : Machine) (list sets w : List ℕ) (t emptied stored : List (List �
         emptied-size = refl;
         stored-size = g .size;
         ready = record {
-          places = f .places;
-          sized = record { places = f .sized .places; emptied-rows = f .sized .emptied-rows; stored-rows = omega (arith, f .sized .stored-rows, g .size) };
+          positions = f .positions;
+          sized = record { positions = f .sized .positions; emptied-rows = f .sized .emptied-rows; stored-rows = omega (arith, f .sized .stored-rows, g .size) };
           begun = λ b. f .storing z .1;
           storing = λ b d pos le. g .each d pos le;
           matching = λ b. let d : _≡_ {A = ℕ} 0 1 = cc in absurd (omega arith);
@@ -139,7 +139,7 @@ module _ (m : Machine) (list sets w : List ℕ) (t emptied stored : List (List �
         emptied-size = refl;
         stored-size = refl;
         ready = record {
-          places = f .places;
+          positions = f .positions;
           sized = f .sized;
           begun = λ b. f .storing z .1;
           storing = λ b d (pos : 0 < d) (le : c .start + d + d ≤ length w). absurd (omega arith);
@@ -154,8 +154,8 @@ module _ (m : Machine) (list sets w : List ℕ) (t emptied stored : List (List �
         emptied-size = g .size;
         stored-size = refl;
         ready = record {
-          places = f .places;
-          sized = record { places = f .sized .places; emptied-rows = omega (arith, f .sized .emptied-rows, g .size); stored-rows = f .sized .stored-rows };
+          positions = f .positions;
+          sized = record { positions = f .sized .positions; emptied-rows = omega (arith, f .sized .emptied-rows, g .size); stored-rows = f .sized .stored-rows };
           begun = λ b. let d : _≡_ {A = ℕ} 0 1 = cc in absurd (omega arith);
           storing = λ b. let d : _≡_ {A = ℕ} 0 1 = cc in absurd (omega arith);
           matching = λ b. record { inside = inside; equal = equal; rows = g .each };
@@ -169,7 +169,7 @@ module _ (m : Machine) (list sets w : List ℕ) (t emptied stored : List (List �
         emptied-size = refl;
         stored-size = refl;
         ready = record {
-          places = f .places;
+          positions = f .positions;
           sized = f .sized;
           begun = λ b. let d : _≡_ {A = ℕ} 0 1 = cc in absurd (omega arith);
           storing = λ b. let d : _≡_ {A = ℕ} 0 1 = cc in absurd (omega arith);

@@ -27,7 +27,7 @@ use Rattle.fsbm.specs.declared.config.Mode.the-variants.{Normal, Buffering, Emp
 use Rattle.language.specs.Agreement.{published}
 use Rattle.layers.specs.Costs.{at, Best}
 use Rattle.layers.specs.Layers.{Begins}
-use Rattle.tables.specs.Tables.{nearOf, rowAt, PlaceRows, EmptyRow, BufferRow, Sized}
+use Rattle.tables.specs.Tables.{nearOf, rowAt, PositionRows, EmptyRow, BufferRow, Sized}
 pub mod Laws
 
 abbrev pub endOf : Config → ℕ
@@ -39,7 +39,7 @@ pub record Second (m : Machine) (list sets w : List ℕ) (emptied : List (List �
   pub rows : (r : ℕ) → r ≤ c .end - c .start → EmptyRow m list sets w (endOf c) r (rowAt emptied r)
 
 pub record Ready (m : Machine) (list sets w : List ℕ) (t emptied stored : List (List ℕ)) (c : Config) : Type 0 where
-  pub places : (p : ℕ) → p ≤ length w → PlaceRows m list sets w t p
+  pub positions : (p : ℕ) → p ≤ length w → PositionRows m list sets w t p
   pub sized : Sized w t emptied stored
   pub begun : c .mode ≡ Buffering → Begins m (nearOf m w sets) (drop (c .start) w)
   pub storing : c .mode ≡ Buffering → (d : ℕ) → 0 < d → c .start + d + d ≤ length w → BufferRow m list sets w (c .start) d (rowAt stored d)
@@ -64,7 +64,7 @@ pub record Entered (m : Machine) (list sets w : List ℕ) (c : Config) (d e : �
   pub best : Best m list (nearOf m w sets) (published w (move m list w c e .config)) d
 
 pub record Fresh (m : Machine) (list sets w : List ℕ) (t emptied stored : List (List ℕ)) (c : Config) (e : ℕ) : Type 0 where
-  pub places : (p : ℕ) → p ≤ length w → PlaceRows m list sets w t p
+  pub positions : (p : ℕ) → p ≤ length w → PositionRows m list sets w t p
   pub sized : Sized w t emptied stored
   pub kept : e < beginBuffering → Ready m list sets w t emptied stored c
   pub storing : e ≡ beginBuffering → (c .mode ≡ Buffering) × Begins m (nearOf m w sets) (drop (c .start) w)

@@ -13,10 +13,10 @@ ghost use Rattle.adjacency.specs.Index.{Index};
 ghost use Rattle.targets.specs.Prepared.{Prepared};
 ghost use Rattle.images.specs.Graph.{KindsOf};
 ghost use Rattle.decide.specs.Covers.{Covers};
-ghost use Rattle.tables.specs.Tables.{nearOf, Known, Sized, Sizes, PlaceRows};
+ghost use Rattle.tables.specs.Tables.{nearOf, Known, Sized, Sizes, PositionRows};
 ghost use Rattle.runs.specs.Walk.{Ready, changeEntry, Tried, Scanned, Entered, Fresh, Refreshed, Started, Written};
 use adjacency::FIRSTS;
-use decide::places::Reached;
+use decide::positions::Reached;
 use fsbm::config::BACK_TO_NORMAL;
 use fsbm::config::BEGIN_BUFFERING;
 use fsbm::config::BEGIN_EMPTYING;
@@ -232,7 +232,7 @@ fn walk(
     run: &mut [u16],
 ) -> usize
     requires { ⌜ (wellFormed m (now list) ≡ true) × (q < m .states) × (initial (m .marks) q ≡ true) × Sized (now word) (now t) (now emptied) (now stored)
-        × ((p : ℕ) → p ≤ length (now word) → PlaceRows m (now list) (now sets) (now word) (now t) p) × Best m (now list) (nearOf m (now word) (now sets)) (published (now word) (startAt q)) moves × (moves < none) × (1 + moves ≤ length (now run))
+        × ((p : ℕ) → p ≤ length (now word) → PositionRows m (now list) (now sets) (now word) (now t) p) × Best m (now list) (nearOf m (now word) (now sets)) (published (now word) (startAt q)) moves × (moves < none) × (1 + moves ≤ length (now run))
         × ((other : List ℕ) → accepting m (now list) (now word) other ≡ true → 1 + moves ≤ length other) × Known m (now list) (now targets) g h (now word) × Index m (now list) (now first) ⌝ }
     ensures { λ r. ⌜ Written m (now (list .entry)) (now (word .entry)) r (now (run .entry)) (now (run .exit)) ⌝ }
 {
@@ -342,7 +342,7 @@ fn write_with(
 }
 
 // The tables of a word of at most 15 letters, of at most 63, and of at most 255.
-fn few_places() -> [[u32; MAX_STATES]; 48] {
+fn few_positions() -> [[u32; MAX_STATES]; 48] {
     [[NONE; MAX_STATES]; 48]
 }
 
@@ -354,7 +354,7 @@ fn few_rows() -> [[u32; MAX_STATES]; 8] {
     [[NONE; MAX_STATES]; 8]
 }
 
-fn some_places() -> [[u32; MAX_STATES]; 192] {
+fn some_positions() -> [[u32; MAX_STATES]; 192] {
     [[NONE; MAX_STATES]; 192]
 }
 
@@ -366,7 +366,7 @@ fn some_rows() -> [[u32; MAX_STATES]; 32] {
     [[NONE; MAX_STATES]; 32]
 }
 
-fn all_places() -> [[u32; MAX_STATES]; 768] {
+fn all_positions() -> [[u32; MAX_STATES]; 768] {
     [[NONE; MAX_STATES]; 768]
 }
 
@@ -393,7 +393,7 @@ fn write_long(
         × Covers m (now list) (now word) (now sets) ⌝ }
     ensures { λ r. ⌜ Written m (now (list .entry)) (now (word .entry)) r (now (run .entry)) (now (run .exit)) ⌝ }
 {
-    let mut t = all_places();
+    let mut t = all_positions();
     let mut ends = all_ends();
     let mut left: [u16; POSITIONS] = [0; POSITIONS];
     let mut emptied = all_rows();
@@ -430,7 +430,7 @@ fn write_medium(
         × Covers m (now list) (now word) (now sets) ⌝ }
     ensures { λ r. ⌜ Written m (now (list .entry)) (now (word .entry)) r (now (run .entry)) (now (run .exit)) ⌝ }
 {
-    let mut t = some_places();
+    let mut t = some_positions();
     let mut ends = some_ends();
     let mut left: [u16; 64] = [0; 64];
     let mut emptied = some_rows();
@@ -467,7 +467,7 @@ fn write_short(
         × Covers m (now list) (now word) (now sets) ⌝ }
     ensures { λ r. ⌜ Written m (now (list .entry)) (now (word .entry)) r (now (run .entry)) (now (run .exit)) ⌝ }
 {
-    let mut t = few_places();
+    let mut t = few_positions();
     let mut ends = few_ends();
     let mut left: [u16; 16] = [0; 16];
     let mut emptied = few_rows();

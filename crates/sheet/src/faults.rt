@@ -6,6 +6,9 @@ ghost use Rattle.fsbm.specs.Machine.{named, precedes};
 ghost use Rattle.sheet.specs.Series.{firstOf};
 ghost use Rattle.sheet.specs.Reading.{asTransition, orderFault};
 ghost use Rattle.sheet.specs.Reading.{columnAt, countsFault, headerFault, markFault, stateFault, transitionFault, firstFault};
+use crate::HEADER_LENGTH;
+use crate::STATE_LENGTH;
+use crate::TRANSITION_LENGTH;
 use fsbm::limits::MAX_LETTERS;
 use fsbm::limits::MAX_STATES;
 use fsbm::limits::MAX_TRANSITIONS;
@@ -56,7 +59,7 @@ fn counts_fault(states: usize, letters: usize, transitions: usize) -> u8
 fn header_fault(sheet: &[u8]) -> u8
     ensures { λ r. ⌜ r ≡ headerFault (now (sheet .entry)) ⌝ }
 {
-    if sheet.len() < 16 {
+    if sheet.len() < HEADER_LENGTH {
         return 1;
     }
     let mut numbers: [usize; 3] = [0; 3];
@@ -99,13 +102,13 @@ fn state_faults(sheet: &[u8], states: usize) -> u8
     ensures { λ r. ⌜ r ≡ firstOf states (stateFault (now (sheet .entry))) ⌝ }
 {
     let mut numbers: [usize; 2] = [0; 2];
-    let mut at: usize = 16;
+    let mut at: usize = HEADER_LENGTH;
     let mut q: usize = 0;
     let fault: u8 = 'sheet: loop {
         if q == states {
             break 'sheet 0;
         }
-        if sheet.len() < at + 11 {
+        if sheet.len() < at + STATE_LENGTH {
             break 'sheet 1;
         }
         let mut c: usize = 0;
@@ -124,7 +127,7 @@ fn state_faults(sheet: &[u8], states: usize) -> u8
         if wrong != 0 {
             break 'sheet wrong;
         }
-        at += 11;
+        at += STATE_LENGTH;
         q += 1;
     };
     fault
@@ -186,13 +189,13 @@ fn transition_faults(sheet: &[u8], states: usize, letters: usize, transitions: u
         letter: 0,
         to: 0,
     };
-    let mut at: usize = 16 + 11 * states;
+    let mut at: usize = HEADER_LENGTH + STATE_LENGTH * states;
     let mut left: usize = transitions;
     let fault: u8 = 'sheet: loop {
         if left == 0 {
             break 'sheet 0;
         }
-        if sheet.len() < at + 16 {
+        if sheet.len() < at + TRANSITION_LENGTH {
             break 'sheet 1;
         }
         let mut c: usize = 0;
@@ -216,7 +219,7 @@ fn transition_faults(sheet: &[u8], states: usize, letters: usize, transitions: u
             break 'sheet wrong;
         }
         before = t;
-        at += 16;
+        at += TRANSITION_LENGTH;
         left -= 1;
     };
     fault
@@ -242,7 +245,7 @@ pub fn first_fault(sheet: &[u8]) -> u8
     if transition != 0 {
         return transition;
     }
-    if 16 + 11 * states + 16 * transitions < sheet.len() {
+    if HEADER_LENGTH + STATE_LENGTH * states + TRANSITION_LENGTH * transitions < sheet.len() {
         return 7;
     }
     0

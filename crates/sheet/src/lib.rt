@@ -6,3 +6,10 @@
 pub mod faults;
 pub mod read;
 pub mod write;
+
+// The bytes of line one, of a state's line and of a transition's line.
+pub const HEADER_LENGTH: usize = 16;
+
+pub const STATE_LENGTH: usize = 11;
+
+pub const TRANSITION_LENGTH: usize = 16;

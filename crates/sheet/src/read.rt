@@ -5,6 +5,9 @@ ghost use mathlib.Core.List.{_++_};
 ghost use lib.ListN.{length, drop};
 ghost use Rattle.fsbm.specs.Answers.{refusal, noMachine};
 ghost use Rattle.sheet.specs.Reading.{columnAt, firstFault, marksOf, transitionsOf, readAnswer, readList};
+use crate::HEADER_LENGTH;
+use crate::STATE_LENGTH;
+use crate::TRANSITION_LENGTH;
 use crate::faults;
 use fsbm::answer::Refusal;
 use fsbm::limits::MAX_STATES;
@@ -41,7 +44,7 @@ fn read_marks(sheet: &[u8], states: usize) -> [u8; MAX_STATES]
     let mut q: usize = 0;
     while q < states {
         marks[q] = faults::short_column(sheet, at) as u8;
-        at += 11;
+        at += STATE_LENGTH;
         q += 1;
     }
     marks
@@ -52,14 +55,14 @@ fn read_transitions(sheet: &[u8], states: usize, transitions: usize, list: &mut 
     requires { ⌜ (firstFault (now sheet) ≡ 0) × (states ≡ columnAt (now sheet) 0) × (transitions ≡ columnAt (now sheet) 10) × (transitions * 3 ≤ length (now list)) ⌝ }
     ensures { λ r. ⌜ now (list .exit) ≡ transitionsOf (now (sheet .entry)) ++ drop (columnAt (now (sheet .entry)) 10 * 3) (now (list .entry)) ⌝ }
 {
-    let mut at: usize = 16 + 11 * states;
+    let mut at: usize = HEADER_LENGTH + STATE_LENGTH * states;
     let mut k: usize = 0;
     while k < transitions {
         let i = k * 3;
         list[i] = faults::short_column(sheet, at) as u16;
         list[i + 1] = faults::short_column(sheet, at + 5) as u16;
         list[i + 2] = faults::short_column(sheet, at + 10) as u16;
-        at += 16;
+        at += TRANSITION_LENGTH;
         k += 1;
     }
 }

@@ -8,6 +8,9 @@ ghost use Rattle.sheet.specs.Series.{eachBelow};
 ghost use Rattle.fsbm.specs.Machine.{transitionAt};
 ghost use Rattle.sheet.specs.Format.{Short, lineOf, stateLine, transitionLine};
 ghost use Rattle.sheet.specs.Writing.{writeAnswer, writeSheet, writtenValues, writeValues};
+use crate::HEADER_LENGTH;
+use crate::STATE_LENGTH;
+use crate::TRANSITION_LENGTH;
 use fsbm::answer::Refusal;
 use fsbm::limits::MAX_STATES;
 use fsbm::machine;
@@ -56,11 +59,11 @@ fn write_states(sheet: &mut [u8], marks: &[u8; MAX_STATES], states: usize)
     requires { ⌜ (states ≤ 64) × (16 + 11 * states ≤ length (now sheet)) ⌝ }
     ensures { λ r. ⌜ now (sheet .exit) ≡ put 16 (now (sheet .entry)) (eachBelow states (stateLine (now (marks .entry)))) ⌝ }
 {
-    let mut at: usize = 16;
+    let mut at: usize = HEADER_LENGTH;
     let mut q: usize = 0;
     while q < states {
         write_state(sheet, at, q as u16, machine::mark(marks, q) as u16);
-        at += 11;
+        at += STATE_LENGTH;
         q += 1;
     }
 }
@@ -75,7 +78,7 @@ fn write_transitions(sheet: &mut [u8], list: &[u16], start: usize, transitions: 
     while k < transitions {
         let i = k * 3;
         write_transition(sheet, at, list[i], list[i + 1], list[i + 2]);
-        at += 16;
+        at += TRANSITION_LENGTH;
         k += 1;
     }
 }
@@ -93,8 +96,8 @@ pub fn write_sheet(m: Machine, list: &[u16], sheet: &mut [u8]) -> Written
             needed: 0,
         });
     }
-    let start = 16 + 11 * m.states;
-    let needed = start + 16 * m.transitions;
+    let start = HEADER_LENGTH + STATE_LENGTH * m.states;
+    let needed = start + TRANSITION_LENGTH * m.transitions;
     if sheet.len() < needed {
         return Written::Refused(Refusal { number: 19, needed });
     }

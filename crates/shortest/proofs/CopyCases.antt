@@ -13,7 +13,7 @@ use Rattle.fsbm.specs.Machine.{transitionAt, buffering}
 use Rattle.fsbm.specs.declared.machine.Transition.{Transition}
 use Rattle.pieces.specs.Blocks.{costOf, cell}
 use Rattle.shortest.specs.Put.{Put}
-use Rattle.shortest.specs.Copy.{begunTest, place, Matched, Stored}
+use Rattle.shortest.specs.Copy.{begunTest, place, Matched, KeptOrNot}
 use Rattle.shortest.specs.declared.copy.Walk.{Walk}
 
 pub begun-is : (marks d b : List ℕ) (h s t : ℕ) → (eqb t h && (buffering marks s && eqb (costOf d s + 1) (cell b s t))) ≡ begunTest marks d b h s t
@@ -26,6 +26,6 @@ matched-is list n k word run w word′ run′ i u is below p =
     inr (record { below = below; put = p; is = ap (λ (v : Transition). place (w .storing) (v .from) i (w .entry - 1) (w .kept)) is })
 
 pub stored-is : (list : List ℕ) (n k : ℕ) (later : List ℕ) (w : Walk) (u : Transition) → u ≡ transitionAt list k → k < n
-    → Stored list n k later w (set later (w .kept) k) (place (u .from) (w .matching) (w .letter) (w .entry) (w .kept + 1))
+    → KeptOrNot list n k later w (set later (w .kept) k) (place (u .from) (w .matching) (w .letter) (w .entry) (w .kept + 1))
 stored-is list n k later w u is below =
     inr (record { below = below; later-is = refl; is = ap (λ (v : Transition). place (v .from) (w .matching) (w .letter) (w .entry) (w .kept + 1)) is })

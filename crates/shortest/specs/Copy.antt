@@ -3,7 +3,7 @@
 -- begunTest marks d b h s t == a copy with the guess h has just begun at the pair (s, t), and this makes the pair's number
 -- at s t i r c           == a place of the walk
 -- MatchedReady, Matched  == what is asked and ensured where a move of the matching half is written
--- StoredReady, Stored    == the same where a move of the storing half is kept
+-- StoredReady, KeptOrNot    == the same where a move of the storing half is kept
 -- Room m list b h z i r  == every copy with the guess h that ends in z, begun at any pair, fits before place i of the word and place r of
 --                           the run, with the two entries that begin it
 -- Walking ..             == the two halves are written from (s, t) to (h, z), and the pairs passed have larger numbers
@@ -30,7 +30,7 @@ use Rattle.pieces.specs.Blocks.{nothing, costOf, cell, Settles}
 use Rattle.pieces.specs.Written.{StoresBy, MatchesBy, LeadsBy}
 use Rattle.shortest.specs.Into.{Into}
 use Rattle.shortest.specs.Put.{PutReady, Put, laterList}
-use Rattle.shortest.specs.declared.copy.Place.{Place}
+use Rattle.shortest.specs.declared.copy.Progress.{Progress}
 use Rattle.shortest.specs.declared.copy.Walk.{Walk}
 pub mod Laws
 pub mod Whole
@@ -72,8 +72,8 @@ pub record Kept (list : List ℕ) (n k : ℕ) (later : List ℕ) (w : Walk) (lat
   pub later-is : later′ ≡ set later (w .kept) k
   pub is : w′ ≡ place (transitionAt list k .from) (w .matching) (w .letter) (w .entry) (w .kept + 1)
 
-abbrev pub Stored : List ℕ → ℕ → ℕ → List ℕ → Walk → List ℕ → Walk → Type 0
-Stored list n k later w later′ w′ = Unkept n k later w later′ w′ ⊎ Kept list n k later w later′ w′
+abbrev pub KeptOrNot : List ℕ → ℕ → ℕ → List ℕ → Walk → List ℕ → Walk → Type 0
+KeptOrNot list n k later w later′ w′ = Unkept n k later w later′ w′ ⊎ Kept list n k later w later′ w′
 
 abbrev pub Room : Machine → List ℕ → List ℕ → ℕ → ℕ → ℕ → ℕ → Type 0
 Room m list b h z i r =
@@ -136,7 +136,7 @@ pub record CopyReady (m : Machine) (list links d b : List ℕ) (h z : ℕ) (word
   pub run-fits : r ≤ length run
   pub later-size : length later ≡ 4096
 
-pub record Stepped (m : Machine) (list d : List ℕ) (q : ℕ) (word : List ℕ) (i : ℕ) (run : List ℕ) (r : ℕ) (word′ run′ : List ℕ) (p : Place) : Type 0 where
+pub record Stepped (m : Machine) (list d : List ℕ) (q : ℕ) (word : List ℕ) (i : ℕ) (run : List ℕ) (r : ℕ) (word′ run′ : List ℕ) (p : Progress) : Type 0 where
   pub read : List ℕ
   pub entries : List ℕ
   pub leads : LeadsBy m list (p .state) read entries q

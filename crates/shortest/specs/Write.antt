@@ -33,10 +33,10 @@ use Rattle.least.specs.Turns.{Entered}
 use Rattle.shortest.specs.Into.{Into}
 use Rattle.shortest.specs.Put.{Put}
 use Rattle.shortest.specs.Copy.{Fits, Stepped}
-use Rattle.shortest.specs.declared.copy.Place.{Place}
+use Rattle.shortest.specs.declared.copy.Progress.{Progress}
 pub mod Laws
 
-pub record Read (list : List ℕ) (k : ℕ) (word : List ℕ) (i : ℕ) (run : List ℕ) (r : ℕ) (word′ run′ : List ℕ) (p : Place) : Type 0 where
+pub record Read (list : List ℕ) (k : ℕ) (word : List ℕ) (i : ℕ) (run : List ℕ) (r : ℕ) (word′ run′ : List ℕ) (p : Progress) : Type 0 where
   pub put : Put list k word i run r word′ (p .letter) run′
   pub state : p .state ≡ transitionAt list k .from
   pub entry : p .entry ≡ r - 1
@@ -87,7 +87,7 @@ pub record StepReady (m : Machine) (list links index : List ℕ) (starts ends mi
   pub later-size : length later ≡ 4096
 
 -- a piece is written, and what a further step asks of the room to work in is there
-pub record StepDone (m : Machine) (list index : List ℕ) (starts ends middles : ℕ) (d b′ : List ℕ) (q : ℕ) (word : List ℕ) (i : ℕ) (run : List ℕ) (r : ℕ) (word′ run′ later′ : List ℕ) (p : Place) : Type 0 where
+pub record StepDone (m : Machine) (list index : List ℕ) (starts ends middles : ℕ) (d b′ : List ℕ) (q : ℕ) (word : List ℕ) (i : ℕ) (run : List ℕ) (r : ℕ) (word′ run′ later′ : List ℕ) (p : Progress) : Type 0 where
   pub stepped : Stepped m list d q word i run r word′ run′ p
   pub size : length b′ ≡ 4096
   pub past : Past m b′
@@ -112,7 +112,7 @@ pub record Aim (m : Machine) (list d : List ℕ) (f n e : ℕ) : Type 0 where
   pub some : 0 < e
   pub small : e < unit
 
-pub record Writing (m : Machine) (list d : List ℕ) (f : ℕ) (word₀ run₀ word run : List ℕ) (p : Place) : Type 0 where
+pub record Writing (m : Machine) (list d : List ℕ) (f : ℕ) (word₀ run₀ word run : List ℕ) (p : Progress) : Type 0 where
   pub leads : LeadsBy m list (p .state) (drop (p .letter) word) (drop (p .entry) run) f
   pub sum : costOf d (p .state) + (length (drop (p .letter) word) * unit + length (drop (p .entry) run)) ≡ costOf d f
   pub word-size : length word ≡ length word₀

@@ -2,7 +2,7 @@
 ghost use Prim.Native.Nat.{_+_, _<_};
 ghost use mathlib.Core.Path.{_≡_};
 ghost use lib.ListN.{length};
-ghost use Rattle.shortest.specs.Copy.{begunTest, MatchedReady, Matched, StoredReady, Stored, Going, Gone, CopyReady, Stepped};
+ghost use Rattle.shortest.specs.Copy.{begunTest, MatchedReady, Matched, StoredReady, KeptOrNot, Going, Gone, CopyReady, Stepped};
 use crate::find;
 use crate::into::LINKS;
 use crate::put;
@@ -26,7 +26,7 @@ pub struct Walk {
 }
 
 // How far a run is written, from its end: the state there, the places of the first letter and of the first entry.
-pub struct Place {
+pub struct Progress {
     pub state: usize,
     pub letter: usize,
     pub entry: usize,
@@ -75,7 +75,7 @@ fn matched(list: &[u16], n: usize, k: usize, word: &mut [u8], run: &mut [u16], w
 // Keeps a move of the storing half by transition k, one of n, where there is one.
 fn stored(list: &[u16], n: usize, k: usize, later: &mut [u16; MOST_PAIRS], w: Walk) -> Walk
     requires { ⌜ StoredReady n k w ⌝ }
-    ensures { λ r. ⌜ Stored (now (list .entry)) n k (now (later .entry)) w (now (later .exit)) r ⌝ }
+    ensures { λ r. ⌜ KeptOrNot (now (list .entry)) n k (now (later .entry)) w (now (later .exit)) r ⌝ }
 {
     if n <= k {
         return w;
@@ -141,7 +141,7 @@ pub fn copy(
     run: &mut [u16],
     r: usize,
     later: &mut [u16; MOST_PAIRS],
-) -> Place
+) -> Progress
     requires { ⌜ CopyReady m (now list) (now links) (now d) (now b) h z (now word) i (now run) r (now later) ⌝ }
     ensures { λ p. ⌜ Stepped m (now (list .entry)) (now (d .entry)) z (now (word .entry)) i (now (run .entry)) r (now (word .exit)) (now (run .exit)) p × (length (now (later .exit)) ≡ 4096) ⌝ }
 {
@@ -154,7 +154,7 @@ pub fn copy(
     put::unload(later, w.kept, run, e);
     let f = e - w.kept - 1;
     run[f] = BEGIN_BUFFERING;
-    Place {
+    Progress {
         state: w.storing,
         letter: j - (i - j),
         entry: f,

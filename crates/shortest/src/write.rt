@@ -5,7 +5,7 @@ ghost use lib.ListN.{length};
 ghost use Rattle.shortest.specs.Put.{PutReady};
 ghost use Rattle.shortest.specs.Write.{Read, Searching, TriedGuess, CopyThere, Guessed, StepReady, StepDone, WriteReady, Aim, Shortest};
 use crate::copy;
-use crate::copy::Place;
+use crate::copy::Progress;
 use crate::find;
 use crate::into::LINKS;
 use crate::put;
@@ -18,13 +18,13 @@ use fsbm::machine;
 use fsbm::machine::Machine;
 
 // Writes a normal move by transition k before place i of the word and place r of the run.
-fn read(list: &[u16], k: usize, word: &mut [u8], i: usize, run: &mut [u16], r: usize) -> Place
+fn read(list: &[u16], k: usize, word: &mut [u8], i: usize, run: &mut [u16], r: usize) -> Progress
     requires { ⌜ PutReady (now list) k (now word) i (now run) r ⌝ }
     ensures { λ p. ⌜ Read (now (list .entry)) k (now (word .entry)) i (now (run .entry)) r (now (word .exit)) (now (run .exit)) p ⌝ }
 {
     let j = put::put(list, k, word, i, run, r);
     let t = machine::transition_at(list, k);
-    Place {
+    Progress {
         state: t.from as usize,
         letter: j,
         entry: r - 1,
@@ -101,7 +101,7 @@ fn step(
     run: &mut [u16],
     r: usize,
     later: &mut [u16; MOST_PAIRS],
-) -> Place
+) -> Progress
     requires { ⌜ StepReady m (now list) (now links) (now index) starts ends middles (now d) (now b) q (now word) i (now run) r (now later) ⌝ }
     ensures { λ p. ⌜ StepDone m (now (list .entry)) (now (index .entry)) starts ends middles (now (d .entry)) (now (b .exit)) q (now (word .entry)) i (now (run .entry)) r (now (word .exit)) (now (run .exit)) (now (later .exit)) p ⌝ }
 {
@@ -147,7 +147,7 @@ pub fn write(
     requires { ⌜ WriteReady m (now list) (now links) (now index) starts ends middles (now d) (now b) f (now later) × Aim m (now list) (now d) f (length (now word)) (length (now run)) ⌝ }
     ensures { λ u. ⌜ Shortest m (now (list .entry)) f (now (word .exit)) (now (run .exit)) ⌝ }
 {
-    let mut p = Place {
+    let mut p = Progress {
         state: f,
         letter: word.len(),
         entry: run.len(),

@@ -1,12 +1,12 @@
 -- The ways through the functions of src/copy.rt.
 --
 -- empty-rows-start, empty-rows-next, empty-rows-end == the loop of emptying_rows
--- wound-dead, wound-whole     == the returns of wind
+-- extended-dead, extended-whole     == the returns of extend
 -- keep-live, keep-dead        == the returns of keep
 -- ended-blank                 == ended_row where the end is known to be blank
 -- change-unmatched, change-ended == the returns of change_row
 -- stored-both, stored-none    == the returns of stored_row
--- skip-more, skip-blank       == copies that are idle
+-- skip-more, skip-blank       == copies that are fruitless
 -- storing-start, storing-next, storing-skip, storing-end == the loop of storing_row
 -- starting-none, starting-some == the returns of starting_row
 -- buffer-rows-start, buffer-rows-next, buffer-rows-end == the loop of buffering_rows
@@ -29,7 +29,7 @@ use Rattle.tables.specs.declared.copy.Layer.{Layer}
 use Rattle.tables.specs.declared.copy.Tail.{Tail}
 use Rattle.tables.specs.Halves.{Halves, SharedFrom}
 use Rattle.tables.specs.Halves.Laws.{shared-halves, shared-unequal}
-use Rattle.tables.specs.Tables.{nearOf, rowAt, EmptyRow, BufferRow, EmptyingRows, BufferingRows, Told, EmptyLayer, BufferLayer, ChangeLayer, BlankFrom, Wound, EndRow, Ends, Idle, Skipped, EndedRow, ChangedRow, StoredRow, StoringRow, StartingRow}
+use Rattle.tables.specs.Tables.{nearOf, rowAt, EmptyRow, BufferRow, EmptyingRows, BufferingRows, BlankUnlessLive, EmptyLayer, BufferLayer, ChangeLayer, BlankFrom, Extended, EndRow, EndRows, Fruitless, Skipped, EndedRow, ChangedRow, StoredRow, StoringRow, StartingRow}
 use Rattle.tables.specs.Tables.Laws.{empty-next, blank-on, emptied-row, unmatched-row, buffer-past, buffer-next}
 
 -- a row that was put into a table
@@ -75,26 +75,26 @@ pub empty-rows-end : (m : Machine) (list sets w : List ℕ) (e d r : ℕ) (rows 
 empty-rows-end m list sets w e d r rows rows₀ rows′ row last is b f =
     record { size = f .rows-are .size ∙ ap length is ∙ length-set rows 0 last; each = λ k le. f .rows-are .each k (omega arith) }
 
--- what the loop of wind has done
+-- what the loop of extend has done
 pub record Winding (m : Machine) (list sets w : List ℕ) (e d k : ℕ) (row : List ℕ) : Type 0 where
   pub within : k ≤ d
   pub best : EmptyRow m list sets w e k row
 
 module _ (m : Machine) (list sets w : List ℕ) (e d : ℕ) where
-  pub wound-next : (k x : ℕ) (row row′ : List ℕ) → k < d → d ≤ e → e ≤ length w → x ≡ getD w (e - (k + 1)) 0 → Winding m list sets w e d k row → EmptyingLayer m list x row row′
+  pub extended-next : (k x : ℕ) (row row′ : List ℕ) → k < d → d ≤ e → e ≤ length w → x ≡ getD w (e - (k + 1)) 0 → Winding m list sets w e d k row → EmptyingLayer m list x row row′
       → Winding m list sets w e d (k + 1) row′
-  wound-next k x row row′ lt d-le le x-is g layer = record { within = omega arith; best = empty-next m list sets w e k x row row′ (omega arith) le x-is (g .best) layer }
+  extended-next k x row row′ lt d-le le x-is g layer = record { within = omega arith; best = empty-next m list sets w e k x row row′ (omega arith) le x-is (g .best) layer }
 
-  pub wound-dead : Rules m list → (k : ℕ) (row row′ : List ℕ) → e ≤ length w → Winding m list sets w e d k row → row ≡ blankRow → Wound m list sets w e d (record { left = k; live = false }) row′
-  wound-dead rules k row row′ le g blank =
+  pub extended-dead : Rules m list → (k : ℕ) (row row′ : List ℕ) → e ≤ length w → Winding m list sets w e d k row → row ≡ blankRow → Extended m list sets w e d (record { left = k; live = false }) row′
+  extended-dead rules k row row′ le g blank =
       record {
         whole = λ t. absurd (false≢true t);
         inside = g .within;
         blank = λ f. blank-on m list sets w rules e k le (subst (EmptyRow m list sets w e k) blank (g .best));
       }
 
-  pub wound-whole : (k : ℕ) (row : List ℕ) → d ≤ k → Winding m list sets w e d k row → Wound m list sets w e d (record { left = d; live = true }) row
-  wound-whole k row l g =
+  pub extended-whole : (k : ℕ) (row : List ℕ) → d ≤ k → Winding m list sets w e d k row → Extended m list sets w e d (record { left = d; live = true }) row
+  extended-whole k row l g =
       let z : k ≡ d = omega (arith, g .within) in
       record {
         whole = λ t. (refl, subst (λ (j : ℕ). EmptyRow m list sets w e j row) z (g .best));
@@ -102,9 +102,9 @@ module _ (m : Machine) (list sets w : List ℕ) (e d : ℕ) where
         blank = λ f. absurd (false≢true (sym f));
       }
 
-  -- an end that was wound, or is known to be blank
+  -- an end that was extended, or is known to be blank
   kept : (p : ℕ) (ends ends′ : List (List ℕ)) (left left′ : List ℕ) (k : ℕ) → length ends′ ≡ length ends → ((j : ℕ) → (j ≡ e → ⊥) → rowAt ends′ j ≡ rowAt ends j) → left′ ≡ set left e k
-      → e < length left → EndRow m list sets w e (rowAt ends′ e) k → Ends m list sets w p ends left → Ends m list sets w p ends′ left′
+      → e < length left → EndRow m list sets w e (rowAt ends′ e) k → EndRows m list sets w p ends left → EndRows m list sets w p ends′ left′
   kept p ends ends′ left left′ k size others is in-left row f =
       record {
         rows = omega (arith, f .rows, size);
@@ -122,7 +122,7 @@ module _ (m : Machine) (list sets w : List ℕ) (e d : ℕ) where
           rw (same, row-same) (f .each j a b)
 
   pub keep-live : (tail : Tail) (row : List ℕ) (ends ends′ : List (List ℕ)) (left left′ : List ℕ) (layer : Layer) → e ≤ 255 → d ≤ e → e < length ends → e < length left → tail .live ≡ true → left′ ≡ set left e (tail .left)
-      → ends′ ≡ set ends e (row) → layer .row ≡ row → layer .live ≡ true → Wound m list sets w e d tail row → EndedRow m list sets w e d ends ends′ left left′ layer
+      → ends′ ≡ set ends e (row) → layer .row ≡ row → layer .live ≡ true → Extended m list sets w e d tail row → EndedRow m list sets w e d ends ends′ left left′ layer
   keep-live tail row ends ends′ left left′ layer small le in-ends in-left t left-is ends-is row-is live-is g =
       let whole = g .whole t in
       let here = row-same ends ends′ e (row) in-ends ends-is in
@@ -135,7 +135,7 @@ module _ (m : Machine) (list sets w : List ℕ) (e d : ℕ) where
       }
 
   pub keep-dead : (tail : Tail) (row : List ℕ) (ends : List (List ℕ)) (left left′ : List ℕ) (layer : Layer) → e ≤ 255 → d ≤ e → e < length left → tail .live ≡ false → left′ ≡ set left e (256 + tail .left)
-      → layer .row ≡ blankRow → Wound m list sets w e d tail row → EndedRow m list sets w e d ends ends left left′ layer
+      → layer .row ≡ blankRow → Extended m list sets w e d tail row → EndedRow m list sets w e d ends ends left left′ layer
   keep-dead tail row ends left left′ layer small le in-left f left-is row-is g =
       let blank = g .blank f in
       let back : 256 + tail .left - 256 ≡ tail .left = omega arith in
@@ -162,28 +162,28 @@ module _ (m : Machine) (list sets w : List ℕ) (i d : ℕ) where
   change-same le h layer f = record { best = emptied-row m list sets w i d (layer .row) le h (f .best); told = f .told }
 
   pub change-unmatched : m .states ≤ 64 → 0 < d → d < 128 → i + d + d ≤ length w → (counts : List ℕ) → SharedFrom w i counts → getD counts d 0 < d → (layer : Layer) → layer .row ≡ blankRow
-      → (ends : List (List ℕ)) (left : List ℕ) → Ends m list sets w (i + 1) ends left → ChangedRow m list sets w i d ends left layer
+      → (ends : List (List ℕ)) (left : List ℕ) → EndRows m list sets w (i + 1) ends left → ChangedRow m list sets w i d ends left layer
   change-unmatched fit pos small le counts shared lt layer row-is ends left f =
       record { row = change-dead fit (omega arith) (shared-unequal w i d (getD counts d 0) le (shared .each d pos small) lt) layer row-is; ending = f }
 
   pub change-ended : 0 < d → d < 128 → i + d + d ≤ length w → (counts : List ℕ) → SharedFrom w i counts → d ≤ getD counts d 0 → (layer : Layer) (ends ends′ : List (List ℕ)) (left left′ : List ℕ)
-      → Ends m list sets w (i + 1) ends left → EndedRow m list sets w (i + d + d) d ends ends′ left left′ layer → ChangedRow m list sets w i d ends′ left′ layer
+      → EndRows m list sets w (i + 1) ends left → EndedRow m list sets w (i + d + d) d ends ends′ left left′ layer → ChangedRow m list sets w i d ends′ left′ layer
   change-ended pos small le counts shared l layer ends ends′ left left′ f g =
       record { row = change-same le (shared-halves w i d (getD counts d 0) (shared .each d pos small) l) layer (g .row); ending = g .kept (i + 1) f }
 
-  pub change-wound : i + d + d ≤ length w → Halves w i d → (tail : Tail) (row : List ℕ) → Wound m list sets w (i + d + d) d tail row → tail .live ≡ true → (layer : Layer) → layer .row ≡ row → layer .live ≡ true
+  pub change-extended : i + d + d ≤ length w → Halves w i d → (tail : Tail) (row : List ℕ) → Extended m list sets w (i + d + d) d tail row → tail .live ≡ true → (layer : Layer) → layer .row ≡ row → layer .live ≡ true
       → ChangeLayer m list sets w i d layer
-  change-wound le h tail row g t layer row-is live-is =
+  change-extended le h tail row g t layer row-is live-is =
       change-same le h layer (record { best = subst (EmptyRow m list sets w (i + d + d) d) (sym row-is) (g .whole t .1); told = λ f. absurd (false≢true (sym f ∙ live-is)) })
 
-  pub change-blank : i + d + d ≤ length w → Halves w i d → (tail : Tail) (row : List ℕ) → Wound m list sets w (i + d + d) d tail row → tail .live ≡ false → (layer : Layer) → layer .row ≡ blankRow → ChangeLayer m list sets w i d layer
+  pub change-blank : i + d + d ≤ length w → Halves w i d → (tail : Tail) (row : List ℕ) → Extended m list sets w (i + d + d) d tail row → tail .live ≡ false → (layer : Layer) → layer .row ≡ blankRow → ChangeLayer m list sets w i d layer
   change-blank le h tail row g f layer row-is =
       change-same le h layer (record { best = subst (EmptyRow m list sets w (i + d + d) d) (sym row-is) (g .blank f d (g .inside) (omega arith)); told = λ l. row-is })
 
 -- the row of a first half, from the row after it
 
 module _ (m : Machine) (list : List ℕ) (x : ℕ) (next change layer : Layer) where
-  pub stored-both : BufferingLayer m list x (next .row) (change .row) (layer .row) → Told layer → StoredRow m list x next change layer
+  pub stored-both : BufferingLayer m list x (next .row) (change .row) (layer .row) → BlankUnlessLive layer → StoredRow m list x next change layer
   stored-both f told = record { best = λ a b. f; told = λ a. told }
 
 pub stored-none : (m : Machine) (list : List ℕ) (x : ℕ) (next change layer : Layer) → Rules m list → next .live ≡ false → change .live ≡ false → layer .row ≡ blankRow → StoredRow m list x next change layer
@@ -196,37 +196,37 @@ stored-none m list x next change layer rules a b e =
       told = λ f l. e;
     }
 
--- copies that are idle
+-- copies that are fruitless
 
 module _ (w : List ℕ) (i k : ℕ) (counts left : List ℕ) (pos : 0 < k) (small : k < 128) (le : i + k + k ≤ length w) (shared : SharedFrom w i counts) where
-  pub idle-unequal : getD counts k 0 < k → Idle w i left k
-  idle-unequal l = inl (shared-unequal w i k (getD counts k 0) le (shared .each k pos small) l)
+  pub fruitless-unequal : getD counts k 0 < k → Fruitless w i left k
+  fruitless-unequal l = inl (shared-unequal w i k (getD counts k 0) le (shared .each k pos small) l)
 
-  pub idle-blank : k ≤ getD counts k 0 → 256 ≤ getD left (i + k + k) 0 → getD left (i + k + k) 0 ≤ 256 + k → Idle w i left k
-  idle-blank l a b = inr (shared-halves w i k (getD counts k 0) (shared .each k pos small) l, a, b)
+  pub fruitless-blank : k ≤ getD counts k 0 → 256 ≤ getD left (i + k + k) 0 → getD left (i + k + k) 0 ≤ 256 + k → Fruitless w i left k
+  fruitless-blank l a b = inr (shared-halves w i k (getD counts k 0) (shared .each k pos small) l, a, b)
 
 module _ (w : List ℕ) (i d : ℕ) (left : List ℕ) where
   pub skip-start : Skipped w i d left d
-  skip-start = record { within = omega arith; idle = λ (k : ℕ) (a : d < k) (b : k ≤ d). absurd (omega arith) }
+  skip-start = record { within = omega arith; fruitless = λ (k : ℕ) (a : d < k) (b : k ≤ d). absurd (omega arith) }
 
-  pub skip-more : (k : ℕ) → 0 < k → Idle w i left k → Skipped w i d left k → Skipped w i d left (k - 1)
-  skip-more k pos here f = record { within = omega (arith, f .within); idle = λ j a b. at j a b (ℕ-discrete j k) }
+  pub skip-more : (k : ℕ) → 0 < k → Fruitless w i left k → Skipped w i d left k → Skipped w i d left (k - 1)
+  skip-more k pos here f = record { within = omega (arith, f .within); fruitless = λ j a b. at j a b (ℕ-discrete j k) }
     where
-      at : (j : ℕ) → k - 1 < j → j ≤ d → Dec (j ≡ k) → Idle w i left j
+      at : (j : ℕ) → k - 1 < j → j ≤ d → Dec (j ≡ k) → Fruitless w i left j
       at j a b (yes z) = rw z here
-      at j a b (no z) = f .idle j (omega arith) b
+      at j a b (no z) = f .fruitless j (omega arith) b
 
 module _ (m : Machine) (list sets w : List ℕ) (rules : Rules m list) (i : ℕ) (ends : List (List ℕ)) (left : List ℕ) where
-  idle-change : (k : ℕ) → 0 < k → i + k + k ≤ length w → Ends m list sets w (i + 1) ends left → Idle w i left k → RowBest m list (nearOf m w sets) (drop (i + k) w) (slice i (i + k) w) Emptying blankRow
-  idle-change k pos le f (inl differ) = unmatched-row m list sets w i k (rules .states-fit) (omega arith) differ
-  idle-change k pos le f (inr g) =
+  fruitless-change : (k : ℕ) → 0 < k → i + k + k ≤ length w → EndRows m list sets w (i + 1) ends left → Fruitless w i left k → RowBest m list (nearOf m w sets) (drop (i + k) w) (slice i (i + k) w) Emptying blankRow
+  fruitless-change k pos le f (inl differ) = unmatched-row m list sets w i k (rules .states-fit) (omega arith) differ
+  fruitless-change k pos le f (inr g) =
       emptied-row m list sets w i k blankRow le (g .0) (f .each (i + k + k) (omega arith) le .blank (g .1) k (omega (arith, g .2)) (omega arith))
 
-  idle-row : (k : ℕ) → 0 < k → i + k + k ≤ length w → Ends m list sets w (i + 1) ends left → Idle w i left k → BufferRow m list sets w i (k + 1) blankRow → BufferRow m list sets w i k blankRow
-  idle-row k pos le f idle best =
-      buffer-next m list sets w i k (getD w (i + k) 0) blankRow blankRow blankRow (omega arith) refl best (idle-change k pos le f idle) (blank-buffering m list rules (getD w (i + k) 0))
+  fruitless-row : (k : ℕ) → 0 < k → i + k + k ≤ length w → EndRows m list sets w (i + 1) ends left → Fruitless w i left k → BufferRow m list sets w i (k + 1) blankRow → BufferRow m list sets w i k blankRow
+  fruitless-row k pos le f fruitless best =
+      buffer-next m list sets w i k (getD w (i + k) 0) blankRow blankRow blankRow (omega arith) refl best (fruitless-change k pos le f fruitless) (blank-buffering m list rules (getD w (i + k) 0))
 
-  pub skip-blank : (d r : ℕ) → i + d + d ≤ length w → Ends m list sets w (i + 1) ends left → Skipped w i d left r → BufferRow m list sets w i (d + 1) blankRow → BufferRow m list sets w i (r + 1) blankRow
+  pub skip-blank : (d r : ℕ) → i + d + d ≤ length w → EndRows m list sets w (i + 1) ends left → Skipped w i d left r → BufferRow m list sets w i (d + 1) blankRow → BufferRow m list sets w i (r + 1) blankRow
   skip-blank zero r le f s best =
       let z : 0 + 1 ≡ r + 1 = omega (arith, s .within) in
       subst (λ (k : ℕ). BufferRow m list sets w i k blankRow) z best
@@ -236,17 +236,17 @@ module _ (m : Machine) (list sets w : List ℕ) (rules : Rules m list) (i : ℕ)
       at (yes z) on = subst (λ (k : ℕ). BufferRow m list sets w i (k + 1) blankRow) (sym z) best
       at (no z) on =
           let e : suc d ≡ d + 1 = omega arith in
-          on (record { within = omega (arith, s .within); idle = λ k a b. s .idle k a (omega arith) })
-          (subst (λ (k : ℕ). BufferRow m list sets w i k blankRow) e (idle-row (suc d) (omega arith) le f (s .idle (suc d) (omega (arith, s .within)) (omega arith)) best))
+          on (record { within = omega (arith, s .within); fruitless = λ k a b. s .fruitless k a (omega arith) })
+          (subst (λ (k : ℕ). BufferRow m list sets w i k blankRow) e (fruitless-row (suc d) (omega arith) le f (s .fruitless (suc d) (omega (arith, s .within)) (omega arith)) best))
 
 -- what the loop of storing_row has done once the rows after d are there
 pub record Storing (m : Machine) (list sets w : List ℕ) (i d : ℕ) (ends : List (List ℕ)) (left : List ℕ) (next : Layer) : Type 0 where
   pub inside : i + d + d ≤ length w
   pub row : BufferLayer m list sets w i (d + 1) next
-  pub ending : Ends m list sets w (i + 1) ends left
+  pub ending : EndRows m list sets w (i + 1) ends left
 
 module _ (m : Machine) (list sets w : List ℕ) (rules : Rules m list) (i : ℕ) where
-  pub storing-start : i < length w → (d : ℕ) → d ≡ (length w - i) / 2 → (next : Layer) → next .row ≡ blankRow → (ends : List (List ℕ)) (left : List ℕ) → Ends m list sets w (i + 1) ends left
+  pub storing-start : i < length w → (d : ℕ) → d ≡ (length w - i) / 2 → (next : Layer) → next .row ≡ blankRow → (ends : List (List ℕ)) (left : List ℕ) → EndRows m list sets w (i + 1) ends left
       → Storing m list sets w i d ends left next
   storing-start lt d d-is next row-is ends left f =
       record {
@@ -287,7 +287,7 @@ module _ (m : Machine) (list sets w : List ℕ) (rules : Rules m list) (i : ℕ)
 
 -- where copies begin in some states
 module _ (m : Machine) (list sets w : List ℕ) (i starts : ℕ) (ends : List (List ℕ)) (left : List ℕ) (layer : Layer) where
-  pub starting-none : starts ≡ 0 → Ends m list sets w (i + 1) ends left → StartingRow m list sets w i starts ends left layer
+  pub starting-none : starts ≡ 0 → EndRows m list sets w (i + 1) ends left → StartingRow m list sets w i starts ends left layer
   starting-none z f = record { row = λ l. absurd (omega arith); ending = f }
 
   pub starting-some : StoringRow m list sets w i ends left layer → StartingRow m list sets w i starts ends left layer

@@ -10,7 +10,7 @@ ghost use Rattle.layers.specs.Rows.{Given};
 ghost use Rattle.layers.specs.Layers.{blankRow};
 ghost use Rattle.tables.specs.Halves.{SharedFrom};
 ghost use Rattle.fsbm.specs.declared.machine.Machine.{Machine};
-ghost use Rattle.tables.specs.Tables.{Known, rowAt, PlaceRows, EmptyRow, EmptyingRows, BufferingRows, ChangeLayer, Wound, EndRow, Ends, Idle, Skipped, EndedRow, ChangedRow, StoredRow, StoringRow, StartingRow};
+ghost use Rattle.tables.specs.Tables.{Known, rowAt, PositionRows, EmptyRow, EmptyingRows, BufferingRows, ChangeLayer, Extended, EndRow, EndRows, Fruitless, Skipped, EndedRow, ChangedRow, StoredRow, StoringRow, StartingRow};
 use crate::halves;
 use crate::halves::HALVES;
 use fsbm::limits::MAX_STATES;
@@ -92,8 +92,8 @@ pub fn emptying_rows(
     }
 }
 
-// Winds the row of the copies that end at e from r letters left to d letters left.
-fn wind(
+// Extends the row of the copies that end at e from r letters left to d letters left.
+fn extend(
     m: Machine,
     list: &[u16],
     targets: &[u64],
@@ -107,7 +107,7 @@ fn wind(
     row: &mut [u32; MAX_STATES],
 ) -> Tail
     requires { ⌜ Known m (now list) (now targets) g h (now word) × (r ≤ d) × (d ≤ e) × (e ≤ length (now word)) × EmptyRow m (now list) (now sets) (now word) e r (now row) ⌝ }
-    ensures { λ t. ⌜ Wound m (now (list .entry)) (now (sets .entry)) (now (word .entry)) e d t (now (row .exit)) ⌝ }
+    ensures { λ t. ⌜ Extended m (now (list .entry)) (now (sets .entry)) (now (word .entry)) e d t (now (row .exit)) ⌝ }
 {
     let mut k = r;
     while k < d {
@@ -128,7 +128,7 @@ fn wind(
     }
 }
 
-// Keeps what was wound for the end e, and hands its row on.
+// Keeps what was extended for the end e, and hands its row on.
 fn keep(
     tail: Tail,
     row: &[u32; MAX_STATES],
@@ -137,7 +137,7 @@ fn keep(
     left: &mut [u16],
 ) -> Layer
     requires { ⌜ (e < length (now ends)) × (e < length (now left)) × (e ≤ 255) × (tail .left ≤ e) ⌝ }
-    ensures { λ r. ⌜ ((m : Machine) (list sets w : List ℕ) (d : ℕ) → d ≤ e → Wound m list sets w e d tail (now (row .entry)) → EndedRow m list sets w e d (now (ends .entry)) (now (ends .exit)) (now (left .entry)) (now (left .exit)) r) ⌝ }
+    ensures { λ r. ⌜ ((m : Machine) (list sets w : List ℕ) (d : ℕ) → d ≤ e → Extended m list sets w e d tail (now (row .entry)) → EndedRow m list sets w e d (now (ends .entry)) (now (ends .exit)) (now (left .entry)) (now (left .exit)) r) ⌝ }
 {
     let count = tail.left as u16;
     if tail.live {
@@ -152,7 +152,7 @@ fn keep(
     dead()
 }
 
-// The row of the copies that end at e with d letters left, wound on from what was kept of this end where that has no more letters.
+// The row of the copies that end at e with d letters left, extended on from what was kept of this end where that has no more letters.
 fn ended_row(
     m: Machine,
     list: &[u16],
@@ -168,13 +168,13 @@ fn ended_row(
     left: &mut [u16],
 ) -> Layer
     requires { ⌜ Known m (now list) (now targets) g h (now word) × (d ≤ e) × (e ≤ length (now word)) × (length (now word) ≤ 255) × (length (now word) * 3 + 3 ≤ length (now t))
-        × PlaceRows m (now list) (now sets) (now word) (now t) e × (e < length (now ends)) × (e < length (now left)) × EndRow m (now list) (now sets) (now word) e (rowAt (now ends) e) (getD (now left) e 0) ⌝ }
+        × PositionRows m (now list) (now sets) (now word) (now t) e × (e < length (now ends)) × (e < length (now left)) × EndRow m (now list) (now sets) (now word) e (rowAt (now ends) e) (getD (now left) e 0) ⌝ }
     ensures { λ r. ⌜ EndedRow m (now (list .entry)) (now (sets .entry)) (now (word .entry)) e d (now (ends .entry)) (now (ends .exit)) (now (left .entry)) (now (left .exit)) r ⌝ }
 {
     let k = left[e] as usize;
     if k <= d {
         let mut row = load(ends, e);
-        let tail = wind(m, list, targets, g, h, sets, word, e, k, d, &mut row);
+        let tail = extend(m, list, targets, g, h, sets, word, e, k, d, &mut row);
         return keep(tail, &row, e, ends, left);
     }
     if 256 <= k {
@@ -183,14 +183,14 @@ fn ended_row(
         }
     }
     let mut row = load(t, e * 3 + 2);
-    let tail = wind(m, list, targets, g, h, sets, word, e, 0, d, &mut row);
+    let tail = extend(m, list, targets, g, h, sets, word, e, 0, d, &mut row);
     keep(tail, &row, e, ends, left)
 }
 
 // Whether no copy of the k letters from i on goes on: they do not stand there twice, or the end is known to be blank.
-fn is_idle(i: usize, k: usize, counts: &[u16; HALVES], left: &[u16]) -> bool
+fn is_fruitless(i: usize, k: usize, counts: &[u16; HALVES], left: &[u16]) -> bool
     requires { ⌜ (0 < k) × (k < 128) × (i + k + k < length (now left)) ⌝ }
-    ensures { λ r. ⌜ ((w : List ℕ) → i + k + k ≤ length w → SharedFrom w i (now (counts .entry)) → r ≡ true → Idle w i (now (left .entry)) k) ⌝ }
+    ensures { λ r. ⌜ ((w : List ℕ) → i + k + k ≤ length w → SharedFrom w i (now (counts .entry)) → r ≡ true → Fruitless w i (now (left .entry)) k) ⌝ }
 {
     if wide(counts[k]) < k {
         return true;
@@ -205,14 +205,14 @@ fn is_idle(i: usize, k: usize, counts: &[u16; HALVES], left: &[u16]) -> bool
     true
 }
 
-// The largest number of letters up to d such that a copy of so many letters from i on is not idle; 0 where there is none.
-fn skip_idle(i: usize, d: usize, counts: &[u16; HALVES], left: &[u16]) -> usize
+// The largest number of letters up to d such that a copy of so many letters from i on is not fruitless; 0 where there is none.
+fn skip_fruitless(i: usize, d: usize, counts: &[u16; HALVES], left: &[u16]) -> usize
     requires { ⌜ (d < 128) × (i + d + d < length (now left)) ⌝ }
     ensures { λ r. ⌜ ((w : List ℕ) → i + d + d ≤ length w → SharedFrom w i (now (counts .entry)) → Skipped w i d (now (left .entry)) r) ⌝ }
 {
     let mut k = d;
     while 0 < k {
-        if !is_idle(i, k, counts, left) {
+        if !is_fruitless(i, k, counts, left) {
             return k;
         }
         k -= 1;
@@ -237,7 +237,7 @@ fn change_row(
     left: &mut [u16],
 ) -> Layer
     requires { ⌜ Known m (now list) (now targets) g h (now word) × (0 < d) × (i + d + d ≤ length (now word)) × (length (now word) ≤ 255) × (length (now word) * 3 + 3 ≤ length (now t))
-        × PlaceRows m (now list) (now sets) (now word) (now t) (i + d + d) × SharedFrom (now word) i (now counts) × Ends m (now list) (now sets) (now word) (i + 1) (now ends) (now left) ⌝ }
+        × PositionRows m (now list) (now sets) (now word) (now t) (i + d + d) × SharedFrom (now word) i (now counts) × EndRows m (now list) (now sets) (now word) (i + 1) (now ends) (now left) ⌝ }
     ensures { λ r. ⌜ ChangedRow m (now (list .entry)) (now (sets .entry)) (now (word .entry)) i d (now (ends .exit)) (now (left .exit)) r ⌝ }
 {
     if wide(counts[d]) < d {
@@ -301,11 +301,11 @@ fn storing_row(
     left: &mut [u16],
 ) -> Layer
     requires { ⌜ Known m (now list) (now targets) g h (now word) × (i < length (now word)) × (length (now word) ≤ 255) × (length (now word) * 3 + 3 ≤ length (now t))
-        × ((p : ℕ) → i < p → p ≤ length (now word) → PlaceRows m (now list) (now sets) (now word) (now t) p) × SharedFrom (now word) i (now counts) × Ends m (now list) (now sets) (now word) (i + 1) (now ends) (now left) ⌝ }
+        × ((p : ℕ) → i < p → p ≤ length (now word) → PositionRows m (now list) (now sets) (now word) (now t) p) × SharedFrom (now word) i (now counts) × EndRows m (now list) (now sets) (now word) (i + 1) (now ends) (now left) ⌝ }
     ensures { λ r. ⌜ StoringRow m (now (list .entry)) (now (sets .entry)) (now (word .entry)) i (now (ends .exit)) (now (left .exit)) r ⌝ }
 {
     let mut next = dead();
-    let mut d = skip_idle(i, (word.len() - i) / 2, counts, &*left);
+    let mut d = skip_fruitless(i, (word.len() - i) / 2, counts, &*left);
     while 0 < d {
         let x = word[i + d] as u16;
         let change = change_row(
@@ -340,7 +340,7 @@ fn storing_row(
         next = Layer { row, live };
         d -= 1;
         if !next.live {
-            d = skip_idle(i, d, counts, &*left);
+            d = skip_fruitless(i, d, counts, &*left);
         }
     }
     next
@@ -363,7 +363,7 @@ pub fn starting_row(
     left: &mut [u16],
 ) -> Layer
     requires { ⌜ Known m (now list) (now targets) g h (now word) × (i < length (now word)) × (length (now word) ≤ 255) × (length (now word) * 3 + 3 ≤ length (now t))
-        × ((p : ℕ) → i < p → p ≤ length (now word) → PlaceRows m (now list) (now sets) (now word) (now t) p) × SharedFrom (now word) i (now counts) × Ends m (now list) (now sets) (now word) (i + 1) (now ends) (now left) ⌝ }
+        × ((p : ℕ) → i < p → p ≤ length (now word) → PositionRows m (now list) (now sets) (now word) (now t) p) × SharedFrom (now word) i (now counts) × EndRows m (now list) (now sets) (now word) (i + 1) (now ends) (now left) ⌝ }
     ensures { λ r. ⌜ StartingRow m (now (list .entry)) (now (sets .entry)) (now (word .entry)) i starts (now (ends .exit)) (now (left .exit)) r ⌝ }
 {
     if starts == 0 {
@@ -386,7 +386,7 @@ fn fresh_change(
     d: usize,
 ) -> Layer
     requires { ⌜ Known m (now list) (now targets) g h (now word) × (i + d + d ≤ length (now word)) × (length (now word) * 3 + 3 ≤ length (now t))
-        × PlaceRows m (now list) (now sets) (now word) (now t) (i + d + d) ⌝ }
+        × PositionRows m (now list) (now sets) (now word) (now t) (i + d + d) ⌝ }
     ensures { λ r. ⌜ ChangeLayer m (now (list .entry)) (now (sets .entry)) (now (word .entry)) i d r ⌝ }
 {
     if !halves::halves_match(word, i, d) {
@@ -394,7 +394,7 @@ fn fresh_change(
     }
     let e = i + d + d;
     let mut row = load(t, e * 3 + 2);
-    let tail = wind(m, list, targets, g, h, sets, word, e, 0, d, &mut row);
+    let tail = extend(m, list, targets, g, h, sets, word, e, 0, d, &mut row);
     if tail.live {
         return Layer { row, live: true };
     }
@@ -415,7 +415,7 @@ pub fn buffering_rows(
     stored: &mut [[u32; MAX_STATES]],
 )
     requires { ⌜ Known m (now list) (now targets) g h (now word) × (i < length (now word)) × (length (now word) * 3 + 3 ≤ length (now t)) × (length (now word) / 2 < length (now stored))
-        × ((p : ℕ) → i < p → p ≤ length (now word) → PlaceRows m (now list) (now sets) (now word) (now t) p) ⌝ }
+        × ((p : ℕ) → i < p → p ≤ length (now word) → PositionRows m (now list) (now sets) (now word) (now t) p) ⌝ }
     ensures { λ r. ⌜ BufferingRows m (now (list .entry)) (now (sets .entry)) (now (word .entry)) i (now (stored .entry)) (now (stored .exit)) ⌝ }
 {
     let mut next = dead();

@@ -8,7 +8,7 @@ ghost use lib.Bits.{bitAnd};
 ghost use Rattle.stateset.specs.Set.{In, below};
 ghost use Rattle.layers.specs.Layers.{blankRow};
 ghost use Rattle.tables.specs.Halves.{SharedFrom};
-ghost use Rattle.tables.specs.Tables.{Known, putPlace, Placed, Sizes, Filling, Filled};
+ghost use Rattle.tables.specs.Tables.{Known, putPosition, Placed, Sizes, Filling, AllRows};
 use crate::copy;
 use crate::halves;
 use crate::halves::HALVES;
@@ -16,47 +16,47 @@ use fsbm::limits::MAX_STATES;
 use fsbm::limits::POSITIONS;
 use fsbm::machine::Machine;
 use layers::layer;
-use layers::layer::Place;
+use layers::layer::Position;
 
 // Puts the rows of position p into the table.
-fn put_place(t: &mut [[u32; MAX_STATES]], p: usize, place: Place)
+fn put_position(t: &mut [[u32; MAX_STATES]], p: usize, position: Position)
     requires { ⌜ p * 3 + 3 ≤ length (now t) ⌝ }
-    ensures { λ r. ⌜ now (t .exit) ≡ putPlace (now (t .entry)) p place ⌝ }
+    ensures { λ r. ⌜ now (t .exit) ≡ putPosition (now (t .entry)) p position ⌝ }
 {
-    let normal = place.normal;
-    let buffering = place.buffering;
-    let emptying = place.emptying;
+    let normal = position.normal;
+    let buffering = position.buffering;
+    let emptying = position.emptying;
     copy::save(t, p * 3, normal);
     copy::save(t, p * 3 + 1, buffering);
     copy::save(t, p * 3 + 2, emptying);
 }
 
 // Puts the rows of position p into the table, and has the copies that end there begin with them, or be blank where none goes on.
-fn place_rows(
+fn position_rows(
     p: usize,
-    place: Place,
+    position: Position,
     t: &mut [[u32; MAX_STATES]],
     ends: &mut [[u32; MAX_STATES]],
     left: &mut [u16],
 )
     requires { ⌜ (p * 3 + 3 ≤ length (now t)) × (p < length (now ends)) × (p < length (now left)) ⌝ }
-    ensures { λ r. ⌜ Placed p place (now (t .entry)) (now (t .exit)) (now (ends .entry)) (now (ends .exit)) (now (left .entry)) (now (left .exit)) ⌝ }
+    ensures { λ r. ⌜ Placed p position (now (t .entry)) (now (t .exit)) (now (ends .entry)) (now (ends .exit)) (now (left .entry)) (now (left .exit)) ⌝ }
 {
-    put_place(t, p, place);
-    if !place.ends {
+    put_position(t, p, position);
+    if !position.ends {
         left[p] = 256;
         return;
     }
-    let emptying = place.emptying;
+    let emptying = position.emptying;
     copy::save(ends, p, emptying);
     left[p] = 0;
 }
 
 // The rows of a position that no run reaches.
-fn unreached() -> Place
+fn unreached() -> Position
     ensures { λ r. ⌜ r ≡ record { normal = blankRow; buffering = blankRow; emptying = blankRow; ends = false } ⌝ }
 {
-    Place {
+    Position {
         normal: layer::blank(),
         buffering: layer::blank(),
         emptying: layer::blank(),
@@ -91,12 +91,12 @@ fn fill_end(
 {
     let none = layer::blank();
     let near = near_at(m, sets, word.len());
-    let end = layer::place_layer(m, list, targets, g, h, near, true, 0, &none, &none);
-    place_rows(word.len(), end, t, ends, left);
+    let end = layer::position_layer(m, list, targets, g, h, near, true, 0, &none, &none);
+    position_rows(word.len(), end, t, ends, left);
 }
 
 // Fills the rows of position p from those of the positions after it.
-fn fill_place(
+fn fill_position(
     m: Machine,
     list: &[u16],
     targets: &[u64],
@@ -117,7 +117,7 @@ fn fill_place(
     halves::count_shared(word, p, counts);
     let near = near_at(m, sets, p);
     if near == 0 {
-        place_rows(p, unreached(), t, ends, left);
+        position_rows(p, unreached(), t, ends, left);
         return;
     }
     let starts = stateset::intersection(near, g);
@@ -138,7 +138,7 @@ fn fill_place(
     );
     let onward = copy::load(t, (p + 1) * 3);
     let x = word[p] as u16;
-    let place = layer::place_layer(
+    let position = layer::position_layer(
         m,
         list,
         targets,
@@ -150,7 +150,7 @@ fn fill_place(
         &onward,
         &storing.row,
     );
-    place_rows(p, place, t, ends, left);
+    position_rows(p, position, t, ends, left);
 }
 
 // Fills the rows of every position. sets has for each the states that runs reach there in normal mode.
@@ -167,14 +167,14 @@ pub fn fill(
     left: &mut [u16],
 )
     requires { ⌜ Known m (now list) (now targets) g h (now word) × (length (now word) ≤ 255) × Sizes (now word) (now t) (now ends) (now left) ⌝ }
-    ensures { λ r. ⌜ Filled m (now (list .entry)) (now (sets .entry)) (now (word .entry)) (now (t .exit)) ⌝ }
+    ensures { λ r. ⌜ AllRows m (now (list .entry)) (now (sets .entry)) (now (word .entry)) (now (t .exit)) ⌝ }
 {
     let mut counts: [u16; HALVES] = [0; HALVES];
     fill_end(m, list, targets, g, h, sets, word, t, ends, left);
     let mut p = word.len();
     while 0 < p {
         p -= 1;
-        fill_place(
+        fill_position(
             m,
             list,
             targets,

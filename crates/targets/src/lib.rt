@@ -130,7 +130,7 @@ fn put_closures(states: usize, g: u64, h: u64, targets: &mut [u64])
     let mut p: usize = 0;
     while p < states {
         let alone = stateset::single(p);
-        let own = images::close_place(&*targets, states, g, h, alone);
+        let own = images::close_position(&*targets, states, g, h, alone);
         targets[2 + p] = own;
         p += 1;
     }

@@ -28,7 +28,7 @@ use Rattle.stateset.specs.Set.{width, In, has, digit, added, removed, lowestOf,
 use Rattle.stateset.specs.Set.Laws.{in?, has-in, in-lt, lowest-removed, drop-lowest, ones-add, add-member, added-state, empty-in}
 use Rattle.pieces.specs.Blocks.{cell}
 use Rattle.pieces.specs.Blocks.Laws.{cell-inside, cell-past}
-use Rattle.blocks.specs.Numbers.{total, marked, Marked, Sized, Steps, Lowers, One, Put, Enter, Spread}
+use Rattle.blocks.specs.Numbers.{total, marked, HasMark, Sized, Steps, Lowers, One, Put, Enter, Spread}
 
 -- two pairs of states with one number are one
 place-same : (s t s′ t′ : ℕ) → t < 64 → t′ < 64 → s′ * 64 + t′ ≡ s * 64 + t → (s′ ≡ s) × (t′ ≡ t)
@@ -91,7 +91,7 @@ steps-then {b} {d} {b₁} {d₁} {b₂} {d₂} f g =
       falls = omega (arith, f .falls, g .falls);
     }
   where
-    on : (s t : ℕ) → (cell b₁ s t ≡ cell b s t) ⊎ Marked d₁ s t → (cell b₂ s t ≡ cell b₁ s t) ⊎ Marked d₂ s t → (cell b₂ s t ≡ cell b s t) ⊎ Marked d₂ s t
+    on : (s t : ℕ) → (cell b₁ s t ≡ cell b s t) ⊎ HasMark d₁ s t → (cell b₂ s t ≡ cell b₁ s t) ⊎ HasMark d₂ s t → (cell b₂ s t ≡ cell b s t) ⊎ HasMark d₂ s t
     on s t (inl x) (inl y) = inl (y ∙ x)
     on s t (inr x) y = inr (g .stays s t x)
     on s t (inl x) (inr y) = inr y
@@ -168,8 +168,8 @@ module _ (b d : List ℕ) (s t v : ℕ) (row : s < 64) (column : t < 64) where
               omega arith;
         }
       where
-        marks-here : (s′ t′ : ℕ) → s′ ≡ s → In r t′ → Marked (set d s r) s′ t′
-        marks-here s′ t′ e m = subst (λ (x : ℕ). Marked (set d s r) x t′) (sym e) (subst (λ (x : ℕ). In x t′) (sym here) m)
+        marks-here : (s′ t′ : ℕ) → s′ ≡ s → In r t′ → HasMark (set d s r) s′ t′
+        marks-here s′ t′ e m = subst (λ (x : ℕ). HasMark (set d s r) x t′) (sym e) (subst (λ (x : ℕ). In x t′) (sym here) m)
 
         down : (s′ t′ : ℕ) → Dec (s′ ≡ s) → Dec (t′ ≡ t) → cell (set b (s * 64 + t) v) s′ t′ ≤ cell b s′ t′
         down s′ t′ (yes e) (yes k) =
@@ -181,11 +181,11 @@ module _ (b d : List ℕ) (s t v : ℕ) (row : s < 64) (column : t < 64) where
         down s′ t′ (no f) k = let x = cell-set-other b s t v row column s′ t′ (λ z. f (z .0)) in omega arith
         down s′ t′ (yes e) (no f) = let x = cell-set-other b s t v row column s′ t′ (λ z. f (z .1)) in omega arith
 
-        stays : (s′ t′ : ℕ) → Marked d s′ t′ → Dec (s′ ≡ s) → Marked (set d s r) s′ t′
-        stays s′ t′ m (yes e) = marks-here s′ t′ e (is .members t′ .1 (inl (subst (λ (x : ℕ). Marked d x t′) e m)))
+        stays : (s′ t′ : ℕ) → HasMark d s′ t′ → Dec (s′ ≡ s) → HasMark (set d s r) s′ t′
+        stays s′ t′ m (yes e) = marks-here s′ t′ e (is .members t′ .1 (inl (subst (λ (x : ℕ). HasMark d x t′) e m)))
         stays s′ t′ m (no f) = subst (λ (x : ℕ). In x t′) (sym (getD-set-other d s s′ r 0 f)) m
 
-        changed : (s′ t′ : ℕ) → Dec (s′ ≡ s) → Dec (t′ ≡ t) → (cell (set b (s * 64 + t) v) s′ t′ ≡ cell b s′ t′) ⊎ Marked (set d s r) s′ t′
+        changed : (s′ t′ : ℕ) → Dec (s′ ≡ s) → Dec (t′ ≡ t) → (cell (set b (s * 64 + t) v) s′ t′ ≡ cell b s′ t′) ⊎ HasMark (set d s r) s′ t′
         changed s′ t′ (yes e) (yes k) = inr (marks-here s′ t′ e (is .members t′ .1 (inr (k, omega arith))))
         changed s′ t′ (no f) k = inl (cell-set-other b s t v row column s′ t′ (λ z. f (z .0)))
         changed s′ t′ (yes e) (no f) = inl (cell-set-other b s t v row column s′ t′ (λ z. f (z .1)))

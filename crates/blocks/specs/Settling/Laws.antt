@@ -34,7 +34,7 @@ use Rattle.fsbm.specs.declared.machine.Machine.{Machine}
 use Rattle.pieces.specs.Pairs.{Pair, both, PairMove, stores-none, matches-none, letter}
 use Rattle.pieces.specs.Blocks.{nothing, cell, costOf, Node, outside, inside, BlockEdge, begins, goes-on, blockOf}
 use Rattle.pieces.specs.Blocks.Laws.{cell-inside, cell-past, inside-not}
-use Rattle.blocks.specs.Numbers.{Marked, Steps, Lowers, One, total, marked}
+use Rattle.blocks.specs.Numbers.{HasMark, Steps, Lowers, One, total, marked}
 use Rattle.blocks.specs.Numbers.Laws.{Left, Rest, Taken, left-start, left-more, left-end, lowers-none, lowers-then, lowers-as, marked-set}
 use Rattle.blocks.specs.Works.{Kind, Works, Waiting, Busy, RowDone}
 use Rattle.blocks.specs.Works.Laws.{block-inside, block-outside, Edges, works-lowers, still-lowers}
@@ -119,7 +119,7 @@ take-row s d so-far r = record { size = r .steps .size ∙ so-far .size; still =
     waits (inside u) still z = on (ℕ-discrete (u .storing) s)
       where
         on : Dec (u .storing ≡ s) → ⊥
-        on (yes e) = still (inr (e, subst (λ (i : ℕ). Marked d i (u .matching)) e z))
+        on (yes e) = still (inr (e, subst (λ (i : ℕ). HasMark d i (u .matching)) e z))
         on (no f) = still (inl (subst (λ (i : ℕ). In i (u .matching)) (sym (getD-set-other d s (u .storing) 0 0 f)) z))
 
 pub take-less : (s : ℕ) (d : List ℕ) {b b′ d′ : List ℕ} → s < length d → Steps b (set d s 0) b′ d′ → (getD d s 0 ≡ 0 → ⊥) → 2 * total b′ + marked d′ < 2 * total b + marked d

@@ -32,7 +32,7 @@ use Rattle.images.specs.Graph.{KindsOf}
 use Rattle.images.specs.declared.Kinds.{Kinds}
 use Rattle.pieces.specs.Pairs.{unit, halves, Pair, both, PairMove, stores-none, matches-none, letter}
 use Rattle.pieces.specs.Blocks.{cell, costOf, Node, outside, inside, BlockEdge, begins, goes-on, blockOf}
-use Rattle.blocks.specs.Numbers.{Marked, Steps, Lowers, Put, Spread}
+use Rattle.blocks.specs.Numbers.{HasMark, Steps, Lowers, Put, Spread}
 use Rattle.blocks.specs.Numbers.Laws.{steps-none, steps-then}
 use Rattle.blocks.specs.Gathered.{Adding, From, Stay}
 use Rattle.blocks.specs.Gathered.Laws.{adding-as}
@@ -74,7 +74,7 @@ module _ (m : Machine) (list : List ℕ) (top h x : ℕ) (D : List ℕ) {Waits W
       origin outside = inl (block-outside b′ ∙ sym (block-outside b))
       origin (inside u) = edge-at u (f .origin (u .storing) (u .matching))
 
-      changed : (u : Pair) → (Waiting d′ (inside u) → ⊥) → (cell b′ (u .storing) (u .matching) ≡ cell b (u .storing) (u .matching)) ⊎ Marked d′ (u .storing) (u .matching)
+      changed : (u : Pair) → (Waiting d′ (inside u) → ⊥) → (cell b′ (u .storing) (u .matching) ≡ cell b (u .storing) (u .matching)) ⊎ HasMark d′ (u .storing) (u .matching)
           → blockOf b′ (inside u) ≡ blockOf b (inside u)
       changed u not-marked (inl e) = same u e
       changed u not-marked (inr k) = absurd (not-marked k)
@@ -99,7 +99,7 @@ busy-grows : {b d b′ d′ : List ℕ} (s set : ℕ) → Steps b d b′ d′ �
 busy-grows s set f outside still = (λ z. z, λ z. z)
 busy-grows {d = d} {d′ = d′} s set f (inside u) still = (λ z. still (on z), λ z. still (inl z))
   where
-    on : Marked d (u .storing) (u .matching) ⊎ ((u .storing ≡ s) × In set (u .matching)) → Marked d′ (u .storing) (u .matching) ⊎ ((u .storing ≡ s) × In set (u .matching))
+    on : HasMark d (u .storing) (u .matching) ⊎ ((u .storing ≡ s) × In set (u .matching)) → HasMark d′ (u .storing) (u .matching) ⊎ ((u .storing ≡ s) × In set (u .matching))
     on (inl k) = inl (f .stays (u .storing) (u .matching) k)
     on (inr k) = inr k
 
@@ -188,7 +188,7 @@ module _ {m : Machine} {list index : List ℕ} {h : ℕ} (r : Ready m list index
                 let y : cell b₁ s′ t′ ≡ cell b₁ s t′ = ap (λ (i : ℕ). cell b₁ i t′) is in
                 omega (arith, k .1)
 
-            on : (cell b₁ s (u .matching) ≡ cell b s (u .matching)) ⊎ Marked d₁ s (u .matching) → cell b₁ (v .storing) (v .matching) ≤ w + cell b₁ s (u .matching)
+            on : (cell b₁ s (u .matching) ≡ cell b s (u .matching)) ⊎ HasMark d₁ s (u .matching) → cell b₁ (v .storing) (v .matching) ≤ w + cell b₁ s (u .matching)
             on (inr k) = absurd (quiet k)
             on (inl same) = let k = by e is member early (omega arith) in omega arith
 
@@ -292,7 +292,7 @@ module _ {m : Machine} {list index : List ℕ} {h : ℕ} (r : Ready m list index
           looked : Looked m list top s set hi b₁ d₁
           looked u v w e z member quiet early l = on (g .steps .changed s (u .matching)) (early? e)
             where
-              on : (cell b₁ s (u .matching) ≡ cell b s (u .matching)) ⊎ Marked d₁ s (u .matching) → Dec (Early m list lo e) → cell b₁ (v .storing) (v .matching) ≤ w + cell b₁ s (u .matching)
+              on : (cell b₁ s (u .matching) ≡ cell b s (u .matching)) ⊎ HasMark d₁ s (u .matching) → Dec (Early m list lo e) → cell b₁ (v .storing) (v .matching) ≤ w + cell b₁ s (u .matching)
               on (inr k) n = absurd (quiet k)
               on (inl same) (yes n) =
                   let k = so .looked u v w e z member (λ j. quiet (g .steps .stays s (u .matching) j)) n (omega arith) in
@@ -309,7 +309,7 @@ module _ {m : Machine} {list index : List ℕ} {h : ℕ} (r : Ready m list index
         early (matches-none e a c) z = tt
         early (letter e a c e₂ m₁ m₂) z = let j = row-stretch m list sorts index (r .starts) s (e .number) here .1 (e .listed, e .from ∙ z) in omega (arith, j .1)
 
-        edge : (h′ x : ℕ) (D : List ℕ) (u : Pair) → u .storing ≡ s → In set (u .matching) → (Marked d′ s (u .matching) → ⊥) → {y z : Node} (w : ℕ)
+        edge : (h′ x : ℕ) (D : List ℕ) (u : Pair) → u .storing ≡ s → In set (u .matching) → (HasMark d′ s (u .matching) → ⊥) → {y z : Node} (w : ℕ)
             → BlockEdge (fsbmOf m list) h′ (costOf D) (In x) y z w → z ≡ inside u → w + blockOf b′ (inside u) < top → blockOf b′ y ≤ w + blockOf b′ (inside u)
         edge h′ x D u is member not-marked w (begins i j) e l = absurd (let z : _≡_ {A = ℕ} 0 1 = cc in omega arith)
         edge h′ x D u is member not-marked w (goes-on {u = p} {v = v} n) e l =
@@ -320,7 +320,7 @@ module _ {m : Machine} {list index : List ℕ} {h : ℕ} (r : Ready m list index
             let c₂ : cell b′ (u .storing) (u .matching) ≡ cell b′ s (u .matching) = ap (λ (i : ℕ). cell b′ i (u .matching)) is in
             let y = block-inside b′ u in
             let z = block-inside b′ v in
-            let o = so .looked p v w n s-is (subst (λ (i : ℕ). In set i) (sym t-is) member) (λ j. not-marked (subst (λ (i : ℕ). Marked d′ s i) t-is j)) (early n s-is) (omega arith) in
+            let o = so .looked p v w n s-is (subst (λ (i : ℕ). In set i) (sym t-is) member) (λ j. not-marked (subst (λ (i : ℕ). HasMark d′ s i) t-is j)) (early n s-is) (omega arith) in
             omega arith
 
         quiet : (h′ x : ℕ) (D : List ℕ) (z : Node) → (Waiting d′ z → ⊥)
@@ -330,7 +330,7 @@ module _ {m : Machine} {list index : List ℕ} {h : ℕ} (r : Ready m list index
           where
             on : Dec (u .storing ≡ s) → Dec (In set (u .matching))
                 → (Busy d′ s set (inside u) → ⊥) ⊎ ((y : Node) (w : ℕ) → BlockEdge (fsbmOf m list) h′ (costOf D) (In x) y (inside u) w → w + blockOf b′ (inside u) < top → blockOf b′ y ≤ w + blockOf b′ (inside u))
-            on (yes e) (yes k) = inr (λ y w n l. edge h′ x D u e k (λ j. still (subst (λ (i : ℕ). Marked d′ i (u .matching)) (sym e) j)) w n refl l)
+            on (yes e) (yes k) = inr (λ y w n l. edge h′ x D u e k (λ j. still (subst (λ (i : ℕ). HasMark d′ i (u .matching)) (sym e) j)) w n refl l)
             on (no f) k = inl (busy-not (λ i. f (i .0)))
               where
                 busy-not : ((u .storing ≡ s) × In set (u .matching) → ⊥) → Busy d′ s set (inside u) → ⊥

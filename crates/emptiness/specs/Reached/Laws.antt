@@ -29,7 +29,7 @@ use Rattle.images.specs.Graph.{KindsOf, May}
 use Rattle.images.specs.declared.Kinds.{Kinds}
 use Rattle.emptiness.specs.Closed.{Allowed, Changeable, nextMode, Closed}
 use Rattle.emptiness.specs.Closed.Laws.{closed-empty}
-use Rattle.emptiness.specs.Reached.{At, Turns, Grown, Next, Apart, Crossed, Moved, Changed, Swept, Passed, Same}
+use Rattle.emptiness.specs.Reached.{At, Turns, Grown, WithNext, Apart, Crossed, Moved, Changed, Swept, Passed, Same}
 use Rattle.emptiness.specs.declared.Reached.{Reached}
 
 -- no member: the test says so
@@ -40,17 +40,17 @@ not-has set q false e n = refl
 -- One state more
 
 module _ (set p q : ℕ) where
-  pub next-barred : (barred : Bool) → barred ≡ true → Next set barred p q set
+  pub next-barred : (barred : Bool) → barred ≡ true → WithNext set barred p q set
   next-barred barred e = record { stays = λ x i. i; this = λ l free i. absurd (not-both e free) }
 
-  pub next-other : (barred : Bool) → has set p ≡ false → Next set barred p q set
+  pub next-other : (barred : Bool) → has set p ≡ false → WithNext set barred p q set
   next-other barred e = record { stays = λ x i. i; this = λ l free i. absurd (has-not set p e i) }
 
-  pub next-is : (barred : Bool) {r : ℕ} → SetIs r (added set q) (λ x. In set x ⊎ ((x ≡ q) × (x < width))) → Next set barred p q r
+  pub next-is : (barred : Bool) {r : ℕ} → SetIs r (added set q) (λ x. In set x ⊎ ((x ≡ q) × (x < width))) → WithNext set barred p q r
   next-is barred is = record { stays = λ x i. is .members x .1 (inl i); this = λ l free i. is .members q .1 (inr (refl, l)) }
 
 module _ (g p q : ℕ) (s : Reached) where
-  pub apart-is : {b d : Bool} {n t : ℕ} → b ≡ has g p → d ≡ has g q → Next (s .normal) b p q n → Next (s .buffering) d p q t
+  pub apart-is : {b d : Bool} {n t : ℕ} → b ≡ has g p → d ≡ has g q → WithNext (s .normal) b p q n → WithNext (s .buffering) d p q t
       → Apart g p q s (record { normal = n; buffering = t; emptying = s .emptying })
   apart-is {b} {d} {n} {t} e f u v =
       record {
@@ -79,7 +79,7 @@ module _ (g h p q : ℕ) (s : Reached) where
   pub moved-to : {r : Reached} → has h q ≡ false → Apart g p q s r → Moved g h p q s r
   moved-to e = moved-apart (λ z. has-not h q e (z .1))
 
-  pub moved-both : {t : ℕ} → has h p ≡ true → has h q ≡ true → Next (s .emptying) false p q t
+  pub moved-both : {t : ℕ} → has h p ≡ true → has h q ≡ true → WithNext (s .emptying) false p q t
       → Moved g h p q s (record { normal = s .normal; buffering = s .buffering; emptying = t })
   moved-both {t} a b u = record { grown = on; crossed = cross }
     where

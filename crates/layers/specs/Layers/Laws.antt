@@ -1,12 +1,12 @@
 -- The laws of specs/Layers.antt.
 --
 -- rows-least        == rows that no move would lower have least numbers
--- emptying-best, buffering-best, place-best == and so the rows of each kind of layer are Best
+-- emptying-best, buffering-best, position-best == and so the rows of each kind of layer are Best
 -- some-start        == where a copy begins there are states that begin one
 -- blank-at, blank-size, blank-none == the numbers of a blank row
 -- none-best         == a row that says none is as good as a blank one
 -- blank-emptying, blank-buffering == where the rows after it are blank, so is a layer
--- blank-place       == where no state is kept, the rows of a place are blank
+-- blank-position       == where no state is kept, the rows of a position are blank
 use Prim.Native.Nat.{ℕ, zero, suc, _+_, _≤_, _<_}
 use mathlib.Core.Path.{_≡_, refl, sym, ap, _∙_, subst}
 use mathlib.Core.Logic.{_⊎_, inl, inr, _↔_}
@@ -23,9 +23,9 @@ use Rattle.fsbm.specs.declared.machine.Machine.{Machine}
 use Rattle.fsbm.specs.declared.config.Mode.{Mode}
 use Rattle.fsbm.specs.declared.config.Mode.the-variants.{Normal, Buffering, Emptying}
 use Rattle.fsbm.specs.Rules.{Rules, matching-below}
-use Rattle.layers.specs.Costs.{none, Near, Go, at, RowReal, RowBest, Leads, Bounded, Marked}
+use Rattle.layers.specs.Costs.{none, Near, Go, at, RowReal, RowBest, Leads, Bounded, ChangeBound}
 use Rattle.layers.specs.Costs.Laws.{Cases, silent, normal-letter, buffer-letter, empty-letter, to-buffering, to-emptying, to-normal, layer-least}
-use Rattle.layers.specs.Layers.{headOf, tailOf, blankRow, NoneBelow, EmptyingLayer, BufferingLayer, Begins, Sets, Settled, PlaceReal, PlaceBest, PlaceLayer}
+use Rattle.layers.specs.Layers.{headOf, tailOf, blankRow, NoneBelow, EmptyingLayer, BufferingLayer, Begins, Sets, Settled, PositionReal, PositionBest, PositionLayer}
 
 never-mode : {A : Type 0} (n : ℕ) → _≡_ {A = ℕ} 0 1 → A
 never-mode n z = absurd (omega arith)
@@ -171,7 +171,7 @@ module _ (m : Machine) (list : List ℕ) (r : Rules m list) (N : ℕ → ℕ) wh
           }
 
   pub buffering-best : (x : ℕ) (u v next emptied row : List ℕ) → x ≡ headOf u → (0 < x → RowBest m list N (tailOf u) (v ++ (x ∷ [])) Buffering next) → RowBest m list N u v Emptying emptied
-      → RowReal m list N u v Buffering row → (0 < x → Bounded m list (λ q. q < m .states) Buffering x row next) → Marked (λ q. matching (m .marks) q ≡ true) row emptied
+      → RowReal m list N u v Buffering row → (0 < x → Bounded m list (λ q. q < m .states) Buffering x row next) → ChangeBound (λ q. matching (m .marks) q ≡ true) row emptied
       → Bounded m list (λ q. q < m .states) Buffering 0 row row → RowBest m list N u v Buffering row
   unfolding headOf tailOf
   buffering-best x u v next emptied row x-head best-next best-emptied real exits marked silents q lt =
@@ -215,13 +215,13 @@ module _ (m : Machine) (list : List ℕ) (r : Rules m list) (N : ℕ → ℕ) wh
       on zero i = absurd (empty-in (b .state) i)
       on (suc x) i = omega arith
 
-  pub place-best : (x : ℕ) (u next-n next-b n b e : List ℕ) (near starts h : ℕ) → Sets m N u near starts h → x ≡ headOf u → (0 < x → RowBest m list N (tailOf u) [] Normal next-n)
+  pub position-best : (x : ℕ) (u next-n next-b n b e : List ℕ) (near starts h : ℕ) → Sets m N u near starts h → x ≡ headOf u → (0 < x → RowBest m list N (tailOf u) [] Normal next-n)
       → (Begins m N u → 0 < x → RowBest m list N (tailOf u) (x ∷ []) Buffering next-b)
-      → PlaceReal m list N u n b e → (u ≡ [] → (q : ℕ) → q < m .states → final (m .marks) q ≡ true → at n q ≡ 0)
+      → PositionReal m list N u n b e → (u ≡ [] → (q : ℕ) → q < m .states → final (m .marks) q ≡ true → at n q ≡ 0)
       → (0 < x → Bounded m list (In near) Normal x n next-n) → (0 < starts → 0 < x → Bounded m list (λ q. q < m .states) Buffering x b next-b)
-      → Settled m list near starts h n b e → PlaceBest m list N u n b e
+      → Settled m list near starts h n b e → PositionBest m list N u n b e
   unfolding pick headOf tailOf
-  place-best x u next-n next-b n b e near starts h sets x-head best-n best-b real goal exits-n exits-b settled =
+  position-best x u next-n next-b n b e near starts h sets x-head best-n best-b real goal exits-n exits-b settled =
       record {
         normal = λ q lt. record { realised = real .normal q lt; least = rows-least m list r N u [] (pick n b e) Live unlowered Normal (λ z. never-mode 0 cc) q lt };
         buffering = λ some q lt. record { realised = real .buffering q lt; least = rows-least m list r N u [] (pick n b e) Live unlowered Buffering (λ z. some) q lt };
@@ -302,7 +302,7 @@ module _ (m : Machine) (list : List ℕ) (r : Rules m list) where
   pub blank-bounded : (S : ℕ → Type 0) (t : Mode) (x : ℕ) (next : List ℕ) → NoneBelow (m .states) next → Bounded m list S t x blankRow next
   blank-bounded S t x next h k l i = omega (arith, blank-most (transitionAt list k .from), h (transitionAt list k .to) (r .to-below k (l .listed)))
 
-  pub blank-marked : (S : ℕ → Type 0) → ((q : ℕ) → S q → q < m .states) → (next : List ℕ) → NoneBelow (m .states) next → Marked S blankRow next
+  pub blank-marked : (S : ℕ → Type 0) → ((q : ℕ) → S q → q < m .states) → (next : List ℕ) → NoneBelow (m .states) next → ChangeBound S blankRow next
   blank-marked S below next h q i = omega (arith, blank-most q, h q (below q i))
 
   -- where the rows after it say none, so does a layer
@@ -322,10 +322,10 @@ module _ (m : Machine) (list : List ℕ) (r : Rules m list) where
       }
 
   -- where no state is kept in normal mode, and the input is not empty
-  pub blank-place : (h : ℕ) → ((q : ℕ) → In h q ↔ (matching (m .marks) q ≡ true)) → (near : ℕ) → near ≡ 0 → (x : ℕ) (next-n next-b : List ℕ) → PlaceLayer m list near false x next-n next-b blankRow blankRow blankRow
-  blank-place h matches near z x next-n next-b =
+  pub blank-position : (h : ℕ) → ((q : ℕ) → In h q ↔ (matching (m .marks) q ≡ true)) → (near : ℕ) → near ≡ 0 → (x : ℕ) (next-n next-b : List ℕ) → PositionLayer m list near false x next-n next-b blankRow blankRow blankRow
+  blank-position h matches near z x next-n next-b =
       record {
-        best = λ N u nears iff head best-n best-b. place-best m list r N x u next-n next-b blankRow blankRow blankRow near 0 h
+        best = λ N u nears iff head best-n best-b. position-best m list r N x u next-n next-b blankRow blankRow blankRow near 0 h
             (record { nears = nears; begins = λ q. (λ i. absurd (empty-in q i), λ i. absurd (nothing q (i .0))); matches = matches }) head best-n best-b
             (record { normal = blank-real N u [] Normal; buffering = blank-real N u [] Buffering; emptying = blank-real N u [] Emptying })
             (λ e. absurd (false≢true (iff .1 e))) (λ l k leads i. absurd (nothing (transitionAt list k .from) i)) (λ (l : 0 < 0). absurd (omega arith))

@@ -31,7 +31,7 @@ use Rattle.fsbm.specs.declared.config.Mode.the-variants.{Normal, Buffering, Emp
 use Rattle.images.specs.Graph.{setOf}
 use Rattle.targets.specs.Prepared.{Row}
 use Rattle.images.specs.Graph.{May}
-use Rattle.layers.specs.Costs.{none, Near, Go, at, Leads, Bounded, Marked, RowReal}
+use Rattle.layers.specs.Costs.{none, Near, Go, at, Leads, Bounded, ChangeBound, RowReal}
 use Rattle.layers.specs.Costs.Laws.{silent-yields, go-step, normal-leads, buffer-leads, empty-leads, normal-apart, buffer-apart, empty-apart, the-listed}
 use Rattle.layers.specs.Rows.{Given, weight, lowered, Lowered, Lowering, Through, Beside, Only, Within, Swept, Reads, Closed}
 
@@ -266,7 +266,7 @@ beside-one {next} row row′ a r h =
     (λ q w c. (c .here, (let e : suc (at next a) ≡ w = ap (λ (p : ℕ). suc (at next p)) (sym (c .here)) ∙ sym (c .is .value) in omega arith))) h
 
 module _ {next : List ℕ} {set : ℕ} where
-  pub beside-marked : {row row′ : List ℕ} {r : Bool} → Lowering (Within (Beside next) set) row row′ r → Marked (In set) row′ next
+  pub beside-marked : {row row′ : List ℕ} {r : Bool} → Lowering (Within (Beside next) set) row row′ r → ChangeBound (In set) row′ next
   beside-marked f q h = f .settled q (suc (at next q)) (record { inside = h; is = record { value = refl } })
 
   pub beside-real : {m : Machine} {list : List ℕ} {N : ℕ → ℕ} {row row′ : List ℕ} {r : Bool} (F G : ℕ → Configuration)

@@ -33,7 +33,7 @@ use Rattle.pieces.specs.Blocks.Laws.{cost-inside, cost-past}
 use Rattle.blocks.specs.Numbers.Laws.{total-set, added-more, Left, Rest, Taken, left-start, left-more, left-end}
 use Rattle.blocks.specs.Stretches.Laws.{row-stretch}
 use Rattle.blocks.specs.Works.{Kind, Ready}
-use Rattle.least.specs.Falls.{Falls, Single, Step, Steps, NormalFrom, End, Ends, Enterable}
+use Rattle.least.specs.Falls.{Falls, Single, Step, Steps, NormalFrom, End, CopyEnds, Enterable}
 
 module _ (d : List ℕ) (q v : ℕ) (inside : q < 64) where
   pub cost-set-same : q < length d → costOf (set d q v) q ≡ v
@@ -285,33 +285,33 @@ pub end-is : {top z v : ℕ} {d d′ : List ℕ} {got got′ : ℕ} → v < top 
 end-is l f = falls-as (λ q w c. record { known = l; single = c }) (λ q w c. c .single) f
 
 module _ (top : ℕ) (b : List ℕ) (guess : ℕ) where
-  pub ends-start : (set : ℕ) (d : List ℕ) (got : ℕ) → got < 2 ^ width → Falls (Ends top b guess (Left set set)) (Ends top b guess (Left set set)) d got d got
+  pub ends-start : (set : ℕ) (d : List ℕ) (got : ℕ) → got < 2 ^ width → Falls (CopyEnds top b guess (Left set set)) (CopyEnds top b guess (Left set set)) d got d got
   ends-start set d got h = falls-none d got h (λ z v c. left-start set z (c .holds))
 
   pub ends-more : {set rest rest′ q w : ℕ} {d d₁ d₂ : List ℕ} {got got₁ got₂ : ℕ} → Rest set rest → Taken rest q rest′ → w ≡ cell b guess q
-      → Falls (Ends top b guess (Left set rest)) (Ends top b guess (Left set rest)) d got d₁ got₁ → Falls (End top q w) (End top q w) d₁ got₁ d₂ got₂
-      → Falls (Ends top b guess (Left set rest′)) (Ends top b guess (Left set rest′)) d got d₂ got₂
+      → Falls (CopyEnds top b guess (Left set rest)) (CopyEnds top b guess (Left set rest)) d got d₁ got₁ → Falls (End top q w) (End top q w) d₁ got₁ d₂ got₂
+      → Falls (CopyEnds top b guess (Left set rest′)) (CopyEnds top b guess (Left set rest′)) d got d₂ got₂
   ends-more {set} {rest} {rest′} {q} {w} r k value f g = falls-then left right either f g
     where
-      left : (z v : ℕ) → Ends top b guess (Left set rest) z v → Ends top b guess (Left set rest′) z v
+      left : (z v : ℕ) → CopyEnds top b guess (Left set rest) z v → CopyEnds top b guess (Left set rest′) z v
       left z v c = record { holds = left-more r k z .1 (inl (c .holds)); known = c .known; value = c .value }
 
-      right : (z v : ℕ) → End top q w z v → Ends top b guess (Left set rest′) z v
+      right : (z v : ℕ) → End top q w z v → CopyEnds top b guess (Left set rest′) z v
       right z v c =
           let e : cell b guess z ≡ w = ap (cell b guess) (c .single .state) ∙ sym value in
           record { holds = left-more r k z .1 (inr (c .single .state)); known = omega (arith, c .known); value = omega (arith, c .single .value) }
 
-      either : (z v : ℕ) → Ends top b guess (Left set rest′) z v → Ends top b guess (Left set rest) z v ⊎ End top q w z v
+      either : (z v : ℕ) → CopyEnds top b guess (Left set rest′) z v → CopyEnds top b guess (Left set rest) z v ⊎ End top q w z v
       either z v c = on (left-more r k z .0 (c .holds))
         where
-          on : Left set rest z ⊎ (z ≡ q) → Ends top b guess (Left set rest) z v ⊎ End top q w z v
+          on : Left set rest z ⊎ (z ≡ q) → CopyEnds top b guess (Left set rest) z v ⊎ End top q w z v
           on (inl l) = inl (record { holds = l; known = c .known; value = c .value })
           on (inr e) =
               let y : cell b guess z ≡ w = ap (cell b guess) e ∙ sym value in
               inr (record { known = omega (arith, c .known); single = record { state = e; value = omega (arith, c .value) } })
 
-  pub ends-end : (set rest : ℕ) {d d′ : List ℕ} {got got′ : ℕ} → rest ≡ 0 → Falls (Ends top b guess (Left set rest)) (Ends top b guess (Left set rest)) d got d′ got′
-      → Falls (Ends top b guess (In set)) (Ends top b guess (In set)) d got d′ got′
+  pub ends-end : (set rest : ℕ) {d d′ : List ℕ} {got got′ : ℕ} → rest ≡ 0 → Falls (CopyEnds top b guess (Left set rest)) (CopyEnds top b guess (Left set rest)) d got d′ got′
+      → Falls (CopyEnds top b guess (In set)) (CopyEnds top b guess (In set)) d got d′ got′
   ends-end set rest e f =
       falls-as (λ z v c. record { holds = left-end set rest z e .0 (c .holds); known = c .known; value = c .value })
       (λ z v c. record { holds = left-end set rest z e .1 (c .holds); known = c .known; value = c .value }) f

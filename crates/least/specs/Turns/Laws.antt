@@ -42,7 +42,7 @@ use Rattle.blocks.specs.Numbers.{total}
 use Rattle.blocks.specs.Numbers.Laws.{added-more, Left, Rest, Taken, left-start, left-more, left-end}
 use Rattle.blocks.specs.Works.{Kind}
 use Rattle.blocks.specs.Works.Laws.{block-inside}
-use Rattle.least.specs.Falls.{Falls, NormalFrom, Ends}
+use Rattle.least.specs.Falls.{Falls, NormalFrom, CopyEnds}
 use Rattle.least.specs.Falls.Laws.{falls-none, falls-then, falls-under}
 use Rattle.least.specs.Turns.{Entered, EnteredBelow, EnteredBy, firstOf, Limit, Lowered, RoundsOf, NormalSo, NormalTurn, Made, Bound, Tops, Guessed, CopyTurn, First}
 
@@ -146,7 +146,7 @@ module _ (m : Machine) (list : List ℕ) (good : wellFormed m list ≡ true) (h 
       turns : matching (m .marks) guess ≡ true
       turns = entered .only guess (r .part guess (k .member))
 
-      there : (z v : ℕ) → Ends (g .top) b guess (In h) z v → Made m list set d₀ z v
+      there : (z v : ℕ) → CopyEnds (g .top) b guess (In h) z v → Made m list set d₀ z v
       there z v c =
           let e = matches z .0 (c .holds) in
           let n = block-inside b (both guess z) in

@@ -45,7 +45,7 @@ use Rattle.layers.specs.Costs.{none, at, Near, Step, Go, Best}
 use Rattle.layers.specs.Costs.Laws.{Fits, go-fit, go-step}
 use Rattle.layers.specs.Layers.{blankRow, Begins}
 use Rattle.layers.specs.Layers.Laws.{blank-at}
-use Rattle.tables.specs.Tables.{nearOf, rowAt, PlaceRows, EmptyRow, BufferRow, Sized}
+use Rattle.tables.specs.Tables.{nearOf, rowAt, PositionRows, EmptyRow, BufferRow, Sized}
 use Rattle.tables.specs.Tables.Laws.{slice-at, front-letters, buffer-past}
 use Rattle.decide.specs.Covers.{Covers}
 use Rattle.runs.specs.Walk.{endOf, Second, Ready, changeEntry, Entered, Fresh, Refreshed, Started, Written}
@@ -63,17 +63,17 @@ module _ (m : Machine) (list sets w : List ℕ) (t emptied stored : List (List �
   fits-as s e = subst (λ (z : Mode). bufferFits c z ≡ true) e (pl .fits)
 
   pub best-normal : c .mode ≡ Normal → Best m list (nearOf m w sets) (published w c) (at (rowAt t (c .position * 3)) (c .state))
-  unfolding PlaceRows
+  unfolding PositionRows
   best-normal e =
-      same-published [] Normal _ (empty-buffer (eqb-true (c .start) (c .end) (fits-as Normal e))) e (ready .places (c .position) (pl .in-word) .normal (c .state) (pl .state-below))
+      same-published [] Normal _ (empty-buffer (eqb-true (c .start) (c .end) (fits-as Normal e))) e (ready .positions (c .position) (pl .in-word) .normal (c .state) (pl .state-below))
 
   pub best-begun : c .mode ≡ Buffering → c .position - c .start ≡ 0 → Best m list (nearOf m w sets) (published w c) (at (rowAt t (c .position * 3 + 1)) (c .state))
-  unfolding PlaceRows
+  unfolding PositionRows
   best-begun e z =
       let ends = eqb-true (c .end) (c .position) (fits-as Buffering e) in
       let here : c .start ≡ c .position = omega (arith, pl .forward) in
       same-published [] Buffering _ (empty-buffer (omega (arith, pl .forward))) e
-      (ready .places (c .position) (pl .in-word) .buffering (subst (λ (k : ℕ). Begins m (nearOf m w sets) (drop k w)) here (ready .begun e)) (c .state) (pl .state-below))
+      (ready .positions (c .position) (pl .in-word) .buffering (subst (λ (k : ℕ). Begins m (nearOf m w sets) (drop k w)) here (ready .begun e)) (c .state) (pl .state-below))
 
   module _ (e : c .mode ≡ Buffering) where
     here-is : c .start + (c .position - c .start) ≡ c .position
@@ -179,7 +179,7 @@ module _ (m : Machine) (list sets w : List ℕ) where
   ready-step t emptied stored c k lt ready pl h =
       let kept = move-kept c k lt h in
       record {
-        places = ready .places;
+        positions = ready .positions;
         sized = ready .sized;
         begun = λ e. let b : c .mode ≡ Buffering = sym (kept .mode-same) ∙ e in subst (λ (k : ℕ). Begins m (nearOf m w sets) (drop k w)) (sym (kept .start-same b)) (ready .begun b);
         storing = λ e d pos le. let b : c .mode ≡ Buffering = sym (kept .mode-same) ∙ e in let s = kept .start-same b in
@@ -323,12 +323,12 @@ module _ (m : Machine) (list sets w : List ℕ) where
       let state : g .last ≡ c .state = sym (ap (λ (D : Configuration). D .state) e) in
       let start : c .start ≡ c .end = slice-none w (c .start) (c .end) (pl .forward) (omega (arith, pl .behind, pl .in-word)) (ap (λ (D : Configuration). D .buffer) e) in
       let left : length w - c .position ≡ 0 = sym (length-drop (c .position) w) ∙ ap length (ap (λ (D : Configuration). D .input) e) in
-      let place : c .position ≡ length w = omega (arith, pl .in-word) in
+      let position : c .position ≡ length w = omega (arith, pl .in-word) in
       and-both-true (final (m .marks) (c .state)) (isNormal (c .mode) && (eqb (c .start) (c .end) && eqb (c .position) (length w)))
       (subst (λ (q : ℕ). final (m .marks) q ≡ true) state (g .last-final))
       (and-both-true (isNormal (c .mode)) (eqb (c .start) (c .end) && eqb (c .position) (length w))
       (ap isNormal (ap (λ (D : Configuration). D .mode) e))
-      (and-both-true (eqb (c .start) (c .end)) (eqb (c .position) (length w)) (eq-eqb (c .start) (c .end) start) (eq-eqb (c .position) (length w) place)))
+      (and-both-true (eqb (c .start) (c .end)) (eqb (c .position) (length w)) (eq-eqb (c .start) (c .end) start) (eq-eqb (c .position) (length w) position)))
 
 -- The steps of the walk
 
@@ -365,7 +365,7 @@ module _ (m : Machine) (list sets w : List ℕ) (good : wellFormed m list ≡ tr
       let next = move m list w c e .config in
       let pl = placed m w next (move-placed m list w good c e h) in
       record {
-        places = ready .places;
+        positions = ready .positions;
         sized = ready .sized;
         kept = λ l. ready-step m list sets w t emptied stored c e (listed l h) ready (placed m w c p) h;
         storing = λ z. let g = change-is m list sets w c e (omega (arith, r .transitions-fit)) h in
@@ -406,10 +406,10 @@ pub record Walking (m : Machine) (list sets w : List ℕ) (t emptied stored : Li
   pub fewest : (other : List ℕ) → accepting m list w other ≡ true → k + d ≤ length other
 
 module _ (m : Machine) (list sets w : List ℕ) (t : List (List ℕ)) where
-  pub walk-start : (emptied stored : List (List ℕ)) (run : List ℕ) (q d : ℕ) → q < m .states → initial (m .marks) q ≡ true → Sized w t emptied stored → ((p : ℕ) → p ≤ length w → PlaceRows m list sets w t p)
+  pub walk-start : (emptied stored : List (List ℕ)) (run : List ℕ) (q d : ℕ) → q < m .states → initial (m .marks) q ≡ true → Sized w t emptied stored → ((p : ℕ) → p ≤ length w → PositionRows m list sets w t p)
       → Best m list (nearOf m w sets) (published w (startAt q)) d → d < none → 1 + d ≤ length run → ((other : List ℕ) → accepting m list w other ≡ true → 1 + d ≤ length other) → (c : Config) → c ≡ startAt q → Walking m list sets w t emptied stored (set run 0 q) (set run 0 q) c d 1
   unfolding accepting
-  walk-start emptied stored run q d lt is sized places best small room fewest c e =
+  walk-start emptied stored run q d lt is sized positions best small room fewest c e =
       let same = length-set run 0 q in
       rw e
       (record {
@@ -417,7 +417,7 @@ module _ (m : Machine) (list sets w : List ℕ) (t : List (List ℕ)) where
         best = best;
         small = small;
         ready = record {
-          places = places;
+          positions = positions;
           sized = sized;
           begun = λ z. let b : _≡_ {A = ℕ} 0 1 = cc in absurd (omega arith);
           storing = λ z. let b : _≡_ {A = ℕ} 0 1 = cc in absurd (omega arith);
@@ -483,12 +483,12 @@ pub record Begun (m : Machine) (list sets w : List ℕ) (run : ℕ) (q d : ℕ) 
   pub fewest : (other : List ℕ) → accepting m list w other ≡ true → 1 + d ≤ length other
 
 module _ (m : Machine) (list sets w : List ℕ) where
-  start-best : (t : List (List ℕ)) (row : List ℕ) → PlaceRows m list sets w t 0 → row ≡ rowAt t 0 → (q : ℕ) → q < m .states → Best m list (nearOf m w sets) (published w (startAt q)) (at row q)
-  unfolding PlaceRows
+  start-best : (t : List (List ℕ)) (row : List ℕ) → PositionRows m list sets w t 0 → row ≡ rowAt t 0 → (q : ℕ) → q < m .states → Best m list (nearOf m w sets) (published w (startAt q)) (at row q)
+  unfolding PositionRows
   start-best t row h e q lt = rw e (h .normal q lt)
 
   -- an accepting run has at least as many entries
-  least-run : wellFormed m list ≡ true → Covers m list w sets → (t : List (List ℕ)) (row : List ℕ) (q : ℕ) → PlaceRows m list sets w t 0 → row ≡ rowAt t 0 → Started m row (m .states) q → (run : List ℕ) → accepting m list w run ≡ true
+  least-run : wellFormed m list ≡ true → Covers m list w sets → (t : List (List ℕ)) (row : List ℕ) (q : ℕ) → PositionRows m list sets w t 0 → row ≡ rowAt t 0 → Started m row (m .states) q → (run : List ℕ) → accepting m list w run ≡ true
       → (q < m .states) × (1 + at row q ≤ length run)
   unfolding accepting
   least-run good covers t row q rows e s [] a = absurd (false≢true a)
@@ -503,7 +503,7 @@ module _ (m : Machine) (list sets w : List ℕ) where
       start-placed : (p : ℕ) → p < m .states → wellPlaced (m .states) (length w) (startAt p) ≡ true
       start-placed p lt = unplaced m w (startAt p) (record { in-word = omega arith; state-below = lt; forward = omega arith; behind = omega arith; fits = refl })
 
-  pub begun : (t : List (List ℕ)) (row : List ℕ) (q size : ℕ) → wellFormed m list ≡ true → Covers m list w sets → length w ≤ 255 → accepted m list w ≡ true → runBound m (length w) ≤ size → PlaceRows m list sets w t 0 → row ≡ rowAt t 0
+  pub begun : (t : List (List ℕ)) (row : List ℕ) (q size : ℕ) → wellFormed m list ≡ true → Covers m list w sets → length w ≤ 255 → accepted m list w ≡ true → runBound m (length w) ≤ size → PositionRows m list sets w t 0 → row ≡ rowAt t 0
       → Started m row (m .states) q → Begun m list sets w size q (at row q)
   unfolding runBound
   begun t row q size good covers short ok room rows e s =

@@ -30,7 +30,7 @@ use Rattle.shortest.specs.Find.{pairUnit, StoreFits, MatchFits, Storing,
 use Rattle.shortest.specs.Find.Tests.{store-says, match-says, NoBack, back-there}
 use Rattle.shortest.specs.Put.{PutReady, Put, laterList}
 use Rattle.shortest.specs.Put.Laws.{some-symbol, later-more}
-use Rattle.shortest.specs.Copy.{begunTest, place, MatchedReady, Same, Written, Matched, StoredReady, Unkept, Kept, Stored, Walking, Going, Gone}
+use Rattle.shortest.specs.Copy.{begunTest, place, MatchedReady, Same, Written, Matched, StoredReady, Unkept, Kept, KeptOrNot, Walking, Going, Gone}
 use Rattle.shortest.specs.declared.copy.Walk.{Walk}
 
 module _ (m : Machine) (list links d b : List ℕ) (h z : ℕ) (word₀ : List ℕ) (i₀ : ℕ) (run₀ : List ℕ) (r₀ : ℕ) (later₀ : List ℕ) (g : Going m list links d b h z word₀ i₀ run₀ r₀ later₀) where
@@ -259,7 +259,7 @@ module _ (m : Machine) (list links d b : List ℕ) (h z : ℕ) (word₀ : List �
           pub stored-ready : StoredReady (m .transitions) k w₁
           stored-ready = record { small = λ l. (few k l, let e = kept-same in let c = kept-below in omega arith) }
 
-          module _ (later′ : List ℕ) (w₂ : Walk) (S : Stored list (m .transitions) k later w₁ later′ w₂) where
+          module _ (later′ : List ℕ) (w₂ : Walk) (S : KeptOrNot list (m .transitions) k later w₁ later′ w₂) where
             abbrev Goes : Walk → Type 0
             Goes v = Walking m list b h z word₀ i₀ run₀ r₀ word′ run′ later′ v × (cell b (v .storing) (v .matching) < cell b s t)
 
@@ -318,7 +318,7 @@ module _ (m : Machine) (list links d b : List ℕ) (h z : ℕ) (word₀ : List �
             pub walk-turn : Goes w₂
             walk-turn = at back M S
               where
-                at : Backs m list b s t k j → Matched list (m .transitions) j word run w word′ run′ w₁ → Stored list (m .transitions) k later w₁ later′ w₂ → Goes w₂
+                at : Backs m list b s t k j → Matched list (m .transitions) j word run w word′ run′ w₁ → KeptOrNot list (m .transitions) k later w₁ later′ w₂ → Goes w₂
                 at (by-storing x y f) (inl e) (inl o) = let l = o .past in absurd (omega arith)
                 at (by-storing x y f) (inl e) (inr o) = on-storing x e o f
                 at (by-storing x y f) (inr e) o = let l = e .below in absurd (omega arith)

@@ -26,7 +26,7 @@ use Rattle.shortest.specs.Put.{Again, Unloaded}
 use Rattle.shortest.specs.Put.Laws.{later-size}
 use Rattle.shortest.specs.Copy.{Room, Walking, Going, Gone, CopyReady, Stepped}
 use Rattle.shortest.specs.Copy.Laws.{kept-below}
-use Rattle.shortest.specs.declared.copy.Place.{Place}
+use Rattle.shortest.specs.declared.copy.Progress.{Progress}
 use Rattle.shortest.specs.declared.copy.Walk.{Walk}
 
 module _ (m : Machine) (list links d b : List ℕ) (h z : ℕ) (word : List ℕ) (i : ℕ) (run : List ℕ) (r : ℕ) (later : List ℕ) (c : CopyReady m list links d b h z word i run r later) where
@@ -111,7 +111,7 @@ module _ (m : Machine) (list links d b : List ℕ) (h z : ℕ) (word : List ℕ)
       abbrev e : ℕ
       e = w .entry - 1 - w .kept - 1
 
-      abbrev end : Place
+      abbrev end : Progress
       end = record { state = w .storing; letter = w .letter - (i - w .letter); entry = e }
 
       abbrev tail : List ℕ

@@ -8,7 +8,7 @@ use mathlib.Core.List.{List}
 use native.Mathlib.Omega.{arith}
 use native.Mathlib.Decide.{decLt, ℕ-discrete}
 use Rattle.fsbm.specs.Machine.{transitionAt}
-use Rattle.shortest.specs.Into.{Next, Enters}
+use Rattle.shortest.specs.Into.{NextLink, Enters}
 use Rattle.shortest.specs.Find.{Finds}
 
 pub record Finding (n : ℕ) (list : List ℕ) (z : ℕ) (Q : ℕ → Type 0) (k : ℕ) : Type 0 where
@@ -16,16 +16,16 @@ pub record Finding (n : ℕ) (list : List ℕ) (z : ℕ) (Q : ℕ → Type 0) (k
   pub here : k < n → Enters list z k
 
 module _ (n : ℕ) (list : List ℕ) (z : ℕ) (Q : ℕ → Type 0) where
-  pub finding-start : (k : ℕ) → Next (Enters list z) n 0 k → Finding n list z Q k
+  pub finding-start : (k : ℕ) → NextLink (Enters list z) n 0 k → Finding n list z Q k
   finding-start k x = record { passed = λ j l b e q. x .skipped j (omega arith) l b e; here = x .found }
 
   module _ (k : ℕ) (f : Finding n list z Q k) where
-    pub finding-next : (r : ℕ) → k < n → (Q k → ⊥) → Next (Enters list (transitionAt list k .to)) n (k + 1) r → Finding n list z Q r
+    pub finding-next : (r : ℕ) → k < n → (Q k → ⊥) → NextLink (Enters list (transitionAt list k .to)) n (k + 1) r → Finding n list z Q r
     finding-next r inside bad x =
-        let y : Next (Enters list z) n (k + 1) r = subst (λ (q : ℕ). Next (Enters list q) n (k + 1) r) (f .here inside) x in
+        let y : NextLink (Enters list z) n (k + 1) r = subst (λ (q : ℕ). NextLink (Enters list q) n (k + 1) r) (f .here inside) x in
         record { passed = λ j l b e q. at y j l b e q (decLt j k) (ℕ-discrete j k); here = y .found }
       where
-        at : Next (Enters list z) n (k + 1) r → (j : ℕ) → j < r → j < n → Enters list z j → Q j → Dec (j < k) → Dec (j ≡ k) → ⊥
+        at : NextLink (Enters list z) n (k + 1) r → (j : ℕ) → j < r → j < n → Enters list z j → Q j → Dec (j < k) → Dec (j ≡ k) → ⊥
         at y j l b e q (yes less) d = f .passed j less b e q
         at y j l b e q (no more) (yes same) = bad (subst Q same q)
         at y j l b e q (no more) (no other) = y .skipped j (omega arith) l b e

@@ -42,7 +42,7 @@ use Rattle.shortest.specs.Put.{PutReady}
 use Rattle.shortest.specs.Put.Laws.{some-symbol}
 use Rattle.shortest.specs.Copy.{Fits, CopyReady, Stepped}
 use Rattle.shortest.specs.Write.{Read, Least, Searching, CopyThere, TriedGuess, Guessed, Guessing, StepReady, WriteReady, Aim, Writing, Shortest}
-use Rattle.shortest.specs.declared.copy.Place.{Place}
+use Rattle.shortest.specs.declared.copy.Progress.{Progress}
 
 pub number-below : (d : List ℕ) (q : ℕ) {top : ℕ} → top ≤ nothing → costOf d q < top → q < 64
 number-below d q small l = at (decLt q 64)
@@ -89,7 +89,7 @@ module _ (m : Machine) (list d : List ℕ) (q : ℕ) (word : List ℕ) (i : ℕ)
         word-fits = word-fits;
       }
 
-  pub read-steps : (word′ run′ : List ℕ) (p : Place) → Read list k word i run r word′ run′ p → Stepped m list d q word i run r word′ run′ p
+  pub read-steps : (word′ run′ : List ℕ) (p : Progress) → Read list k word i run r word′ run′ p → Stepped m list d q word i run r word′ run′ p
   read-steps word′ run′ p x =
       let put = x .put in
       let l = ap length (append-nil (symbol by)) in
@@ -209,7 +209,7 @@ module _ (m : Machine) (list d : List ℕ) (f : ℕ) (word₀ run₀ : List ℕ)
         run-fits = omega arith;
       }
 
-  module _ (word run : List ℕ) (p : Place) (w : Writing m list d f word₀ run₀ word run p) where
+  module _ (word run : List ℕ) (p : Progress) (w : Writing m list d f word₀ run₀ word run p) where
     pub write-low : costOf d (p .state) < a .top
     write-low = let s = w .sum in let l = a .low in omega arith
 
@@ -232,7 +232,7 @@ module _ (m : Machine) (list d : List ℕ) (f : ℕ) (word₀ run₀ : List ℕ)
         numbers : (u x c n i j k t e r : ℕ) → n ≤ u + (x + c) → c + i ≡ n → t + r ≡ e → suc (u * unit + j + (x * unit + k) + (c * unit + t)) ≡ n * unit + e → e < unit → (x ≤ i) × (k < r)
         numbers u x c n i j k t e r least at-word at-run sum small = (omega arith, omega arith)
 
-    pub write-turn : (word′ run′ : List ℕ) (p′ : Place) → Stepped m list d (p .state) word (p .letter) run (p .entry) word′ run′ p′
+    pub write-turn : (word′ run′ : List ℕ) (p′ : Progress) → Stepped m list d (p .state) word (p .letter) run (p .entry) word′ run′ p′
         → Writing m list d f word₀ run₀ word′ run′ p′ × (costOf d (p′ .state) < costOf d (p .state))
     write-turn word′ run′ p′ s =
         let lw = length-append (s .read) (drop (p .letter) word) in
@@ -273,7 +273,7 @@ module _ (m : Machine) (list d : List ℕ) (f : ℕ) (word₀ run₀ : List ℕ)
 -- What a step asks, where the run is written from a place on
 
 pub step-ready : (m : Machine) (list links index : List ℕ) (starts ends middles : ℕ) (d b : List ℕ) (f : ℕ) (later : List ℕ) → WriteReady m list links index starts ends middles d b f later
-    → (word₀ run₀ : List ℕ) → Aim m list d f (length word₀) (length run₀) → (word run : List ℕ) (p : Place) → Writing m list d f word₀ run₀ word run p → 0 < costOf d (p .state)
+    → (word₀ run₀ : List ℕ) → Aim m list d f (length word₀) (length run₀) → (word run : List ℕ) (p : Progress) → Writing m list d f word₀ run₀ word run p → 0 < costOf d (p .state)
     → (b′ later′ : List ℕ) → length b′ ≡ 4096 → Past m b′ → length later′ ≡ 4096
     → StepReady m list links index starts ends middles d b′ (p .state) word (p .letter) run (p .entry) later′
 step-ready m list links index starts ends middles d b f later r word₀ run₀ a word run p w positive b′ later′ size past later-size =

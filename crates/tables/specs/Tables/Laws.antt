@@ -7,7 +7,7 @@
 -- buffer-past                == the row of a buffer that is longer than what is left of the word
 -- buffer-next                == the rows of a first half, from its end back
 -- nears                      == the states kept in normal mode at a position
--- place-before, place-end    == the rows of a position, before the end of the word and at it
+-- position-before, position-end    == the rows of a position, before the end of the word and at it
 use Prim.Native.Nat.{ℕ, zero, suc, _+_, _-_, _*_, _≤_, _<_}
 use mathlib.Core.Path.{_≡_, refl, sym, ap, _∙_, subst}
 use mathlib.Core.Logic.{_↔_}
@@ -27,14 +27,14 @@ use Rattle.fsbm.specs.declared.config.Mode.the-variants.{Normal, Buffering, Emp
 use Rattle.fsbm.specs.Rules.{Rules}
 use Rattle.layers.specs.Costs.{Near, at, Go, RowBest}
 use Rattle.layers.specs.Costs.Laws.{Fits, go-fit, best-none}
-use Rattle.layers.specs.Layers.{headOf, tailOf, blankRow, EmptyingLayer, BufferingLayer, Begins, PlaceLayer, PlaceBest}
+use Rattle.layers.specs.Layers.{headOf, tailOf, blankRow, EmptyingLayer, BufferingLayer, Begins, PositionLayer, PositionBest}
 use Rattle.layers.specs.Layers.Laws.{blank-at, blank-emptying}
 use Rattle.tables.specs.Halves.{Halves}
-use Rattle.tables.specs.Tables.{nearOf, rowAt, PlaceRows, EmptyRow, BufferRow, BlankFrom}
+use Rattle.tables.specs.Tables.{nearOf, rowAt, PositionRows, EmptyRow, BufferRow, BlankFrom}
 
 module _ (m : Machine) (list sets w : List ℕ) where
-  pub empty-start : (t : List (List ℕ)) (e : ℕ) → PlaceRows m list sets w t e → EmptyRow m list sets w e 0 (rowAt t (e * 3 + 2))
-  unfolding PlaceRows EmptyRow
+  pub empty-start : (t : List (List ℕ)) (e : ℕ) → PositionRows m list sets w t e → EmptyRow m list sets w e 0 (rowAt t (e * 3 + 2))
+  unfolding PositionRows EmptyRow
   empty-start t e h =
       let z : e - 0 ≡ e = omega arith in
       rw (z, slice-empty) (h .emptying)
@@ -134,7 +134,7 @@ module _ (m : Machine) (list sets w : List ℕ) where
       let best′ : RowBest m list (nearOf m w sets) (tailOf (drop (i + d) w)) (slice i (i + d) w ++ (x ∷ [])) Buffering next = rw (tail, ← longer) (rw z at best) in
       layer .best (nearOf m w sets) (drop (i + d) w) (slice i (i + d) w) (x-is ∙ sym (head-drop (i + d) lt)) (λ l. best′) best-emptied
 
-  -- The place p, before the end of the word and at it
+  -- The position p, before the end of the word and at it
 
   pub nears : (p near : ℕ) → p ≤ length w → near ≡ bitAnd (getD sets p 0) (below (m .states)) → (q : ℕ) → Near (nearOf m w sets) (drop p w) q ↔ In near q
   nears p near le e q =
@@ -143,11 +143,11 @@ module _ (m : Machine) (list sets w : List ℕ) where
       let same : nearOf m w sets (length (drop p w)) ≡ near = ap (λ (k : ℕ). bitAnd (getD sets k 0) (below (m .states))) z ∙ sym e in
       (λ i. subst (λ (n : ℕ). In n q) same i, λ i. subst (λ (n : ℕ). In n q) (sym same) i)
 
-  pub place-before : (p near x : ℕ) (next-n next-b n b e : List ℕ) → p < length w → near ≡ bitAnd (getD sets p 0) (below (m .states)) → x ≡ getD w p 0
+  pub position-before : (p near x : ℕ) (next-n next-b n b e : List ℕ) → p < length w → near ≡ bitAnd (getD sets p 0) (below (m .states)) → x ≡ getD w p 0
       → RowBest m list (nearOf m w sets) (drop (p + 1) w) [] Normal next-n → (Begins m (nearOf m w sets) (drop p w) → BufferRow m list sets w p 1 next-b)
-      → (last : Bool) → (last ≡ true → ⊥) → PlaceLayer m list near last x next-n next-b n b e → PlaceBest m list (nearOf m w sets) (drop p w) n b e
+      → (last : Bool) → (last ≡ true → ⊥) → PositionLayer m list near last x next-n next-b n b e → PositionBest m list (nearOf m w sets) (drop p w) n b e
   unfolding BufferRow
-  place-before p near x next-n next-b n b e lt near-is x-is best-n best-b last not-last layer =
+  position-before p near x next-n next-b n b e lt near-is x-is best-n best-b last not-last layer =
       let tail = tail-drop p lt in
       let one = slice-longer p p (omega arith) lt ∙ ap (λ (v : List ℕ). v ++ (getD w p 0 ∷ [])) (slice-empty p w) ∙ ap (λ (y : ℕ). y ∷ []) (sym x-is) in
       let best-n′ : RowBest m list (nearOf m w sets) (tailOf (drop p w)) [] Normal next-n = rw tail best-n in
@@ -157,9 +157,9 @@ module _ (m : Machine) (list sets w : List ℕ) where
       some : drop p w ≡ [] → ⊥
       some z = let a = length-drop p w in let b = ap length z in omega arith
 
-  pub place-end : (p near : ℕ) (next-n next-b n b e : List ℕ) → p ≡ length w → near ≡ bitAnd (getD sets p 0) (below (m .states)) → (last : Bool) → last ≡ true → PlaceLayer m list near last 0 next-n next-b n b e
-      → PlaceBest m list (nearOf m w sets) (drop p w) n b e
+  pub position-end : (p near : ℕ) (next-n next-b n b e : List ℕ) → p ≡ length w → near ≡ bitAnd (getD sets p 0) (below (m .states)) → (last : Bool) → last ≡ true → PositionLayer m list near last 0 next-n next-b n b e
+      → PositionBest m list (nearOf m w sets) (drop p w) n b e
   unfolding headOf
-  place-end p near next-n next-b n b e at-end near-is last is layer =
+  position-end p near next-n next-b n b e at-end near-is last is layer =
       let z : drop p w ≡ [] = ap (λ (k : ℕ). drop k w) at-end ∙ drop-length w in
       layer .best (nearOf m w sets) (drop p w) (nears p near (omega arith) near-is) (λ t. z, λ t. is) (ap headOf (sym z)) (λ (l : 0 < 0). absurd (omega arith)) (λ y (l : 0 < 0). absurd (omega arith))

@@ -2,12 +2,12 @@ use native.Mathlib.Omega.{arith}
 use Prim.Native.Nat.{_-_, _≤_, _<_}
 use mathlib.Core.Path.{_≡_, refl, _∙_}
 use lib.ListN.{length, length-set}
-use Rattle.targets.specs.Prepared.Laws.{Marked, marked-turn}
+use Rattle.targets.specs.Prepared.Laws.{WantedBefore, marked-turn}
 use Rattle.targets.proofs.letters_of.Statement.{statement}
 use Rattle.targets.proofs.letters_of.Tie as tie
 
 abbrev Inv-loop : tie.InvT-loop
-Inv-loop word wanted₀ i₀ wanted i = (length wanted ≡ 256) × (i ≤ length word) × Marked word wanted i
+Inv-loop word wanted₀ i₀ wanted i = (length wanted ≡ 256) × (i ≤ length word) × WantedBefore word wanted i
 
 abbrev μ-loop : tie.MeasureT-loop
 μ-loop word wanted₀ i₀ wanted i = length word - i

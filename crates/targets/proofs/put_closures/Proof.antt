@@ -22,8 +22,8 @@ loop-holds c = (((c .before) .pre) .0, ((c .before) .pre) .1, closing-start _ _ 
 single-requires : tie.Need-single-requires Inv-loop μ-loop
 single-requires c κs = search needs
 
-close-place-requires : tie.Need-close-place-requires Inv-loop μ-loop
-close-place-requires c κs = closing-good _ _ _ _ (((c .before .before .before) .loop .inv) .0) _ _ (((c .before .before .before) .loop .inv) .2) (((c .before .before .before) .loop .inv) .1)
+close-position-requires : tie.Need-close-position-requires Inv-loop μ-loop
+close-position-requires c κs = closing-good _ _ _ _ (((c .before .before .before) .loop .inv) .0) _ _ (((c .before .before .before) .loop .inv) .2) (((c .before .before .before) .loop .inv) .1)
 
 add-targets : tie.Need-add-targets Inv-loop μ-loop
 add-targets c = omega (arith, ((c .before .before .before) .loop-test .taken), (((c .before .before .before .before) .loop .inv) .0) .few)
@@ -41,7 +41,7 @@ loop-less : tie.Need-loop-less Inv-loop μ-loop
 loop-less c = omega (arith, ((c .before .before .before) .loop-test .taken))
 
 loop-again : tie.Need-loop-again Inv-loop μ-loop
-loop-again c = (((c .before .before .before .before) .loop .inv) .0, ((c .before .before .before .before) .loop .inv) .1, closing-turn _ _ _ _ (((c .before .before .before .before) .loop .inv) .0) _ _ (((c .before .before .before .before) .loop .inv) .2) _ _ (omega (arith, ((c .before .before .before) .loop-test .taken))) (members-is ((c .before .before) .single .ensures)) ((c) .close-place .ensures))
+loop-again c = (((c .before .before .before .before) .loop .inv) .0, ((c .before .before .before .before) .loop .inv) .1, closing-turn _ _ _ _ (((c .before .before .before .before) .loop .inv) .0) _ _ (((c .before .before .before .before) .loop .inv) .2) _ _ (omega (arith, ((c .before .before .before) .loop-test .taken))) (members-is ((c .before .before) .single .ensures)) ((c) .close-position .ensures))
 
 same-length : tie.Need-same-length Inv-loop μ-loop
 same-length c = search needs
@@ -57,7 +57,7 @@ put-closures-spec =
     μ-loop
     loop-holds
     single-requires
-    close-place-requires
+    close-position-requires
     add-targets
     mul-targets
     slice-write-targets

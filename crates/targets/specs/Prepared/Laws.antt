@@ -1,6 +1,6 @@
 -- How a table is prepared.
 --
--- apart                       == sets of different letters or states stand at different places
+-- apart                       == sets of different letters or states stand at different positions
 -- in-room, product-small      == the row of a letter is in the table, and begins at a small number
 -- wanted-zero, wanted-none, wanted-some == the ways through is_wanted
 -- marked-turn                 == the letters of a word, marked one by one
@@ -10,7 +10,7 @@
 -- sources-start, sources-turn == none of the states, and one more
 -- made                        == a table with all transitions and its first set
 -- made-for                    == so it is prepared for a word whose letters are wanted
--- turns-carried, turns-same   == what a state reaches at a place rests on the edges of letter 0 and the sets alone
+-- turns-carried, turns-same   == what a state reaches at a position rests on the edges of letter 0 and the sets alone
 -- closing-start, closing-good, closing-turn, closing-end == the closures of the states, one by one
 -- made-good, made-whole       == a table without closures, and one with them: prepared for every word
 use Prim.Native.Nat.{ℕ, suc, _+_, _*_, _≤_, _<_}
@@ -73,10 +73,10 @@ wanted-some wanted x some = (λ z. inr (omega arith), λ z. refl)
 
 -- The letters of a word
 
-abbrev pub Marked : List ℕ → List ℕ → ℕ → Type 0
-Marked w wanted i = (j : ℕ) → j < i → 0 < getD wanted (getD w j 0) 0
+abbrev pub WantedBefore : List ℕ → List ℕ → ℕ → Type 0
+WantedBefore w wanted i = (j : ℕ) → j < i → 0 < getD wanted (getD w j 0) 0
 
-pub marked-turn : (w wanted : List ℕ) (i : ℕ) → getD w i 0 < length wanted → Marked w wanted i → Marked w (set wanted (getD w i 0) 1) (i + 1)
+pub marked-turn : (w wanted : List ℕ) (i : ℕ) → getD w i 0 < length wanted → WantedBefore w wanted i → WantedBefore w (set wanted (getD w i 0) 1) (i + 1)
 marked-turn w wanted i inside so-far j lt = at (ℕ-discrete j i)
   where
     mark : (x : ℕ) → 0 < getD wanted x 0 → 0 < getD (set wanted (getD w i 0) 1) x 0
@@ -141,7 +141,7 @@ module _ (m : Machine) (list wanted targets : List ℕ) (k : ℕ) (inside : Insi
 
   pub put-some : (b : Bool) (i v r : ℕ) → (b ≡ true) ↔ Wanted wanted (transitionAt list k .letter) → b ≡ true → i ≡ setOf (m .states) (transitionAt list k .letter) (transitionAt list k .from)
       → SetIs r v (λ s. In (getD targets i 0) s ⊎ ((s ≡ transitionAt list k .to) × (s < width))) → Filled m list wanted (set targets i r) (k + 1)
-  put-some b i v r says yes′ place s =
+  put-some b i v r says yes′ position s =
       record {
         room = subst (λ (n : ℕ). setOf (m .states) (m .letters) (m .states) ≤ n) (sym (length-set targets i r)) (f .room);
         none-closed = getD-set-other targets i 1 r 0 (λ (e : 1 ≡ i). omega arith) ∙ f .none-closed;
@@ -157,7 +157,7 @@ module _ (m : Machine) (list wanted targets : List ℕ) (k : ℕ) (inside : Insi
       here x p q le lt e = (λ h. to (s .members q .0 h), λ z. s .members q .1 (back (z .0) (last x p q (z .1))))
         where
           same : (transitionAt list k .letter ≡ x) × (transitionAt list k .from ≡ p)
-          same = apart (m .states) (transitionAt list k .letter) x (transitionAt list k .from) p (inside .from) lt (sym place ∙ e)
+          same = apart (m .states) (transitionAt list k .letter) x (transitionAt list k .from) p (inside .from) lt (sym position ∙ e)
 
           to : In (getD targets i 0) q ⊎ ((q ≡ transitionAt list k .to) × (q < width)) → Wanted wanted x × Listed list (k + 1) p x q
           to (inl h) = let z = f .members x p q le lt .0 (subst (λ (j : ℕ). In (getD targets j 0) q) e h) in (z .0, listed-more (z .1))
@@ -176,7 +176,7 @@ module _ (m : Machine) (list wanted targets : List ℕ) (k : ℕ) (inside : Insi
           back : Listed list k p x q ⊎ ((p ≡ transitionAt list k .from) × (x ≡ transitionAt list k .letter) × (q ≡ transitionAt list k .to)) → Listed list k p x q
           back (inl z) = z
           back (inr z) =
-              let same : j ≡ i = e ∙ (ap (λ (u : ℕ). setOf (m .states) u p) (z .1) ∙ (ap (λ (u : ℕ). setOf (m .states) (transitionAt list k .letter) u) (z .0) ∙ sym place)) in
+              let same : j ≡ i = e ∙ (ap (λ (u : ℕ). setOf (m .states) u p) (z .1) ∙ (ap (λ (u : ℕ). setOf (m .states) (transitionAt list k .letter) u) (z .0) ∙ sym position)) in
               absurd (n same)
 
 pub filled-start : (m : Machine) (list wanted targets : List ℕ) → setOf (m .states) (m .letters) (m .states) ≤ length targets → ((i : ℕ) → getD targets i 0 ≡ 0) → Filled m list wanted targets 0
@@ -249,7 +249,7 @@ made-for m list wanted targets t w letters marked =
 
 -- The closures
 
--- what a state reaches at a place, in a graph that has the edges and the sets of another
+-- what a state reaches at a position, in a graph that has the edges and the sets of another
 module _ (G H : Graph) (edges : (T : Mode) (p q : ℕ) → Edge G T 0 p q → Edge H T 0 p q) (begins : (q : ℕ) → In (G .buffering) q → In (H .buffering) q) (turns : (q : ℕ) → In (G .matching) q → In (H .matching) q) where
   free-carried : (T : Mode) {p q : ℕ} → Free G T p q → Free H T p q
   free-carried T here = here

@@ -1,7 +1,7 @@
 use Rattle.decide.proofs.SquareCases.{last-down}
 use Rattle.basics.specs.Search.Laws.{not-both}
-use Rattle.decide.specs.Squares.{Ends}
-use Rattle.decide.specs.Reach.{Matches}
+use Rattle.decide.specs.Squares.{RepeatEnds}
+use Rattle.decide.specs.Reach.{Square}
 use lib.ListN.{length}
 use Prim.Native.Nat.{ℕ, _<_, _≤_, _-_, _+_, _/_}
 use native.Mathlib.Omega.{arith}
@@ -9,7 +9,7 @@ use Rattle.decide.proofs.squares.last_square.Statement.{statement}
 use Rattle.decide.proofs.squares.last_square.Tie as tie
 
 abbrev Inv-loop : tie.InvT-loop
-Inv-loop word ends₀ i j₀ ends j = (i ≤ j) × (j + (j - i) ≤ length word) × (length word ≤ 255) × Ends word ends (λ d. i + d) × ((k : ℕ) → j < k → k + (k - i) ≤ length word → Matches word i k → ⊥)
+Inv-loop word ends₀ i j₀ ends j = (i ≤ j) × (j + (j - i) ≤ length word) × (length word ≤ 255) × RepeatEnds word ends (λ d. i + d) × ((k : ℕ) → j < k → k + (k - i) ≤ length word → Square word i k → ⊥)
 
 abbrev μ-loop : tie.MeasureT-loop
 μ-loop word ends₀ i j₀ ends j = j - i

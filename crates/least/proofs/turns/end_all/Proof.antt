@@ -4,13 +4,13 @@ use borrow.Author.Needs.{needs}
 use lib.Count.{ones}
 use Rattle.pieces.specs.Blocks.Laws.{cell-inside}
 use Rattle.blocks.specs.Numbers.Laws.{Left, Rest, rest-start, rest-more, lowest-inside, taken}
-use Rattle.least.specs.Falls.{Falls, Ends}
+use Rattle.least.specs.Falls.{Falls, CopyEnds}
 use Rattle.least.specs.Falls.Laws.{ends-start, ends-more, ends-end}
 use Rattle.least.proofs.turns.end_all.Statement.{statement}
 use Rattle.least.proofs.turns.end_all.Tie as tie
 
 abbrev Inv-loop : tie.InvT-loop
-Inv-loop b guess h d₀ hints₀ got top all₀ rest₀ d hints all rest = Rest h rest × Falls (Ends top b guess (Left h rest)) (Ends top b guess (Left h rest)) d₀ got d all
+Inv-loop b guess h d₀ hints₀ got top all₀ rest₀ d hints all rest = Rest h rest × Falls (CopyEnds top b guess (Left h rest)) (CopyEnds top b guess (Left h rest)) d₀ got d all
 
 abbrev μ-loop : tie.MeasureT-loop
 μ-loop b guess h d₀ hints₀ got top all₀ rest₀ d hints all rest = ones rest

@@ -20,23 +20,23 @@ abbrev μ-loop : tie.MeasureT-loop
 loop-holds : tie.Need-loop-holds Inv-loop μ-loop
 loop-holds c = ((c .before) .pre .1 .0 .1, (c .before) .pre .1 .0 .2, (c .before) .pre .1 .0 .0 .size, first-rounds ((c .before) .args .m) ((c .before) .args .list .now) (initial-is ((c .before) .args .m) ((c .before) .args .list .now) _ ((c .before) .pre .0 .2)) ((c .before) .pre .1 .0 .0), limit-none)
 
-settle-requires : tie.Need-settle-requires Inv-loop μ-loop
-settle-requires c κs = (((c .before .before .before) .pre .0 .0, (c .before .before .before) .pre .0 .1), (c .before) .loop .inv .2)
+normal-turn-requires : tie.Need-normal-turn-requires Inv-loop μ-loop
+normal-turn-requires c κs = (((c .before .before .before) .pre .0 .0, (c .before .before .before) .pre .0 .1), (c .before) .loop .inv .2)
 
 intersection-requires : tie.Need-intersection-requires Inv-loop μ-loop
 intersection-requires c κs = search needs
 
 returns : tie.Need-returns Inv-loop μ-loop
-returns c = ((c .before .before .before .before) .loop .inv .0, (c .before .before .before .before) .loop .inv .1, record { size = (c .before .before) .settle .ensures .size ∙ (c .before .before .before .before) .loop .inv .2; top = (c .before .before .before .before) .loop .limit; limit = limit-falls ((c .before .before) .settle .ensures .down) ((c .before .before .before .before) .loop .inv .4); settled = turns-end ((c .before .before .before .before .before .before) .args .m) ((c .before .before .before .before .before .before) .args .list .now) _ ((c .before .before .before .before .before .before) .pre .0 .1) _ _ ((c .before) .intersection .ensures) _ (c .if1 .taken) ((c .before .before) .settle .ensures .rounds _ ((c .before .before .before .before) .loop .inv .4 .small) ((c .before .before .before .before) .loop .inv .3)) })
+returns c = ((c .before .before .before .before) .loop .inv .0, (c .before .before .before .before) .loop .inv .1, record { size = (c .before .before) .normal-turn .ensures .size ∙ (c .before .before .before .before) .loop .inv .2; top = (c .before .before .before .before) .loop .limit; limit = limit-falls ((c .before .before) .normal-turn .ensures .down) ((c .before .before .before .before) .loop .inv .4); settled = turns-end ((c .before .before .before .before .before .before) .args .m) ((c .before .before .before .before .before .before) .args .list .now) _ ((c .before .before .before .before .before .before) .pre .0 .1) _ _ ((c .before) .intersection .ensures) _ (c .if1 .taken) ((c .before .before) .normal-turn .ensures .rounds _ ((c .before .before .before .before) .loop .inv .4 .small) ((c .before .before .before .before) .loop .inv .3)) })
 
 copies-requires : tie.Need-copies-requires Inv-loop μ-loop
-copies-requires c κs = (((c .before .before .before .before .before .before .before .before .before) .pre .0 .0, (c .before .before .before .before .before .before .before .before .before) .pre .0 .1, (c .before .before .before .before .before .before .before .before .before) .pre .0 .3), (((c .before .before .before .before .before) .settle .ensures .size ∙ (c .before .before .before .before .before .before .before) .loop .inv .2, (c .before .before .before .before .before .before .before) .loop .inv .0, (c .before .before .before .before .before .before .before) .loop .inv .1), ((c .before .before .before .before .before .before .before .before .before) .pre .1 .1, turns-buffer ((c .before .before .before .before .before .before .before .before .before) .args .m) ((c .before .before .before .before .before .before .before .before .before) .args .list .now) _ ((c .before .before .before .before .before .before .before .before .before) .pre .0 .1) _ _ ((c .before .before .before .before) .intersection .ensures), (c .before .before .before .before .before .before .before) .loop .inv .4 .small)))
+copies-requires c κs = (((c .before .before .before .before .before .before .before .before .before) .pre .0 .0, (c .before .before .before .before .before .before .before .before .before) .pre .0 .1, (c .before .before .before .before .before .before .before .before .before) .pre .0 .3), (((c .before .before .before .before .before) .normal-turn .ensures .size ∙ (c .before .before .before .before .before .before .before) .loop .inv .2, (c .before .before .before .before .before .before .before) .loop .inv .0, (c .before .before .before .before .before .before .before) .loop .inv .1), ((c .before .before .before .before .before .before .before .before .before) .pre .1 .1, turns-buffer ((c .before .before .before .before .before .before .before .before .before) .args .m) ((c .before .before .before .before .before .before .before .before .before) .args .list .now) _ ((c .before .before .before .before .before .before .before .before .before) .pre .0 .1) _ _ ((c .before .before .before .before) .intersection .ensures), (c .before .before .before .before .before .before .before) .loop .inv .4 .small)))
 
 loop-less : tie.Need-loop-less Inv-loop μ-loop
-loop-less c = turns-less _ _ _ ((c .before .before .before .before .before .before .before .before .before .before) .pre .0 .1) _ _ ((c .before .before .before .before .before) .intersection .ensures) ((c .before .before .before .before) .if1 .left) ((c .before .before .before .before .before .before) .settle .ensures) (c .copies .ensures .2)
+loop-less c = turns-less _ _ _ ((c .before .before .before .before .before .before .before .before .before .before) .pre .0 .1) _ _ ((c .before .before .before .before .before) .intersection .ensures) ((c .before .before .before .before) .if1 .left) ((c .before .before .before .before .before .before) .normal-turn .ensures) (c .copies .ensures .2)
 
 loop-again : tie.Need-loop-again Inv-loop μ-loop
-loop-again c = (c .copies .ensures .0, c .copies .ensures .1, c .copies .ensures .2 .size ∙ ((c .before .before .before .before .before .before) .settle .ensures .size ∙ (c .before .before .before .before .before .before .before .before) .loop .inv .2), c .copies .ensures .2 .rounds _ (turns-part ((c .before .before .before .before .before .before .before .before .before .before) .args .m) ((c .before .before .before .before .before .before .before .before .before .before) .args .list .now) _ ((c .before .before .before .before .before .before .before .before .before .before) .pre .0 .1) _ _ ((c .before .before .before .before .before) .intersection .ensures)) (rounds-under ((c .before .before .before .before .before .before .before .before .before .before) .args .m) ((c .before .before .before .before .before .before .before .before .before .before) .args .list .now) _ _ (c .copies .ensures .2 .no-larger) ((c .before .before .before .before .before .before) .settle .ensures .rounds _ ((c .before .before .before .before .before .before .before .before) .loop .inv .4 .small) ((c .before .before .before .before .before .before .before .before) .loop .inv .3))), c .copies .ensures .2 .keeps (limit-falls ((c .before .before .before .before .before .before) .settle .ensures .down) ((c .before .before .before .before .before .before .before .before) .loop .inv .4)))
+loop-again c = (c .copies .ensures .0, c .copies .ensures .1, c .copies .ensures .2 .size ∙ ((c .before .before .before .before .before .before) .normal-turn .ensures .size ∙ (c .before .before .before .before .before .before .before .before) .loop .inv .2), c .copies .ensures .2 .rounds _ (turns-part ((c .before .before .before .before .before .before .before .before .before .before) .args .m) ((c .before .before .before .before .before .before .before .before .before .before) .args .list .now) _ ((c .before .before .before .before .before .before .before .before .before .before) .pre .0 .1) _ _ ((c .before .before .before .before .before) .intersection .ensures)) (rounds-under ((c .before .before .before .before .before .before .before .before .before .before) .args .m) ((c .before .before .before .before .before .before .before .before .before .before) .args .list .now) _ _ (c .copies .ensures .2 .no-larger) ((c .before .before .before .before .before .before) .normal-turn .ensures .rounds _ ((c .before .before .before .before .before .before .before .before) .loop .inv .4 .small) ((c .before .before .before .before .before .before .before .before) .loop .inv .3))), c .copies .ensures .2 .keeps (limit-falls ((c .before .before .before .before .before .before) .normal-turn .ensures .down) ((c .before .before .before .before .before .before .before .before) .loop .inv .4)))
 
 pub turns-spec : {M : Type 1} → statement M
 turns-spec =
@@ -45,7 +45,7 @@ turns-spec =
     Inv-loop
     μ-loop
     loop-holds
-    settle-requires
+    normal-turn-requires
     intersection-requires
     returns
     copies-requires

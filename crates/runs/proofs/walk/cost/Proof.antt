@@ -10,10 +10,10 @@ enum-told : tie.Need-enum-told
 enum-told c = search needs
 
 mul-number : tie.Need-mul-number
-mul-number c = let P = placed ((c .before .before .before .before .args) .m) (((c .before .before .before .before .args) .word) .now) ((c .before .before .before .before .args) .c) (((c .before .before .before .before .pre)) .1) in omega (arith, P .in-word, ((c .before .before .before .before .pre)) .2 .sized .places, ((c .before .before .before .before .good)))
+mul-number c = let P = placed ((c .before .before .before .before .args) .m) (((c .before .before .before .before .args) .word) .now) ((c .before .before .before .before .args) .c) (((c .before .before .before .before .pre)) .1) in omega (arith, P .in-word, ((c .before .before .before .before .pre)) .2 .sized .positions, ((c .before .before .before .before .good)))
 
 number-requires : tie.Need-number-requires
-number-requires c κs = let P = placed ((c .before .before .before .before .args) .m) (((c .before .before .before .before .args) .word) .now) ((c .before .before .before .before .args) .c) (((c .before .before .before .before .pre)) .1) in (omega (arith, P .in-word, ((c .before .before .before .before .pre)) .2 .sized .places), omega (arith, P .state-below, ((c .before .before .before .before .pre)) .0))
+number-requires c κs = let P = placed ((c .before .before .before .before .args) .m) (((c .before .before .before .before .args) .word) .now) ((c .before .before .before .before .args) .c) (((c .before .before .before .before .pre)) .1) in (omega (arith, P .in-word, ((c .before .before .before .before .pre)) .2 .sized .positions), omega (arith, P .state-below, ((c .before .before .before .before .pre)) .0))
 
 enum-told-2 : tie.Need-enum-told-2
 enum-told-2 c = search needs
@@ -22,19 +22,19 @@ sub-d : tie.Need-sub-d
 sub-d c = let P = placed ((c .before .before .before .before .args) .m) (((c .before .before .before .before .args) .word) .now) ((c .before .before .before .before .args) .c) (((c .before .before .before .before .pre)) .1) in omega (arith, P .forward, P .behind)
 
 mul-number-2 : tie.Need-mul-number-2
-mul-number-2 c = let P = placed ((c .before .before .before .before .before .args) .m) (((c .before .before .before .before .before .args) .word) .now) ((c .before .before .before .before .before .args) .c) (((c .before .before .before .before .before .pre)) .1) in omega (arith, P .in-word, ((c .before .before .before .before .before .pre)) .2 .sized .places, ((c .before .before .before .before .before .good)))
+mul-number-2 c = let P = placed ((c .before .before .before .before .before .args) .m) (((c .before .before .before .before .before .args) .word) .now) ((c .before .before .before .before .before .args) .c) (((c .before .before .before .before .before .pre)) .1) in omega (arith, P .in-word, ((c .before .before .before .before .before .pre)) .2 .sized .positions, ((c .before .before .before .before .before .good)))
 
 add-number : tie.Need-add-number
-add-number c = let P = placed ((c .before .before .before .before .before .args) .m) (((c .before .before .before .before .before .args) .word) .now) ((c .before .before .before .before .before .args) .c) (((c .before .before .before .before .before .pre)) .1) in omega (arith, P .in-word, ((c .before .before .before .before .before .pre)) .2 .sized .places, ((c .before .before .before .before .before .good)))
+add-number c = let P = placed ((c .before .before .before .before .before .args) .m) (((c .before .before .before .before .before .args) .word) .now) ((c .before .before .before .before .before .args) .c) (((c .before .before .before .before .before .pre)) .1) in omega (arith, P .in-word, ((c .before .before .before .before .before .pre)) .2 .sized .positions, ((c .before .before .before .before .before .good)))
 
 number-requires-2 : tie.Need-number-requires-2
-number-requires-2 c κs = let P = placed ((c .before .before .before .before .before .args) .m) (((c .before .before .before .before .before .args) .word) .now) ((c .before .before .before .before .before .args) .c) (((c .before .before .before .before .before .pre)) .1) in (omega (arith, P .in-word, ((c .before .before .before .before .before .pre)) .2 .sized .places), omega (arith, P .state-below, ((c .before .before .before .before .before .pre)) .0))
+number-requires-2 c κs = let P = placed ((c .before .before .before .before .before .args) .m) (((c .before .before .before .before .before .args) .word) .now) ((c .before .before .before .before .before .args) .c) (((c .before .before .before .before .before .pre)) .1) in (omega (arith, P .in-word, ((c .before .before .before .before .before .pre)) .2 .sized .positions), omega (arith, P .state-below, ((c .before .before .before .before .before .pre)) .0))
 
 returns : tie.Need-returns
 returns c = let P = placed ((c .before .before .before .before .before .before .args) .m) (((c .before .before .before .before .before .before .args) .word) .now) ((c .before .before .before .before .before .before .args) .c) (((c .before .before .before .before .before .before .pre)) .1) in best-at _ _ ((c .number2) .ensures) (best-begun _ _ _ _ _ _ _ _ (((c .before .before .before .before .before .before .pre)) .2) P (((c .before .before .enum-told2) .given) .1) ((c .before .if1) .taken))
 
 add-if2 : tie.Need-add-if2
-add-if2 c = let P = placed ((c .before .before .before .before .before .args) .m) (((c .before .before .before .before .before .args) .word) .now) ((c .before .before .before .before .before .args) .c) (((c .before .before .before .before .before .pre)) .1) in omega (arith, P .in-word, P .forward, P .behind, ((c .before .before .before .before .before .pre)) .2 .sized .places, ((c .before .before .before .before .before .good)))
+add-if2 c = let P = placed ((c .before .before .before .before .before .args) .m) (((c .before .before .before .before .before .args) .word) .now) ((c .before .before .before .before .before .args) .c) (((c .before .before .before .before .before .pre)) .1) in omega (arith, P .in-word, P .forward, P .behind, ((c .before .before .before .before .before .pre)) .2 .sized .positions, ((c .before .before .before .before .before .good)))
 
 returns-2 : tie.Need-returns-2
 returns-2 c = let P = placed ((c .before .before .before .before .before .before .args) .m) (((c .before .before .before .before .before .before .args) .word) .now) ((c .before .before .before .before .before .before .args) .c) (((c .before .before .before .before .before .before .pre)) .1) in best-past _ _ _ _ _ _ _ _ (((c .before .before .before .before .before .before .pre)) .2) P (((c .before .before .enum-told2) .given) .1) (((c .before .before .before .before .before .before .pre)) .0) ((c .if2) .taken)

@@ -11,7 +11,7 @@ returns : tie.Need-returns
 returns c = refresh-kept _ _ _ _ _ _ _ _ _ (((c .before .before .before .before .pre)) .1) ((c .if1) .taken)
 
 buffering-rows-requires : tie.Need-buffering-rows-requires
-buffering-rows-requires c κs = (((c .before .before .before .before .before .before .before .pre)) .0, ((c .before .if3) .taken), ((c .before .before .before .before .before .before .before .pre)) .1 .sized .places, ((c .before .before .before .before .before .before .before .pre)) .1 .sized .stored-rows, λ p a b. ((c .before .before .before .before .before .before .before .pre)) .1 .places p b)
+buffering-rows-requires c κs = (((c .before .before .before .before .before .before .before .pre)) .0, ((c .before .if3) .taken), ((c .before .before .before .before .before .before .before .pre)) .1 .sized .positions, ((c .before .before .before .before .before .before .before .pre)) .1 .sized .stored-rows, λ p a b. ((c .before .before .before .before .before .before .before .pre)) .1 .positions p b)
 
 same-length : tie.Need-same-length
 same-length c = ((c .before .buffering-rows) .ensures) .size
@@ -26,22 +26,22 @@ sub-d : tie.Need-sub-d
 sub-d c = omega (arith, ((c .before .before .before .before .before .before .pre)) .1 .placed .0)
 
 add-load : tie.Need-add-load
-add-load c = omega (arith, ((c .before .before .before .before .before .before .pre)) .1 .matching ((c .if4) .taken) .1, ((c .before .before .before .before .before .before .pre)) .1 .sized .places, ((c .before .before .before .before .before .before .good)))
+add-load c = omega (arith, ((c .before .before .before .before .before .before .pre)) .1 .matching ((c .if4) .taken) .1, ((c .before .before .before .before .before .before .pre)) .1 .sized .positions, ((c .before .before .before .before .before .before .good)))
 
 mul-load : tie.Need-mul-load
-mul-load c = omega (arith, ((c .before .before .before .before .before .before .pre)) .1 .matching ((c .if4) .taken) .1, ((c .before .before .before .before .before .before .pre)) .1 .sized .places, ((c .before .before .before .before .before .before .good)))
+mul-load c = omega (arith, ((c .before .before .before .before .before .before .pre)) .1 .matching ((c .if4) .taken) .1, ((c .before .before .before .before .before .before .pre)) .1 .sized .positions, ((c .before .before .before .before .before .before .good)))
 
 add-load-2 : tie.Need-add-load-2
-add-load-2 c = omega (arith, ((c .before .before .before .before .before .before .pre)) .1 .matching ((c .if4) .taken) .1, ((c .before .before .before .before .before .before .pre)) .1 .sized .places, ((c .before .before .before .before .before .before .good)))
+add-load-2 c = omega (arith, ((c .before .before .before .before .before .before .pre)) .1 .matching ((c .if4) .taken) .1, ((c .before .before .before .before .before .before .pre)) .1 .sized .positions, ((c .before .before .before .before .before .before .good)))
 
 load-requires : tie.Need-load-requires
-load-requires c κs = omega (arith, ((c .before .before .before .before .before .before .pre)) .1 .matching ((c .if4) .taken) .1, ((c .before .before .before .before .before .before .pre)) .1 .sized .places)
+load-requires c κs = omega (arith, ((c .before .before .before .before .before .before .pre)) .1 .matching ((c .if4) .taken) .1, ((c .before .before .before .before .before .before .pre)) .1 .sized .positions)
 
 add-emptying-rows : tie.Need-add-emptying-rows
-add-emptying-rows c = omega (arith, ((c .before .before .before .before .before .before .before .pre)) .1 .matching ((c .before .if4) .taken) .1, ((c .before .before .before .before .before .before .before .pre)) .1 .sized .places, ((c .before .before .before .before .before .before .before .good)))
+add-emptying-rows c = omega (arith, ((c .before .before .before .before .before .before .before .pre)) .1 .matching ((c .before .if4) .taken) .1, ((c .before .before .before .before .before .before .before .pre)) .1 .sized .positions, ((c .before .before .before .before .before .before .before .good)))
 
 emptying-rows-requires : tie.Need-emptying-rows-requires
-emptying-rows-requires c κs = (((c .before .before .before .before .before .before .before .before .pre)) .0, omega arith, ((c .before .before .before .before .before .before .before .before .pre)) .1 .matching ((c .before .before .if4) .taken) .1, omega (arith, ((c .before .before .before .before .before .before .before .before .pre)) .1 .matching ((c .before .before .if4) .taken) .1, ((c .before .before .before .before .before .before .before .before .pre)) .1 .sized .emptied-rows, ((c .before .before .before .before .before .before .before .before .pre)) .1 .placed .0, ((c .before .before .before .before .before .before .before .before .pre)) .1 .placed .1), subst (EmptyRow ((c .before .before .before .before .before .before .before .before .args) .m) (((c .before .before .before .before .before .before .before .before .args) .list) .now) (((c .before .before .before .before .before .before .before .before .args) .sets) .now) (((c .before .before .before .before .before .before .before .before .args) .word) .now) (((c .before .before .before .before .before .before .before .before .args) .c) .position + (((c .before .before .before .before .before .before .before .before .args) .c) .end - ((c .before .before .before .before .before .before .before .before .args) .c) .start)) 0) (sym ((c .before .load) .ensures)) (empty-start ((c .before .before .before .before .before .before .before .before .args) .m) (((c .before .before .before .before .before .before .before .before .args) .list) .now) (((c .before .before .before .before .before .before .before .before .args) .sets) .now) (((c .before .before .before .before .before .before .before .before .args) .word) .now) (((c .before .before .before .before .before .before .before .before .args) .t) .now) (((c .before .before .before .before .before .before .before .before .args) .c) .position + (((c .before .before .before .before .before .before .before .before .args) .c) .end - ((c .before .before .before .before .before .before .before .before .args) .c) .start)) (((c .before .before .before .before .before .before .before .before .pre)) .1 .places (((c .before .before .before .before .before .before .before .before .args) .c) .position + (((c .before .before .before .before .before .before .before .before .args) .c) .end - ((c .before .before .before .before .before .before .before .before .args) .c) .start)) (((c .before .before .before .before .before .before .before .before .pre)) .1 .matching ((c .before .before .if4) .taken) .1))))
+emptying-rows-requires c κs = (((c .before .before .before .before .before .before .before .before .pre)) .0, omega arith, ((c .before .before .before .before .before .before .before .before .pre)) .1 .matching ((c .before .before .if4) .taken) .1, omega (arith, ((c .before .before .before .before .before .before .before .before .pre)) .1 .matching ((c .before .before .if4) .taken) .1, ((c .before .before .before .before .before .before .before .before .pre)) .1 .sized .emptied-rows, ((c .before .before .before .before .before .before .before .before .pre)) .1 .placed .0, ((c .before .before .before .before .before .before .before .before .pre)) .1 .placed .1), subst (EmptyRow ((c .before .before .before .before .before .before .before .before .args) .m) (((c .before .before .before .before .before .before .before .before .args) .list) .now) (((c .before .before .before .before .before .before .before .before .args) .sets) .now) (((c .before .before .before .before .before .before .before .before .args) .word) .now) (((c .before .before .before .before .before .before .before .before .args) .c) .position + (((c .before .before .before .before .before .before .before .before .args) .c) .end - ((c .before .before .before .before .before .before .before .before .args) .c) .start)) 0) (sym ((c .before .load) .ensures)) (empty-start ((c .before .before .before .before .before .before .before .before .args) .m) (((c .before .before .before .before .before .before .before .before .args) .list) .now) (((c .before .before .before .before .before .before .before .before .args) .sets) .now) (((c .before .before .before .before .before .before .before .before .args) .word) .now) (((c .before .before .before .before .before .before .before .before .args) .t) .now) (((c .before .before .before .before .before .before .before .before .args) .c) .position + (((c .before .before .before .before .before .before .before .before .args) .c) .end - ((c .before .before .before .before .before .before .before .before .args) .c) .start)) (((c .before .before .before .before .before .before .before .before .pre)) .1 .positions (((c .before .before .before .before .before .before .before .before .args) .c) .position + (((c .before .before .before .before .before .before .before .before .args) .c) .end - ((c .before .before .before .before .before .before .before .before .args) .c) .start)) (((c .before .before .before .before .before .before .before .before .pre)) .1 .matching ((c .before .before .if4) .taken) .1))))
 
 same-length-2 : tie.Need-same-length-2
 same-length-2 c = ((c .before .emptying-rows) .ensures) .size

@@ -3,8 +3,8 @@ use borrow.Author.Needs.{needs}
 use Rattle.runs.proofs.walk.write_medium.Statement.{statement}
 use Rattle.runs.proofs.walk.write_medium.Tie as tie
 
-some-places-requires : tie.Need-some-places-requires
-some-places-requires c κs = search needs
+some-positions-requires : tie.Need-some-positions-requires
+some-positions-requires c κs = search needs
 
 some-ends-requires : tie.Need-some-ends-requires
 some-ends-requires c κs = search needs
@@ -31,7 +31,7 @@ slice-aggregate-write-with-5 : tie.Need-slice-aggregate-write-with-5
 slice-aggregate-write-with-5 c = search needs
 
 write-with-requires : tie.Need-write-with-requires
-write-with-requires c κs = (((c .before .before .before .before .before .before .before .before .before .before .before .before .before .before .pre)) .0, omega (arith, ((c .before .before .before .before .before .before .before .before .before .before .before .before .before .before .pre)) .1), ((c .before .before .before .before .before .before .before .before .before .before .before .before .before .before .pre)) .2, ((c .before .before .before .before .before .before .before .before .before .before .before .before .before .before .pre)) .3, ((c .before .before .before .before .before .before .before .before .before .before .before .before .before .before .pre)) .4, record { places = omega (arith, ((c .before .before .before .before .before .before .before .before .before .before .before .before .before .before .pre)) .1); rows = omega (arith, ((c .before .before .before .before .before .before .before .before .before .before .before .before .before .before .pre)) .1); counts = omega (arith, ((c .before .before .before .before .before .before .before .before .before .before .before .before .before .before .pre)) .1) }, record { places = omega (arith, ((c .before .before .before .before .before .before .before .before .before .before .before .before .before .before .pre)) .1); emptied-rows = omega (arith, ((c .before .before .before .before .before .before .before .before .before .before .before .before .before .before .pre)) .1); stored-rows = omega (arith, ((c .before .before .before .before .before .before .before .before .before .before .before .before .before .before .pre)) .1) }, ((c .before .before .before .before .before .before .before .before .before .before .before .before .before .before .pre)) .5)
+write-with-requires c κs = (((c .before .before .before .before .before .before .before .before .before .before .before .before .before .before .pre)) .0, omega (arith, ((c .before .before .before .before .before .before .before .before .before .before .before .before .before .before .pre)) .1), ((c .before .before .before .before .before .before .before .before .before .before .before .before .before .before .pre)) .2, ((c .before .before .before .before .before .before .before .before .before .before .before .before .before .before .pre)) .3, ((c .before .before .before .before .before .before .before .before .before .before .before .before .before .before .pre)) .4, record { positions = omega (arith, ((c .before .before .before .before .before .before .before .before .before .before .before .before .before .before .pre)) .1); rows = omega (arith, ((c .before .before .before .before .before .before .before .before .before .before .before .before .before .before .pre)) .1); counts = omega (arith, ((c .before .before .before .before .before .before .before .before .before .before .before .before .before .before .pre)) .1) }, record { positions = omega (arith, ((c .before .before .before .before .before .before .before .before .before .before .before .before .before .before .pre)) .1); emptied-rows = omega (arith, ((c .before .before .before .before .before .before .before .before .before .before .before .before .before .before .pre)) .1); stored-rows = omega (arith, ((c .before .before .before .before .before .before .before .before .before .before .before .before .before .before .pre)) .1) }, ((c .before .before .before .before .before .before .before .before .before .before .before .before .before .before .pre)) .5)
 
 same-length : tie.Need-same-length
 same-length c = search needs
@@ -43,7 +43,7 @@ pub write-medium-spec : {M : Type 1} → statement M
 write-medium-spec =
     tie.close
     (tie.spec
-    some-places-requires
+    some-positions-requires
     some-ends-requires
     some-rows-requires
     some-rows-requires-2

@@ -25,7 +25,7 @@ array-read-d : tie.Need-array-read-d
 array-read-d c = let b = begun ((c .before .before .before .before .before .before .before .before .before .before .before .before .before .before .before .before .before .before .args) .m) (((c .before .before .before .before .before .before .before .before .before .before .before .before .before .before .before .before .before .before .args) .list) .now) (((c .before .before .before .before .before .before .before .before .before .before .before .before .before .before .before .before .before .before .args) .sets) .now) (((c .before .before .before .before .before .before .before .before .before .before .before .before .before .before .before .before .before .before .args) .word) .now) _ _ _ _ (((c .before .before .before .before .before .before .before .before .before .before .before .before .before .before .before .before .before .before .pre)) .0) (((c .before .before .before .before .before .before .before .before .before .before .before .before .before .before .before .before .before .before .pre)) .7) (((c .before .before .before .before .before .before .before .before .before .before .before .before .before .before .before .before .before .before .pre)) .1) (((c .before .before .before .before .before .before .before .before .before .before .before .before .before .before .before .before .before .before .pre)) .2) (((c .before .before .before .before .before .before .before .before .before .before .before .before .before .before .before .before .before .before .pre)) .3) (((c .before .before .before .before .before .before .before .before .before .fill) .ensures) 0 (omega arith)) ((c .before .before .load) .ensures) ((c .start) .ensures) in omega (arith, b .below, rules _ _ (((c .before .before .before .before .before .before .before .before .before .before .before .before .before .before .before .before .before .before .pre)) .0) .states-fit)
 
 walk-requires : tie.Need-walk-requires
-walk-requires c κs = let b = begun ((c .before .before .before .before .before .before .before .before .before .before .before .before .before .before .before .before .before .before .before .before .before .before .before .before .args) .m) (((c .before .before .before .before .before .before .before .before .before .before .before .before .before .before .before .before .before .before .before .before .before .before .before .before .args) .list) .now) (((c .before .before .before .before .before .before .before .before .before .before .before .before .before .before .before .before .before .before .before .before .before .before .before .before .args) .sets) .now) (((c .before .before .before .before .before .before .before .before .before .before .before .before .before .before .before .before .before .before .before .before .before .before .before .before .args) .word) .now) _ _ _ _ (((c .before .before .before .before .before .before .before .before .before .before .before .before .before .before .before .before .before .before .before .before .before .before .before .before .pre)) .0) (((c .before .before .before .before .before .before .before .before .before .before .before .before .before .before .before .before .before .before .before .before .before .before .before .before .pre)) .7) (((c .before .before .before .before .before .before .before .before .before .before .before .before .before .before .before .before .before .before .before .before .before .before .before .before .pre)) .1) (((c .before .before .before .before .before .before .before .before .before .before .before .before .before .before .before .before .before .before .before .before .before .before .before .before .pre)) .2) (((c .before .before .before .before .before .before .before .before .before .before .before .before .before .before .before .before .before .before .before .before .before .before .before .before .pre)) .3) (((c .before .before .before .before .before .before .before .before .before .before .before .before .before .before .before .fill) .ensures) 0 (omega arith)) ((c .before .before .before .before .before .before .before .before .load) .ensures) ((c .before .before .before .before .before .before .start) .ensures) in (((c .before .before .before .before .before .before .before .before .before .before .before .before .before .before .before .before .before .before .before .before .before .before .before .before .pre)) .0, b .below, b .is-initial, record { places = omega (arith, ((c .before .before .before .before .before .before .before .before .before .before .before .before .before .before .before .before .before .before .before .before .before .before .before .before .pre)) .6 .places, ((c .before .before .before .before .before .before .before .before .before .before .before .before .before .before .t) .given)); emptied-rows = ((c .before .before .before .before .before .before .before .before .before .before .before .before .before .before .before .before .before .before .before .before .before .before .before .before .pre)) .6 .emptied-rows; stored-rows = ((c .before .before .before .before .before .before .before .before .before .before .before .before .before .before .before .before .before .before .before .before .before .before .before .before .pre)) .6 .stored-rows }, ((c .before .before .before .before .before .before .before .before .before .before .before .before .before .before .before .fill) .ensures), b .best, b .small, b .room, b .fewest, ((c .before .before .before .before .before .before .before .before .before .before .before .before .before .before .before .before .before .before .before .before .before .before .before .before .pre)) .4, ((c .before .before .before .before .before .before .before .before .before .before .index) .ensures))
+walk-requires c κs = let b = begun ((c .before .before .before .before .before .before .before .before .before .before .before .before .before .before .before .before .before .before .before .before .before .before .before .before .args) .m) (((c .before .before .before .before .before .before .before .before .before .before .before .before .before .before .before .before .before .before .before .before .before .before .before .before .args) .list) .now) (((c .before .before .before .before .before .before .before .before .before .before .before .before .before .before .before .before .before .before .before .before .before .before .before .before .args) .sets) .now) (((c .before .before .before .before .before .before .before .before .before .before .before .before .before .before .before .before .before .before .before .before .before .before .before .before .args) .word) .now) _ _ _ _ (((c .before .before .before .before .before .before .before .before .before .before .before .before .before .before .before .before .before .before .before .before .before .before .before .before .pre)) .0) (((c .before .before .before .before .before .before .before .before .before .before .before .before .before .before .before .before .before .before .before .before .before .before .before .before .pre)) .7) (((c .before .before .before .before .before .before .before .before .before .before .before .before .before .before .before .before .before .before .before .before .before .before .before .before .pre)) .1) (((c .before .before .before .before .before .before .before .before .before .before .before .before .before .before .before .before .before .before .before .before .before .before .before .before .pre)) .2) (((c .before .before .before .before .before .before .before .before .before .before .before .before .before .before .before .before .before .before .before .before .before .before .before .before .pre)) .3) (((c .before .before .before .before .before .before .before .before .before .before .before .before .before .before .before .fill) .ensures) 0 (omega arith)) ((c .before .before .before .before .before .before .before .before .load) .ensures) ((c .before .before .before .before .before .before .start) .ensures) in (((c .before .before .before .before .before .before .before .before .before .before .before .before .before .before .before .before .before .before .before .before .before .before .before .before .pre)) .0, b .below, b .is-initial, record { positions = omega (arith, ((c .before .before .before .before .before .before .before .before .before .before .before .before .before .before .before .before .before .before .before .before .before .before .before .before .pre)) .6 .positions, ((c .before .before .before .before .before .before .before .before .before .before .before .before .before .before .t) .given)); emptied-rows = ((c .before .before .before .before .before .before .before .before .before .before .before .before .before .before .before .before .before .before .before .before .before .before .before .before .pre)) .6 .emptied-rows; stored-rows = ((c .before .before .before .before .before .before .before .before .before .before .before .before .before .before .before .before .before .before .before .before .before .before .before .before .pre)) .6 .stored-rows }, ((c .before .before .before .before .before .before .before .before .before .before .before .before .before .before .before .fill) .ensures), b .best, b .small, b .room, b .fewest, ((c .before .before .before .before .before .before .before .before .before .before .before .before .before .before .before .before .before .before .before .before .before .before .before .before .pre)) .4, ((c .before .before .before .before .before .before .before .before .before .before .index) .ensures))
 
 same-length : tie.Need-same-length
 same-length c = search needs

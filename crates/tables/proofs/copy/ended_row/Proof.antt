@@ -19,8 +19,8 @@ cast-k c = omega (arith, ((c .slice-known2) .given) ((c .before .before .before 
 load-requires : tie.Need-load-requires
 load-requires c κs = search needs
 
-wind-requires : tie.Need-wind-requires
-wind-requires c κs = (((c .before .before .before .before .before .before .before .before .before .pre)) .0, ((c .before .before .before .if1) .taken), ((c .before .before .before .before .before .before .before .before .before .pre)) .1, ((c .before .before .before .before .before .before .before .before .before .pre)) .2, subst (EmptyRow ((c .before .before .before .before .before .before .before .before .before .args) .m) (((c .before .before .before .before .before .before .before .before .before .args) .list) .now) (((c .before .before .before .before .before .before .before .before .before .args) .sets) .now) (((c .before .before .before .before .before .before .before .before .before .args) .word) .now) ((c .before .before .before .before .before .before .before .before .before .args) .e) _) (sym ((c .before .load) .ensures)) (((c .before .before .before .before .before .before .before .before .before .pre)) .8 .best (omega (arith, ((c .before .before .before .if1) .taken), ((c .before .before .before .before .before .before .before .before .before .pre)) .1, ((c .before .before .before .before .before .before .before .before .before .pre)) .2, ((c .before .before .before .before .before .before .before .before .before .pre)) .3)) .1))
+extend-requires : tie.Need-extend-requires
+extend-requires c κs = (((c .before .before .before .before .before .before .before .before .before .pre)) .0, ((c .before .before .before .if1) .taken), ((c .before .before .before .before .before .before .before .before .before .pre)) .1, ((c .before .before .before .before .before .before .before .before .before .pre)) .2, subst (EmptyRow ((c .before .before .before .before .before .before .before .before .before .args) .m) (((c .before .before .before .before .before .before .before .before .before .args) .list) .now) (((c .before .before .before .before .before .before .before .before .before .args) .sets) .now) (((c .before .before .before .before .before .before .before .before .before .args) .word) .now) ((c .before .before .before .before .before .before .before .before .before .args) .e) _) (sym ((c .before .load) .ensures)) (((c .before .before .before .before .before .before .before .before .before .pre)) .8 .best (omega (arith, ((c .before .before .before .if1) .taken), ((c .before .before .before .before .before .before .before .before .before .pre)) .1, ((c .before .before .before .before .before .before .before .before .before .pre)) .2, ((c .before .before .before .before .before .before .before .before .before .pre)) .3)) .1))
 
 keep-requires : tie.Need-keep-requires
 keep-requires c κs = search needs
@@ -32,7 +32,7 @@ same-length-2 : tie.Need-same-length-2
 same-length-2 c = search needs
 
 returns : tie.Need-returns
-returns c = ((c .before .before .before .keep) .ensures) _ _ _ _ _ (((c .before .before .before .before .before .before .before .before .before .before .before .before .before .before .before .before .before .pre)) .1) ((c .before .before .before .before .before .before .before .wind) .ensures)
+returns c = ((c .before .before .before .keep) .ensures) _ _ _ _ _ (((c .before .before .before .before .before .before .before .before .before .before .before .before .before .before .before .before .before .pre)) .1) ((c .before .before .before .before .before .before .before .extend) .ensures)
 
 add-if3 : tie.Need-add-if3
 add-if3 c = search needs
@@ -52,8 +52,8 @@ add-load c = search needs
 load-requires-2 : tie.Need-load-requires-2
 load-requires-2 c κs = search needs
 
-wind-requires-2 : tie.Need-wind-requires-2
-wind-requires-2 c κs = (((c .before .before .before .before .before .before .before .before .before .pre)) .0, omega arith, ((c .before .before .before .before .before .before .before .before .before .pre)) .1, ((c .before .before .before .before .before .before .before .before .before .pre)) .2, subst (EmptyRow ((c .before .before .before .before .before .before .before .before .before .args) .m) (((c .before .before .before .before .before .before .before .before .before .args) .list) .now) (((c .before .before .before .before .before .before .before .before .before .args) .sets) .now) (((c .before .before .before .before .before .before .before .before .before .args) .word) .now) ((c .before .before .before .before .before .before .before .before .before .args) .e) 0) (sym ((c .before .load2) .ensures)) (empty-start ((c .before .before .before .before .before .before .before .before .before .args) .m) (((c .before .before .before .before .before .before .before .before .before .args) .list) .now) (((c .before .before .before .before .before .before .before .before .before .args) .sets) .now) (((c .before .before .before .before .before .before .before .before .before .args) .word) .now) (((c .before .before .before .before .before .before .before .before .before .args) .t) .now) ((c .before .before .before .before .before .before .before .before .before .args) .e) (((c .before .before .before .before .before .before .before .before .before .pre)) .5)))
+extend-requires-2 : tie.Need-extend-requires-2
+extend-requires-2 c κs = (((c .before .before .before .before .before .before .before .before .before .pre)) .0, omega arith, ((c .before .before .before .before .before .before .before .before .before .pre)) .1, ((c .before .before .before .before .before .before .before .before .before .pre)) .2, subst (EmptyRow ((c .before .before .before .before .before .before .before .before .before .args) .m) (((c .before .before .before .before .before .before .before .before .before .args) .list) .now) (((c .before .before .before .before .before .before .before .before .before .args) .sets) .now) (((c .before .before .before .before .before .before .before .before .before .args) .word) .now) ((c .before .before .before .before .before .before .before .before .before .args) .e) 0) (sym ((c .before .load2) .ensures)) (empty-start ((c .before .before .before .before .before .before .before .before .before .args) .m) (((c .before .before .before .before .before .before .before .before .before .args) .list) .now) (((c .before .before .before .before .before .before .before .before .before .args) .sets) .now) (((c .before .before .before .before .before .before .before .before .before .args) .word) .now) (((c .before .before .before .before .before .before .before .before .before .args) .t) .now) ((c .before .before .before .before .before .before .before .before .before .args) .e) (((c .before .before .before .before .before .before .before .before .before .pre)) .5)))
 
 keep-requires-2 : tie.Need-keep-requires-2
 keep-requires-2 c κs = search needs
@@ -65,7 +65,7 @@ same-length-4 : tie.Need-same-length-4
 same-length-4 c = search needs
 
 returns-3 : tie.Need-returns-3
-returns-3 c = ((c .before .before .before .keep2) .ensures) _ _ _ _ _ (((c .before .before .before .before .before .before .before .before .before .before .before .before .before .before .before .before .before .pre)) .1) ((c .before .before .before .before .before .before .before .wind2) .ensures)
+returns-3 c = ((c .before .before .before .keep2) .ensures) _ _ _ _ _ (((c .before .before .before .before .before .before .before .before .before .before .before .before .before .before .before .before .before .pre)) .1) ((c .before .before .before .before .before .before .before .extend2) .ensures)
 
 pub ended-row-spec : {M : Type 1} → statement M
 ended-row-spec =
@@ -75,7 +75,7 @@ ended-row-spec =
     slice-read-k
     cast-k
     load-requires
-    wind-requires
+    extend-requires
     keep-requires
     same-length
     same-length-2
@@ -86,7 +86,7 @@ ended-row-spec =
     mul-load
     add-load
     load-requires-2
-    wind-requires-2
+    extend-requires-2
     keep-requires-2
     same-length-3
     same-length-4

@@ -1,4 +1,4 @@
-use Rattle.tables.proofs.CopyCases.{change-dead, change-wound, change-blank}
+use Rattle.tables.proofs.CopyCases.{change-dead, change-extended, change-blank}
 use Rattle.tables.specs.Tables.Laws.{empty-start}
 use Rattle.tables.specs.Tables.{EmptyRow}
 use Rattle.fsbm.specs.Rules.{rules}
@@ -34,17 +34,17 @@ add-load c = search needs
 load-requires : tie.Need-load-requires
 load-requires c κs = search needs
 
-wind-requires : tie.Need-wind-requires
-wind-requires c κs = (((c .before .before .before .before .before .before .before .pre)) .0, omega arith, omega arith, ((c .before .before .before .before .before .before .before .pre)) .1, subst (EmptyRow ((c .before .before .before .before .before .before .before .args) .m) (((c .before .before .before .before .before .before .before .args) .list) .now) (((c .before .before .before .before .before .before .before .args) .sets) .now) (((c .before .before .before .before .before .before .before .args) .word) .now) (((c .before .before .before .before .before .before .before .args) .i) + ((c .before .before .before .before .before .before .before .args) .d) + ((c .before .before .before .before .before .before .before .args) .d)) 0) (sym ((c .before .load) .ensures)) (empty-start ((c .before .before .before .before .before .before .before .args) .m) (((c .before .before .before .before .before .before .before .args) .list) .now) (((c .before .before .before .before .before .before .before .args) .sets) .now) (((c .before .before .before .before .before .before .before .args) .word) .now) (((c .before .before .before .before .before .before .before .args) .t) .now) (((c .before .before .before .before .before .before .before .args) .i) + ((c .before .before .before .before .before .before .before .args) .d) + ((c .before .before .before .before .before .before .before .args) .d)) (((c .before .before .before .before .before .before .before .pre)) .3)))
+extend-requires : tie.Need-extend-requires
+extend-requires c κs = (((c .before .before .before .before .before .before .before .pre)) .0, omega arith, omega arith, ((c .before .before .before .before .before .before .before .pre)) .1, subst (EmptyRow ((c .before .before .before .before .before .before .before .args) .m) (((c .before .before .before .before .before .before .before .args) .list) .now) (((c .before .before .before .before .before .before .before .args) .sets) .now) (((c .before .before .before .before .before .before .before .args) .word) .now) (((c .before .before .before .before .before .before .before .args) .i) + ((c .before .before .before .before .before .before .before .args) .d) + ((c .before .before .before .before .before .before .before .args) .d)) 0) (sym ((c .before .load) .ensures)) (empty-start ((c .before .before .before .before .before .before .before .args) .m) (((c .before .before .before .before .before .before .before .args) .list) .now) (((c .before .before .before .before .before .before .before .args) .sets) .now) (((c .before .before .before .before .before .before .before .args) .word) .now) (((c .before .before .before .before .before .before .before .args) .t) .now) (((c .before .before .before .before .before .before .before .args) .i) + ((c .before .before .before .before .before .before .before .args) .d) + ((c .before .before .before .before .before .before .before .args) .d)) (((c .before .before .before .before .before .before .before .pre)) .3)))
 
 returns-2 : tie.Need-returns-2
-returns-2 c = change-wound _ _ _ _ _ _ (((c .before .before .before .before .before .before .before .before .before .pre)) .1) (((c .before .before .before .before .before .halves-match) .ensures) .equal (not-false _ ((c .before .before .before .before .if1) .left))) _ _ ((c .before .wind) .ensures) ((c .if2) .taken) _ refl refl
+returns-2 c = change-extended _ _ _ _ _ _ (((c .before .before .before .before .before .before .before .before .before .pre)) .1) (((c .before .before .before .before .before .halves-match) .ensures) .equal (not-false _ ((c .before .before .before .before .if1) .left))) _ _ ((c .before .extend) .ensures) ((c .if2) .taken) _ refl refl
 
 dead-requires-2 : tie.Need-dead-requires-2
 dead-requires-2 c κs = search needs
 
 returns-3 : tie.Need-returns-3
-returns-3 c = change-blank _ _ _ _ _ _ (((c .before .before .before .before .before .before .before .before .before .before .pre)) .1) (((c .before .before .before .before .before .before .halves-match) .ensures) .equal (not-false _ ((c .before .before .before .before .before .if1) .left))) _ _ ((c .before .before .wind) .ensures) ((c .before .if2) .left) _ (((c .dead2) .ensures) .0)
+returns-3 c = change-blank _ _ _ _ _ _ (((c .before .before .before .before .before .before .before .before .before .before .pre)) .1) (((c .before .before .before .before .before .before .halves-match) .ensures) .equal (not-false _ ((c .before .before .before .before .before .if1) .left))) _ _ ((c .before .before .extend) .ensures) ((c .before .if2) .left) _ (((c .dead2) .ensures) .0)
 
 pub fresh-change-spec : {M : Type 1} → statement M
 fresh-change-spec =
@@ -58,7 +58,7 @@ fresh-change-spec =
     mul-load
     add-load
     load-requires
-    wind-requires
+    extend-requires
     returns-2
     dead-requires-2
     returns-3)

@@ -18,14 +18,14 @@ abbrev μ-loop : tie.MeasureT-loop
 dead-requires : tie.Need-dead-requires Inv-loop μ-loop
 dead-requires c κs = search needs
 
-sub-skip-idle : tie.Need-sub-skip-idle Inv-loop μ-loop
-sub-skip-idle c = omega (arith, ((c .before .before .before .before .before .pre)) .1)
+sub-skip-fruitless : tie.Need-sub-skip-fruitless Inv-loop μ-loop
+sub-skip-fruitless c = omega (arith, ((c .before .before .before .before .before .pre)) .1)
 
-skip-idle-requires : tie.Need-skip-idle-requires Inv-loop μ-loop
-skip-idle-requires c κs = (omega (arith, ((c .before .before .before .before .before .before .pre)) .2), omega (arith, ((c .before .before .before .before .before .before .pre)) .1, ((c .before .before .before .before .before .before .pre)) .6 .counts))
+skip-fruitless-requires : tie.Need-skip-fruitless-requires Inv-loop μ-loop
+skip-fruitless-requires c κs = (omega (arith, ((c .before .before .before .before .before .before .pre)) .2), omega (arith, ((c .before .before .before .before .before .before .pre)) .1, ((c .before .before .before .before .before .before .pre)) .6 .counts))
 
 loop-holds : tie.Need-loop-holds Inv-loop μ-loop
-loop-holds c = (storing-skip _ _ _ _ (rules _ _ (((c .before .before .before .before .before .before .before .pre)) .0 .given .good)) _ _ _ _ _ _ (((c .before .before .dead) .ensures) .1) (storing-start _ _ _ _ (rules _ _ (((c .before .before .before .before .before .before .before .pre)) .0 .given .good)) _ (((c .before .before .before .before .before .before .before .pre)) .1) _ refl _ (((c .before .before .dead) .ensures) .0) _ _ (((c .before .before .before .before .before .before .before .pre)) .6)) (((c .skip-idle) .ensures) _ (omega (arith, ((c .before .before .before .before .before .before .before .pre)) .1)) (((c .before .before .before .before .before .before .before .pre)) .5)), refl, refl)
+loop-holds c = (storing-skip _ _ _ _ (rules _ _ (((c .before .before .before .before .before .before .before .pre)) .0 .given .good)) _ _ _ _ _ _ (((c .before .before .dead) .ensures) .1) (storing-start _ _ _ _ (rules _ _ (((c .before .before .before .before .before .before .before .pre)) .0 .given .good)) _ (((c .before .before .before .before .before .before .before .pre)) .1) _ refl _ (((c .before .before .dead) .ensures) .0) _ _ (((c .before .before .before .before .before .before .before .pre)) .6)) (((c .skip-fruitless) .ensures) _ (omega (arith, ((c .before .before .before .before .before .before .before .pre)) .1)) (((c .before .before .before .before .before .before .before .pre)) .5)), refl, refl)
 
 add-x : tie.Need-add-x Inv-loop μ-loop
 add-x c = omega (arith, ((c .before .loop) .inv) .0 .inside, ((c .before .before .before .before .before .before .before .before .before .pre)) .2)
@@ -48,14 +48,14 @@ stored-row-requires c κs = ((c .before .before .before .before .before .before 
 sub-d : tie.Need-sub-d Inv-loop μ-loop
 sub-d c = omega (arith, ((c .before .before .before .before .before .before .before .before .before .before .before .before .before .before .loop-test) .taken))
 
-skip-idle-requires-2 : tie.Need-skip-idle-requires-2 Inv-loop μ-loop
-skip-idle-requires-2 c κs = (omega (arith, ((c .before .before .before .before .before .before .before .before .before .before .before .before .before .before .before .before .before .loop) .inv) .0 .inside, ((c .before .before .before .before .before .before .before .before .before .before .before .before .before .before .before .before .before .before .before .before .before .before .before .before .before .pre)) .2), omega (arith, ((c .before .before .before .before .before .before .before .before .before .before .before .before .before .before .before .before .before .loop) .inv) .0 .inside, ((c .before .before .before .before .before .before .before .before .before .before .before .before .change-row) .ensures) .ending .counts))
+skip-fruitless-requires-2 : tie.Need-skip-fruitless-requires-2 Inv-loop μ-loop
+skip-fruitless-requires-2 c κs = (omega (arith, ((c .before .before .before .before .before .before .before .before .before .before .before .before .before .before .before .before .before .loop) .inv) .0 .inside, ((c .before .before .before .before .before .before .before .before .before .before .before .before .before .before .before .before .before .before .before .before .before .before .before .before .before .pre)) .2), omega (arith, ((c .before .before .before .before .before .before .before .before .before .before .before .before .before .before .before .before .before .loop) .inv) .0 .inside, ((c .before .before .before .before .before .before .before .before .before .before .before .before .change-row) .ensures) .ending .counts))
 
 loop-less : tie.Need-loop-less Inv-loop μ-loop
-loop-less c = omega (arith, ((c .before .before .before .before .before .before .before .before .before .before .before .before .before .before .before .before .before .loop-test) .taken), ((c .skip-idle2) .ensures) _ (omega (arith, ((c .before .before .before .before .before .before .before .before .before .before .before .before .before .before .before .before .before .before .loop) .inv) .0 .inside)) (((c .before .before .before .before .before .before .before .before .before .before .before .before .before .before .before .before .before .before .before .before .before .before .before .before .before .before .pre)) .5) .within)
+loop-less c = omega (arith, ((c .before .before .before .before .before .before .before .before .before .before .before .before .before .before .before .before .before .loop-test) .taken), ((c .skip-fruitless2) .ensures) _ (omega (arith, ((c .before .before .before .before .before .before .before .before .before .before .before .before .before .before .before .before .before .before .loop) .inv) .0 .inside)) (((c .before .before .before .before .before .before .before .before .before .before .before .before .before .before .before .before .before .before .before .before .before .before .before .before .before .before .pre)) .5) .within)
 
 loop-again : tie.Need-loop-again Inv-loop μ-loop
-loop-again c = (storing-skip _ _ _ _ (rules _ _ (((c .before .before .before .before .before .before .before .before .before .before .before .before .before .before .before .before .before .before .before .before .before .before .before .before .before .before .pre)) .0 .given .good)) _ _ _ _ _ _ (not-true _ ((c .before .before .if1) .taken)) (storing-next _ _ _ _ (rules _ _ (((c .before .before .before .before .before .before .before .before .before .before .before .before .before .before .before .before .before .before .before .before .before .before .before .before .before .before .pre)) .0 .given .good)) _ _ _ _ _ _ _ _ _ _ ((c .before .before .before .before .before .before .before .before .before .before .before .before .before .before .before .before .before .loop-test) .taken) refl (((c .before .before .before .before .before .before .before .before .before .before .before .before .before .before .before .before .before .before .loop) .inv) .0) ((c .before .before .before .before .before .before .before .before .before .before .before .before .before .change-row) .ensures) ((c .before .before .before .stored-row) .ensures)) (((c .skip-idle2) .ensures) _ (omega (arith, ((c .before .before .before .before .before .before .before .before .before .before .before .before .before .before .before .before .before .before .loop) .inv) .0 .inside)) (((c .before .before .before .before .before .before .before .before .before .before .before .before .before .before .before .before .before .before .before .before .before .before .before .before .before .before .pre)) .5)), ((c .before .before .before .before .before .before .before .before .before .before .before .before .ends) .given) ∙ ((c .before .before .before .before .before .before .before .before .before .before .before .before .before .before .before .before .before .before .loop) .inv) .1, ((c .before .before .before .before .before .before .before .before .before .before .before .left) .given) ∙ ((c .before .before .before .before .before .before .before .before .before .before .before .before .before .before .before .before .before .before .loop) .inv) .2)
+loop-again c = (storing-skip _ _ _ _ (rules _ _ (((c .before .before .before .before .before .before .before .before .before .before .before .before .before .before .before .before .before .before .before .before .before .before .before .before .before .before .pre)) .0 .given .good)) _ _ _ _ _ _ (not-true _ ((c .before .before .if1) .taken)) (storing-next _ _ _ _ (rules _ _ (((c .before .before .before .before .before .before .before .before .before .before .before .before .before .before .before .before .before .before .before .before .before .before .before .before .before .before .pre)) .0 .given .good)) _ _ _ _ _ _ _ _ _ _ ((c .before .before .before .before .before .before .before .before .before .before .before .before .before .before .before .before .before .loop-test) .taken) refl (((c .before .before .before .before .before .before .before .before .before .before .before .before .before .before .before .before .before .before .loop) .inv) .0) ((c .before .before .before .before .before .before .before .before .before .before .before .before .before .change-row) .ensures) ((c .before .before .before .stored-row) .ensures)) (((c .skip-fruitless2) .ensures) _ (omega (arith, ((c .before .before .before .before .before .before .before .before .before .before .before .before .before .before .before .before .before .before .loop) .inv) .0 .inside)) (((c .before .before .before .before .before .before .before .before .before .before .before .before .before .before .before .before .before .before .before .before .before .before .before .before .before .before .pre)) .5)), ((c .before .before .before .before .before .before .before .before .before .before .before .before .ends) .given) ∙ ((c .before .before .before .before .before .before .before .before .before .before .before .before .before .before .before .before .before .before .loop) .inv) .1, ((c .before .before .before .before .before .before .before .before .before .before .before .left) .given) ∙ ((c .before .before .before .before .before .before .before .before .before .before .before .before .before .before .before .before .before .before .loop) .inv) .2)
 
 loop-less-2 : tie.Need-loop-less-2 Inv-loop μ-loop
 loop-less-2 c = omega (arith, ((c .before .before .before .before .before .before .before .before .before .before .before .before .before .before .before .loop-test) .taken))
@@ -79,8 +79,8 @@ storing-row-spec =
     Inv-loop
     μ-loop
     dead-requires
-    sub-skip-idle
-    skip-idle-requires
+    sub-skip-fruitless
+    skip-fruitless-requires
     loop-holds
     add-x
     shared-slice-read-x
@@ -89,7 +89,7 @@ storing-row-spec =
     blank-requires
     stored-row-requires
     sub-d
-    skip-idle-requires-2
+    skip-fruitless-requires-2
     loop-less
     loop-again
     loop-less-2

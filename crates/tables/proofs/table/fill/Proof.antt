@@ -23,14 +23,14 @@ loop-holds c = (((c .before .before .before .before .fill-end) .ensures) _ (shar
 sub-p : tie.Need-sub-p Inv-loop μ-loop
 sub-p c = omega (arith, ((c .loop-test) .taken))
 
-fill-place-requires : tie.Need-fill-place-requires Inv-loop μ-loop
-fill-place-requires c κs = (((c .before .before .before .before .before .before .before .before .before .before .before .before .before .before .before .before .before .before .pre)) .0, omega (arith, ((c .before .before .before .before .loop-test) .taken), ((c .before .before .before .before .before .loop) .inv) .1), ((c .before .before .before .before .before .before .before .before .before .before .before .before .before .before .before .before .before .before .pre)) .1, filling-before _ _ _ _ _ _ _ _ _ ((c .before .before .before .before .loop-test) .taken) (((c .before .before .before .before .before .loop) .inv) .0))
+fill-position-requires : tie.Need-fill-position-requires Inv-loop μ-loop
+fill-position-requires c κs = (((c .before .before .before .before .before .before .before .before .before .before .before .before .before .before .before .before .before .before .pre)) .0, omega (arith, ((c .before .before .before .before .loop-test) .taken), ((c .before .before .before .before .before .loop) .inv) .1), ((c .before .before .before .before .before .before .before .before .before .before .before .before .before .before .before .before .before .before .pre)) .1, filling-before _ _ _ _ _ _ _ _ _ ((c .before .before .before .before .loop-test) .taken) (((c .before .before .before .before .before .loop) .inv) .0))
 
 loop-less : tie.Need-loop-less Inv-loop μ-loop
 loop-less c = omega (arith, ((c .before .before .before .before .before .before .before .before .before .loop-test) .taken))
 
 loop-again : tie.Need-loop-again Inv-loop μ-loop
-loop-again c = (((c .before .before .before .before .fill-place) .ensures), omega (arith, ((c .before .before .before .before .before .before .before .before .before .before .loop) .inv) .1), ((c .before .before .before .t2) .given) ∙ ((c .before .before .before .before .before .before .before .before .before .before .loop) .inv) .2, ((c .before .before .ends2) .given) ∙ ((c .before .before .before .before .before .before .before .before .before .before .loop) .inv) .3, ((c .before .left2) .given) ∙ ((c .before .before .before .before .before .before .before .before .before .before .loop) .inv) .4)
+loop-again c = (((c .before .before .before .before .fill-position) .ensures), omega (arith, ((c .before .before .before .before .before .before .before .before .before .before .loop) .inv) .1), ((c .before .before .before .t2) .given) ∙ ((c .before .before .before .before .before .before .before .before .before .before .loop) .inv) .2, ((c .before .before .ends2) .given) ∙ ((c .before .before .before .before .before .before .before .before .before .before .loop) .inv) .3, ((c .before .left2) .given) ∙ ((c .before .before .before .before .before .before .before .before .before .before .loop) .inv) .4)
 
 same-length : tie.Need-same-length Inv-loop μ-loop
 same-length c = ((c .before .loop) .inv) .2 ∙ ((c .before .before .before .before .before .t) .given)
@@ -53,7 +53,7 @@ fill-spec =
     fill-end-requires
     loop-holds
     sub-p
-    fill-place-requires
+    fill-position-requires
     loop-less
     loop-again
     same-length

@@ -1,0 +1,14 @@
+use Rattle.decide.proofs.StageCases.{stage-start}
+use native.Mathlib.Omega.{arith}
+use borrow.Author.Needs.{needs}
+use Rattle.decide.proofs.positions.start_at.Statement.{statement}
+use Rattle.decide.proofs.positions.start_at.Tie as tie
+
+array-write-sets : tie.Need-array-write-sets
+array-write-sets c = search needs
+
+returns : tie.Need-returns
+returns c = λ G w. stage-start G w _ (omega arith)
+
+pub start-at-spec : {M : Type 1} → statement M
+start-at-spec = tie.close (tie.spec array-write-sets returns)
