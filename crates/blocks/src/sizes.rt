@@ -1,13 +1,15 @@
-// The sizes of the search, which are those of the machine that is searched, and its numbers.
+// The sizes of the search, which are those of the machine that is searched, and its weights.
 
-// The most states, and pairs of states.
+// The most states.
 pub const MOST_STATES: usize = 64;
 
+// The most pairs of states.
 pub const MOST_PAIRS: usize = 4096;
 
-// One more than the most pairs of a state and a letter, letter 0 among them, and the most letters with letter 0.
+// One more than the most pairs of a state and a letter, letter 0 among them.
 pub const MOST_KEYS: usize = 16065;
 
+// The most letters, letter 0 among them.
 pub const MOST_READERS: usize = 251;
 
 // A weight of this size and above says that nothing leads there.

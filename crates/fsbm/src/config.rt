@@ -16,11 +16,13 @@ use crate::machine;
 use crate::machine::Machine;
 use crate::machine::Transition;
 
-// The entries that change the mode: begin storing, begin matching, back to normal.
+// The entry that begins storing.
 pub const BEGIN_BUFFERING: u16 = 65533;
 
+// The entry that begins matching.
 pub const BEGIN_EMPTYING: u16 = 65534;
 
+// The entry that goes back to normal mode.
 pub const BACK_TO_NORMAL: u16 = 65535;
 
 // The mode of a run: normal; buffering, which stores what it reads (document 01: storing); emptying, which matches what was

@@ -17,9 +17,10 @@ ghost use Rattle.product.specs.Letters.{HasKey, MayPair, KeySet, Starts,
 ghost use Rattle.product.specs.Order.{letterKey};
 use fsbm::machine;
 
-// The keys of a state and a letter, 256 for each state, and the sets of 64 keys that hold them.
+// The keys of a state and a letter, 256 for each state.
 pub const KEYS: usize = 16384;
 
+// The sets of 64 keys that hold them.
 pub const KEY_SETS: usize = 256;
 
 // The key of transition k: its from-state and letter as one number.

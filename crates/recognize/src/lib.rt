@@ -19,9 +19,10 @@ use images::Kinds;
 use runs::walk;
 use targets::MOST_SETS;
 
-// The sets of a small and of a medium table: what is cleared for a word goes by the smallest of the sizes that is enough.
+// The sets of a small table: what is cleared for a word goes by the smallest size that is enough.
 const SMALL: usize = 160;
 
+// The sets of a medium table.
 const MEDIUM: usize = 2048;
 
 // The answer of recognize: turned down, no, or yes with the number of entries of the run.

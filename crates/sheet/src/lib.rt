@@ -7,9 +7,11 @@ pub mod faults;
 pub mod read;
 pub mod write;
 
-// The bytes of line one, of a state's line and of a transition's line.
+// The bytes of line one.
 pub const HEADER_LENGTH: usize = 16;
 
+// The bytes of a state's line.
 pub const STATE_LENGTH: usize = 11;
 
+// The bytes of a transition's line.
 pub const TRANSITION_LENGTH: usize = 16;

@@ -6,9 +6,10 @@ ghost use Rattle.shortest.specs.Into.{Into};
 use fsbm::machine;
 use fsbm::machine::Machine;
 
-// A link for each state and for each transition of the largest machine, and what stands where there is none.
+// A link for each state and for each transition of the largest machine.
 pub const LINKS: usize = 4064;
 
+// What stands where there is no link.
 const NO_LINK: u16 = 65535;
 
 // The first 64 links are the first transition into each state, the others for each transition the next one into the same state. What
