@@ -16,7 +16,7 @@ use native.Mathlib.Omega.{arith}
 use native.Mathlib.Decide.{ℕ-discrete, decLt}
 use lib.ListN.{length, getD, set, length-set, replicate}
 use Rattle.stateset.specs.Set.{In}
-use Rattle.basics.specs.Lists.{zeros-at}
+use Rattle.basics.specs.Lists.Laws.{zeros-at}
 use Rattle.images.specs.Graph.{Members}
 use Rattle.decide.specs.Reach.{Square}
 use Rattle.decide.specs.Squares.{Repeats, RunEnd, RepeatEnds, RepeatEndsAt, Keeps, Ended, Squared, Turning}

@@ -18,7 +18,7 @@ use lib.Bits.{bitAnd}
 use Rattle.stateset.specs.Set.{width, In}
 use Rattle.stateset.specs.Set.Laws.{in-and}
 use Rattle.fsbm.specs.declared.config.Mode.the-variants.{Normal, Buffering, Emptying}
-use Rattle.basics.specs.Lists.{zeros-at}
+use Rattle.basics.specs.Lists.Laws.{zeros-at}
 use Rattle.images.specs.Graph.{Members, Fitting, From, Star, here, more, Graph, Edge, Turn}
 use Rattle.decide.specs.Reach.{Walk, still, Square, Reach, begins, passes, moves, copies, CopyTo, Copied, ReadTo, Passed, Stage}
 use Rattle.images.proofs.SetCases.{none-in, row-cases}

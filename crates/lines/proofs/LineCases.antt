@@ -22,7 +22,8 @@ use borrow.Author.Tests.{le-leb, lt-leb, leb-true, eq-eqb, ne-eqb}
 use Rattle.basics.specs.Search.{allBelow}
 use Rattle.basics.specs.Search.Laws.{allBelow-true, allBelow-false, and-true, and-both-true, true-or-false}
 use Rattle.basics.specs.Search.Loops.{pass, stop, first, second}
-use Rattle.basics.specs.Lists.{put, put-put}
+use Rattle.basics.specs.Lists.{put}
+use Rattle.basics.specs.Lists.Laws.{put-put}
 use Rattle.columns.specs.Column.{noNumber, columnOf}
 use Rattle.columns.specs.Column.Laws.{column-length}
 use Rattle.fsbm.specs.Answers.{goodLetter}

@@ -19,7 +19,8 @@ use lib.ListN.{length, take}
 use lib.Seq.{take-at}
 use lib.Dec.{leb, eqb}
 use borrow.Author.Tests.{eqb-true, eq-eqb, ne-eqb}
-use Rattle.basics.specs.Lists.{put, put-zero, put-length}
+use Rattle.basics.specs.Lists.{put}
+use Rattle.basics.specs.Lists.Laws.{put-zero, put-length}
 use Rattle.fsbm.specs.Machine.{wellFormed}
 use Rattle.fsbm.specs.declared.machine.Machine.{Machine}
 use Rattle.sheet.specs.Reading.{firstFault, machineOf, transitionsOf, readAnswer, readList}

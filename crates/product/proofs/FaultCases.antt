@@ -21,7 +21,7 @@ use lib.ListN.{length, getD, set, length-set, replicate, length-replicate, getD-
 use lib.Seq.{getD-set-same, getD-set-other, ext-getD}
 use lib.Dec.{eqb}
 use borrow.Author.Tests.{eq-eqb, ne-eqb}
-use Rattle.basics.specs.Lists.{set-next}
+use Rattle.basics.specs.Lists.Laws.{set-next}
 use Rattle.basics.specs.Search.Loops.{first, second}
 use Rattle.fsbm.specs.Machine.{initial, final, buffering, matching, transitionAt, maxStates}
 use Rattle.fsbm.specs.Rules.{Rules}

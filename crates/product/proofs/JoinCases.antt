@@ -17,7 +17,8 @@ use Rattle.fsbm.specs.declared.machine.Machine.{Machine}
 use Rattle.fsbm.specs.declared.answer.Refusal.{Refusal}
 use Rattle.product.specs.declared.Product.{Product}
 use Rattle.product.specs.Count.{joined-length}
-use Rattle.basics.specs.Lists.{put, put-zero}
+use Rattle.basics.specs.Lists.{put}
+use Rattle.basics.specs.Lists.Laws.{put-zero}
 use Rattle.product.specs.Product.{joinedCount, joinedMarks, joinedMachine, joinedTransitions, joinFault, joinRefusal, joinAnswer, joinAfter}
 
 module _ (m₁ : Machine) (l₁ : List ℕ) (m₂ : Machine) (l₂ list : List ℕ) (n : ℕ) (at-n : n ≡ joinFault m₁ l₁ m₂ l₂) where

@@ -12,7 +12,7 @@ use native.Mathlib.Decide.{ℕ-discrete}
 use lib.ListN.{length, getD, set}
 use lib.Dec.{leb, eqb}
 use borrow.Author.Tests.{le-leb, lt-leb, eq-eqb, ne-eqb}
-use Rattle.basics.specs.Lists.{set-next}
+use Rattle.basics.specs.Lists.Laws.{set-next}
 use Rattle.columns.specs.Column.{noNumber}
 use Rattle.fsbm.specs.Machine.{named, precedes}
 use Rattle.fsbm.specs.declared.machine.Transition.{Transition}

@@ -15,7 +15,8 @@ use lib.ListN.{length, drop, set, replicate}
 use lib.Seq.{set-at, append-snoc}
 use lib.Dec.{leb, ltb, eqb}
 use borrow.Author.Tests.{leb-true, ltb-true, le-leb, lt-leb, eq-eqb, ne-eqb}
-use Rattle.basics.specs.Lists.{put, put-zero}
+use Rattle.basics.specs.Lists.{put}
+use Rattle.basics.specs.Lists.Laws.{put-zero}
 use Rattle.basics.specs.Search.Laws.{and-true}
 use Rattle.fsbm.specs.Answers.{refusal, noMachine}
 use Rattle.fsbm.specs.declared.answer.Refusal.{Refusal}

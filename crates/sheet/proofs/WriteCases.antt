@@ -11,7 +11,8 @@ use native.Mathlib.Omega.{arith}
 use lib.ListN.{length, drop, set, length-append}
 use lib.Dec.{leb, eqb}
 use borrow.Author.Tests.{le-leb, lt-leb}
-use Rattle.basics.specs.Lists.{put, put-none, put-length, put-put, put-one, put-zero}
+use Rattle.basics.specs.Lists.{put}
+use Rattle.basics.specs.Lists.Laws.{put-none, put-length, put-put, put-one, put-zero}
 use Rattle.columns.specs.Column.{columnOf}
 use Rattle.columns.specs.Column.Laws.{column-length}
 use Rattle.fsbm.specs.Machine.{markOf, transitionAt, wellFormed}

@@ -16,7 +16,8 @@ use native.Mathlib.Numerals.{add-one}
 use lib.ListN.{length, take, getD, set, length-append}
 use lib.Seq.{take-all, take-suc, take-suc-set, take-append-seam, length-take-le}
 use borrow.Author.Tests.{eq-eqb, ne-eqb}
-use Rattle.basics.specs.Lists.{put, put-none, put-put}
+use Rattle.basics.specs.Lists.{put}
+use Rattle.basics.specs.Lists.Laws.{put-none, put-put}
 use Rattle.columns.specs.Column.{columnOf}
 use Rattle.columns.specs.Column.Laws.{column-length}
 use Rattle.fsbm.specs.declared.machine.Machine.{Machine}

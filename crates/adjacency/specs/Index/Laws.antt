@@ -14,7 +14,7 @@ use lib.ListN.{length, getD, set, length-set, replicate}
 use lib.Seq.{getD-set-other}
 use lib.Dec.{eqb}
 use borrow.Author.Tests.{ltb-true, eqb-true}
-use Rattle.basics.specs.Lists.{set-next, zeros-at}
+use Rattle.basics.specs.Lists.Laws.{set-next, zeros-at}
 use Rattle.basics.specs.Search.Laws.{true-or-false}
 use Rattle.fsbm.specs.Machine.{precedes, transitionAt}
 use Rattle.fsbm.specs.Rules.{Rules}

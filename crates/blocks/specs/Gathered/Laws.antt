@@ -16,7 +16,7 @@ use native.Mathlib.Omega.{arith}
 use native.Mathlib.Decide.{decLt}
 use lib.ListN.{length, getD, set, length-set}
 use lib.Seq.{getD-set-same}
-use Rattle.basics.specs.Lists.{set-cases}
+use Rattle.basics.specs.Lists.Laws.{set-cases}
 use Rattle.stateset.specs.Set.{width, In, has, added, SetIs}
 use Rattle.stateset.specs.Set.Laws.{has-in, has-not}
 use Rattle.pieces.specs.Blocks.{cell}

@@ -14,7 +14,7 @@ use native.Mathlib.Decide.{decLt}
 use lib.ListN.{length, getD, set, length-set}
 use lib.Seq.{getD-set-same}
 use borrow.Author.Tests.{eqb-false}
-use Rattle.basics.specs.Lists.{set-cases}
+use Rattle.basics.specs.Lists.Laws.{set-cases}
 use Rattle.stateset.specs.Set.{width, digit, In, has, added, SetIs}
 use Rattle.stateset.specs.Set.Laws.{has-in, empty-in}
 use Rattle.fsbm.specs.Machine.{transitionAt, matching}

@@ -22,7 +22,7 @@ use native.Mathlib.Decide.{decLt, ℕ-discrete}
 use lib.ListN.{length, getD, set, length-set, replicate, length-replicate, getD-replicate}
 use lib.Seq.{getD-set-other}
 use lib.Count.{ones}
-use Rattle.basics.specs.Lists.{set-next}
+use Rattle.basics.specs.Lists.Laws.{set-next}
 use Rattle.graphs.specs.Cost.{Route, stop, via, ToGoal}
 use Rattle.graphs.specs.Working.Laws.{working-start, working-looked, working-end}
 use Rattle.stateset.specs.Set.{In, SetIs}

@@ -15,7 +15,7 @@ use native.Mathlib.Omega.{arith}
 use native.Mathlib.Decide.{decLt, ℕ-discrete}
 use native.Mathlib.Nat.{mul-le-mul}
 use lib.ListN.{length, getD, set, length-set}
-use Rattle.basics.specs.Lists.{set-next}
+use Rattle.basics.specs.Lists.Laws.{set-next}
 use Rattle.basics.specs.Pairs.{pair-below}
 use Rattle.fsbm.specs.Machine.{transitionAt}
 use Rattle.fsbm.specs.Rules.{Rules}

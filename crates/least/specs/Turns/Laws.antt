@@ -22,7 +22,7 @@ use native.Mathlib.Decide.{ℕ-discrete, decLt}
 use lib.ListN.{length, getD, set}
 use lib.Count.{ones}
 use borrow.Author.Tests.{eqb-true, eqb-false, eq-eqb}
-use Rattle.basics.specs.Lists.{set-next}
+use Rattle.basics.specs.Lists.Laws.{set-next}
 use Rattle.graphs.specs.Cost.{Route, Settled}
 use Rattle.graphs.specs.Back.{Back}
 use Rattle.basics.specs.Search.Laws.{true-or-false}

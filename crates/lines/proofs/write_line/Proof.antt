@@ -1,6 +1,6 @@
 use native.Mathlib.Omega.{arith}
 use Rattle.lines.specs.Line.{answerLine}
-use Rattle.basics.specs.Lists.{put-length}
+use Rattle.basics.specs.Lists.Laws.{put-length}
 use Rattle.lines.proofs.LineCases.{line-length}
 use mathlib.Core.Path.{_∙_, ap}
 use lib.ListN.{length}

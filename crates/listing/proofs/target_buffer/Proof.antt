@@ -1,7 +1,7 @@
 use Prim.Native.Nat.{ℕ}
 use mathlib.Core.Path.{sym}
 use lib.ListN.{length-replicate}
-use Rattle.basics.specs.Lists.{zeros-at}
+use Rattle.basics.specs.Lists.Laws.{zeros-at}
 use Rattle.listing.proofs.target_buffer.Statement.{statement}
 use Rattle.listing.proofs.target_buffer.Tie as tie
 

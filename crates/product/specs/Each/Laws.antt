@@ -17,7 +17,8 @@ use native.Mathlib.Numerals.{add-one}
 use native.Mathlib.Nat.{add-zero, zero-add}
 use native.Mathlib.Decide.{ℕ-discrete}
 use lib.ListN.{length, getD, length-append}
-use Rattle.basics.specs.Lists.{put, put-none, put-length, put-put}
+use Rattle.basics.specs.Lists.{put}
+use Rattle.basics.specs.Lists.Laws.{put-none, put-length, put-put}
 use Rattle.product.specs.Each.{each, sumOver}
 
 module _ {A : Type 0} where

@@ -1,4 +1,4 @@
-use Rattle.basics.specs.Lists.{zeros-at}
+use Rattle.basics.specs.Lists.Laws.{zeros-at}
 use borrow.Author.Needs.{needs}
 use Rattle.recognize.proofs.answer_large.Statement.{statement}
 use Rattle.recognize.proofs.answer_large.Tie as tie

@@ -1,4 +1,4 @@
-use Rattle.basics.specs.Lists.{zeros-at}
+use Rattle.basics.specs.Lists.Laws.{zeros-at}
 use borrow.Author.Needs.{needs}
 use Rattle.recognize.proofs.answer_medium.Statement.{statement}
 use Rattle.recognize.proofs.answer_medium.Tie as tie

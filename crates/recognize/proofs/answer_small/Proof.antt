@@ -1,4 +1,4 @@
-use Rattle.basics.specs.Lists.{zeros-at}
+use Rattle.basics.specs.Lists.Laws.{zeros-at}
 use mathlib.Core.Path.{refl, sym, _∙_}
 use borrow.Author.Tests.{not-true, not-false}
 use Rattle.fsbm.proofs.AnswerCases.{table-good}

@@ -9,7 +9,7 @@ use mathlib.Core.List.{List, [], _∷_, _++_, append-assoc, append-nil}
 use native.Mathlib.Omega.{arith}
 use lib.ListN.{length, set, take, drop, length-set, length-append}
 use lib.Seq.{take-at}
-use Rattle.basics.specs.Lists.{drop-set}
+use Rattle.basics.specs.Lists.Laws.{drop-set}
 use Rattle.fsbm.specs.Machine.{matching}
 use Rattle.fsbm.specs.Moves.{beginBuffering, beginEmptying, backToNormal}
 use Rattle.fsbm.specs.declared.machine.Machine.{Machine}

@@ -12,7 +12,7 @@ use native.Mathlib.Omega.{arith}
 use native.Mathlib.Numerals.{add-one}
 use lib.ListN.{length, getD, set, take, drop, length-set, length-drop, drop-of-length-le}
 use lib.Seq.{drop-cons, drop-set-lt, getD-set-same, getD-set-other, getD-drop, getD-take, length-take-le}
-use Rattle.basics.specs.Lists.{drop-set}
+use Rattle.basics.specs.Lists.Laws.{drop-set}
 use Rattle.fsbm.specs.Machine.{transitionAt}
 use Rattle.fsbm.specs.Published.{symbol}
 use Rattle.fsbm.specs.declared.machine.Transition.{Transition}

@@ -18,7 +18,7 @@ use lib.Dec.{ltb, eqb}
 use borrow.Author.Tests.{lt-ltb, le-ltb, eq-eqb, ne-eqb, ltb-true}
 use Rattle.basics.specs.Search.Laws.{and-true, and-both-true, not-both}
 use Rattle.basics.specs.Bools.{not-says}
-use Rattle.basics.specs.Lists.{drop-set}
+use Rattle.basics.specs.Lists.Laws.{drop-set}
 use Rattle.fsbm.specs.Machine.{transitionAt}
 use Rattle.fsbm.specs.Moves.{beginBuffering}
 use Rattle.fsbm.specs.Published.{Listed}

@@ -2,7 +2,7 @@ use native.Mathlib.Omega.{arith}
 use Prim.Native.Nat.{ℕ, _-_}
 use lib.ListN.{length-replicate}
 use Rattle.fsbm.specs.Rules.{rules}
-use Rattle.basics.specs.Lists.{zeros-at}
+use Rattle.basics.specs.Lists.Laws.{zeros-at}
 use Rattle.blocks.specs.Readers.{ReadersBelow}
 use Rattle.blocks.specs.Readers.Laws.{readers-start, readers-more, readers-end}
 use Rattle.blocks.proofs.readers.readers.Statement.{statement}

@@ -2,7 +2,7 @@ use native.Mathlib.Omega.{arith}
 use lib.ListN.{set}
 use lib.Seq.{lt-length-set}
 use Prim.Native.Nat.{_+_}
-use Rattle.basics.specs.Lists.{put-three}
+use Rattle.basics.specs.Lists.Laws.{put-three}
 use borrow.Author.Needs.{needs}
 use Rattle.product.proofs.write.put.Statement.{statement}
 use Rattle.product.proofs.write.put.Tie as tie

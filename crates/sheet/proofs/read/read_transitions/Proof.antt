@@ -1,7 +1,8 @@
 use Rattle.sheet.proofs.ReadCases.{numbersPiece, numbers-wide, numbers-are, transition-there, from-small, letter-small, to-small, transitions-done, states-few, transitions-few}
 use Rattle.sheet.proofs.WriteCases.{each-none, each-more}
 use Rattle.sheet.specs.Series.{eachBelow}
-use Rattle.basics.specs.Lists.{put, put-three}
+use Rattle.basics.specs.Lists.{put}
+use Rattle.basics.specs.Lists.Laws.{put-three}
 use lib.ListN.{length, length-set}
 use native.Mathlib.Omega.{arith}
 use mathlib.Core.Path.{_≡_, refl}

@@ -2,7 +2,7 @@ use mathlib.Core.Path.{ap, _∙_}
 use mathlib.Core.List.{[], _∷_}
 use native.Mathlib.Omega.{arith}
 use lib.ListN.{length}
-use Rattle.basics.specs.Lists.{put-length}
+use Rattle.basics.specs.Lists.Laws.{put-length}
 use Rattle.sheet.specs.Format.{lineOf}
 use Rattle.sheet.proofs.WriteCases.{line-three, length-three}
 use borrow.Author.Needs.{needs}
