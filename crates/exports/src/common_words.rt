@@ -17,6 +17,7 @@ pub struct CommonRecord {
     pub second: usize,
 }
 
+// The answer as C and Rust see it.
 fn record_of_common(answer: Common) -> CommonRecord
     ensures { λ r. ⌜ r ≡ commonRecord (commonValues answer) ⌝ }
 {

@@ -14,6 +14,7 @@ pub struct RecognitionRecord {
     pub entries: usize,
 }
 
+// The answer as C and Rust see it.
 fn record_of_answer(answer: Recognized) -> RecognitionRecord
     ensures { λ r. ⌜ r ≡ recognizedRecord (recognizedValues answer) ⌝ }
 {

@@ -33,6 +33,7 @@ pub struct CheckedRecord {
     pub accepting: u8,
 }
 
+// The mode with this number: 0 normal, 1 buffering, else emptying.
 fn mode_of(n: u8) -> Mode
     ensures { λ r. ⌜ r ≡ modeOf n ⌝ }
 {
@@ -45,6 +46,7 @@ fn mode_of(n: u8) -> Mode
     Mode::Emptying
 }
 
+// The number of a mode.
 fn mode_number(mode: Mode) -> u8
     ensures { λ r. ⌜ r ≡ modeNumber mode ⌝ }
 {
@@ -55,6 +57,7 @@ fn mode_number(mode: Mode) -> u8
     }
 }
 
+// The configuration of a record.
 fn config_of(c: ConfigRecord) -> Config
     ensures { λ r. ⌜ r ≡ configOf c ⌝ }
 {
@@ -67,6 +70,7 @@ fn config_of(c: ConfigRecord) -> Config
     }
 }
 
+// The record of a configuration.
 fn record_of(c: Config) -> ConfigRecord
     ensures { λ r. ⌜ r ≡ recordOf c ⌝ }
 {
@@ -106,6 +110,7 @@ pub extern "C" fn zagvirk_step(
     }
 }
 
+// What zagvirk_step says of a move that is allowed: not so where the record had no mode.
 fn moved_record(config: ConfigRecord, next: Config) -> SteppedRecord
     ensures { λ r. ⌜ r ≡ movedRecord config next ⌝ }
 {

@@ -244,6 +244,7 @@ impl Config {
         }
     }
 
+    // An entry in normal mode: it begins storing at a buffering state, where the buffer is empty.
     fn begin_buffering(self, marks: &[u8; MAX_STATES], entry: u16) -> Move
         ensures { λ r. ⌜ r ≡ changes (now (marks .entry)) self entry Normal ⌝ }
     {
@@ -268,6 +269,7 @@ impl Config {
         }
     }
 
+    // An entry in buffering mode: it begins matching at a matching state.
     fn begin_emptying(self, marks: &[u8; MAX_STATES], entry: u16) -> Move
         ensures { λ r. ⌜ r ≡ changes (now (marks .entry)) self entry Buffering ⌝ }
     {
@@ -289,6 +291,7 @@ impl Config {
         }
     }
 
+    // An entry in emptying mode: it goes back to normal at a matching state, where the buffer is empty.
     fn back_to_normal(self, marks: &[u8; MAX_STATES], entry: u16) -> Move
         ensures { λ r. ⌜ r ≡ changes (now (marks .entry)) self entry Emptying ⌝ }
     {

@@ -42,24 +42,28 @@ pub fn mark(marks: &[u8; MAX_STATES], q: usize) -> u8
     0
 }
 
+// Whether a run may start in state q.
 pub fn is_initial(marks: &[u8; MAX_STATES], q: usize) -> bool
     ensures { λ r. ⌜ r ≡ initial (now (marks .entry)) q ⌝ }
 {
     mark(marks, q) % 2 == 1
 }
 
+// Whether a run may end in state q.
 pub fn is_final(marks: &[u8; MAX_STATES], q: usize) -> bool
     ensures { λ r. ⌜ r ≡ final (now (marks .entry)) q ⌝ }
 {
     mark(marks, q) / 2 % 2 == 1
 }
 
+// Whether storing begins in state q.
 pub fn is_buffering(marks: &[u8; MAX_STATES], q: usize) -> bool
     ensures { λ r. ⌜ r ≡ buffering (now (marks .entry)) q ⌝ }
 {
     mark(marks, q) / 4 % 2 == 1
 }
 
+// Whether state q matches stored letters.
 pub fn is_matching(marks: &[u8; MAX_STATES], q: usize) -> bool
     ensures { λ r. ⌜ r ≡ matching (now (marks .entry)) q ⌝ }
 {

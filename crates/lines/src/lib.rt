@@ -70,6 +70,7 @@ fn read_word(letters: usize, line: &[u8], word: &mut [u8]) -> u8
     0
 }
 
+// Whether both hold.
 fn both(a: bool, b: bool) -> bool
     ensures { λ r. ⌜ r ≡ (a && b) ⌝ }
 {

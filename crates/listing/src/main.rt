@@ -236,6 +236,7 @@ fn read_table(table: &mut [u8]) -> usize
     n
 }
 
+// Reads the table and lists the words of standard input.
 fn main() {
     let mut table = io::large_buffer();
     let n = read_table(&mut table);

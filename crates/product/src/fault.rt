@@ -12,6 +12,7 @@ use fsbm::limits::MAX_TRANSITIONS;
 use fsbm::machine;
 use fsbm::machine::Machine;
 
+// Whether state q is neither buffering nor matching.
 fn plain_state(marks: &[u8; MAX_STATES], q: usize) -> bool
     ensures { λ r. ⌜ r ≡ plainState (now (marks .entry)) q ⌝ }
 {
@@ -35,6 +36,7 @@ fn plain_states(marks: &[u8; MAX_STATES], n: usize) -> bool
     true
 }
 
+// Whether transition number k reads a letter.
 fn plain_transition(list: &[u16], k: usize) -> bool
     ensures { λ r. ⌜ r ≡ plainTransition (now (list .entry)) k ⌝ }
 {

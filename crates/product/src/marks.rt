@@ -8,6 +8,7 @@ use fsbm::limits::MAX_STATES;
 use fsbm::machine;
 use fsbm::machine::Machine;
 
+// Whether both hold.
 fn both(a: bool, b: bool) -> bool
     ensures { λ r. ⌜ r ≡ (a && b) ⌝ }
 {

@@ -65,9 +65,9 @@ fn answer_with(
     Recognized::Yes(entries)
 }
 
-// The answer on a machine whose table has at most 160 sets, at most 2,048, and any number: a small table is cleared sooner. The first
-// does what answer_with does, and so the run writer is called from two places: the compiler then leaves it, with the large tables of
-// long words, in a function of its own, and a word that is not accepted does not pay for their frame.
+// The answer on a machine whose table has at most 160 sets: a small table is cleared sooner. It does what answer_with does, and so the
+// run writer is called from two places: the compiler then leaves it, with the large tables of long words, in a function of its own, and
+// a word that is not accepted does not pay for their frame.
 fn answer_small(m: Machine, list: &[u16], word: &[u8], needed: usize, run: &mut [u16]) -> Recognized
     requires { ⌜ (tableAndWord longestRecognized m (now list) (now word) ≡ 0) × (needed ≡ runBound m (length (now word))) × (needed ≤ length (now run))
         × (setOf (m .states) (m .letters) (m .states) ≤ 160) ⌝ }
@@ -83,6 +83,7 @@ fn answer_small(m: Machine, list: &[u16], word: &[u8], needed: usize, run: &mut 
     Recognized::Yes(count)
 }
 
+// The same on a table of at most 2,048 sets.
 fn answer_medium(
     m: Machine,
     list: &[u16],
@@ -98,6 +99,7 @@ fn answer_medium(
     answer_with(m, list, &mut targets, word, needed, run)
 }
 
+// The same on any table.
 fn answer_large(m: Machine, list: &[u16], word: &[u8], needed: usize, run: &mut [u16]) -> Recognized
     requires { ⌜ (tableAndWord longestRecognized m (now list) (now word) ≡ 0) × (needed ≡ runBound m (length (now word))) × (needed ≤ length (now run))
         × (setOf (m .states) (m .letters) (m .states) ≤ 16130) ⌝ }

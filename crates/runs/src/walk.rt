@@ -105,6 +105,7 @@ fn leads(
     g == d
 }
 
+// The same number as an index.
 fn wide(x: u16) -> usize
     ensures { λ r. ⌜ r ≡ x ⌝ }
 {
@@ -341,39 +342,47 @@ fn write_with(
     )
 }
 
-// The tables of a word of at most 15 letters, of at most 63, and of at most 255.
+// The rows of the positions of a word of at most 15 letters, three each.
 fn few_positions() -> [[u32; MAX_STATES]; 48] {
     [[NONE; MAX_STATES]; 48]
 }
 
+// And of the ends of its copies.
 fn few_ends() -> [[u32; MAX_STATES]; 16] {
     [[NONE; MAX_STATES]; 16]
 }
 
+// And of the letters of a copy.
 fn few_rows() -> [[u32; MAX_STATES]; 8] {
     [[NONE; MAX_STATES]; 8]
 }
 
+// Those of a word of at most 63 letters.
 fn some_positions() -> [[u32; MAX_STATES]; 192] {
     [[NONE; MAX_STATES]; 192]
 }
 
+// And of the ends of its copies.
 fn some_ends() -> [[u32; MAX_STATES]; 64] {
     [[NONE; MAX_STATES]; 64]
 }
 
+// And of the letters of a copy.
 fn some_rows() -> [[u32; MAX_STATES]; 32] {
     [[NONE; MAX_STATES]; 32]
 }
 
+// Those of any word.
 fn all_positions() -> [[u32; MAX_STATES]; 768] {
     [[NONE; MAX_STATES]; 768]
 }
 
+// And of the ends of its copies.
 fn all_ends() -> [[u32; MAX_STATES]; 256] {
     [[NONE; MAX_STATES]; 256]
 }
 
+// And of the letters of a copy.
 fn all_rows() -> [[u32; MAX_STATES]; 128] {
     [[NONE; MAX_STATES]; 128]
 }

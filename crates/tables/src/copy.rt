@@ -39,6 +39,7 @@ pub fn load(t: &[[u32; MAX_STATES]], i: usize) -> [u32; MAX_STATES]
     t[i]
 }
 
+// Puts a row in as row i of a table.
 pub fn save(t: &mut [[u32; MAX_STATES]], i: usize, row: [u32; MAX_STATES])
     requires { ⌜ i < length (now t) ⌝ }
     ensures { λ r. ⌜ now (t .exit) ≡ set (now (t .entry)) i row ⌝ }
@@ -46,6 +47,7 @@ pub fn save(t: &mut [[u32; MAX_STATES]], i: usize, row: [u32; MAX_STATES])
     t[i] = row;
 }
 
+// The same number as an index.
 fn wide(x: u16) -> usize
     ensures { λ r. ⌜ r ≡ x ⌝ }
 {
