@@ -24,7 +24,8 @@ use Rattle.fsbm.specs.declared.config.Mode.the-variants.{Buffering, Emptying}
 use Rattle.decide.specs.declared.walks.Tail.{Tail}
 use Rattle.images.specs.Graph.{Members, Fitting, From, here, more, Graph, Free, Advance}
 use Rattle.decide.specs.Reach.{Walk, still, reads, Tailed, Square, LastSquare, CopyTo, Copied}
-use Rattle.images.proofs.SetCases.{members-as, members-none, none-in, row-cases}
+use Rattle.basics.specs.Lists.Laws.{set-cases}
+use Rattle.images.proofs.SetCases.{members-as, members-none, none-in}
 
 module _ {G : Graph} {w : List ℕ} {T : Mode} {i p : ℕ} where
   pub walk-forward : {j q : ℕ} → Walk G w T i p j q → i ≤ j
@@ -214,9 +215,9 @@ module _ (G : Graph) (w : List ℕ) (i starts : ℕ) (a : List ℕ) where
             storing = storing;
             fitting = record {
               size = length-set b e u ∙ cp .fitting .size;
-              each = row-cases b e u inside (λ k y. y < 2 ^ width) (union .fits) (λ k n. cp .fitting .each k);
+              each = set-cases b e u 0 inside (λ k y. y < 2 ^ width) (union .fits) (λ k n. cp .fitting .each k);
             };
-            members = λ k q. row-cases b e u inside (λ k y. In y q ↔ (In (getD a k 0) q ⊎ ((c : CopyTo G w i starts k q) × (c .end ≤ j + 1)))) (at-end q) (λ k n. (λ h. wider k q (cp .members k q .0 h), λ h. cp .members k q .1 (elsewhere k q n h))) k;
+            members = λ k q. set-cases b e u 0 inside (λ k y. In y q ↔ (In (getD a k 0) q ⊎ ((c : CopyTo G w i starts k q) × (c .end ≤ j + 1)))) (at-end q) (λ k n. (λ h. wider k q (cp .members k q .0 h), λ h. cp .members k q .1 (elsewhere k q n h))) k;
           }
         where
           e : ℕ

@@ -20,7 +20,8 @@ use Rattle.basics.specs.Lists.Laws.{zeros-at}
 use Rattle.images.specs.Graph.{Members}
 use Rattle.decide.specs.Reach.{Square}
 use Rattle.decide.specs.Squares.{Repeats, RunEnd, RepeatEnds, RepeatEndsAt, Keeps, Ended, Squared, Turning}
-use Rattle.images.proofs.SetCases.{members-as, members-none, none-in, row-cases}
+use Rattle.basics.specs.Lists.Laws.{set-cases}
+use Rattle.images.proofs.SetCases.{members-as, members-none, none-in}
 
 pub ends-start : (w : List ℕ) (at : ℕ → ℕ) → ((d : ℕ) → 0 < d → 0 < at d) → RepeatEnds w (replicate 256 0) at
 ends-start w at some =
@@ -82,8 +83,8 @@ ends-found w ends d q stop e m r v known far lt short at-e le which more is = re
     kept at position e =
         record {
           size = length-set ends d v ∙ e .size;
-          small = row-cases ends d v inside (λ k y. y ≤ 255) (let z = run .repeats .within in omega arith) (λ k n. e .small k);
-          each = row-cases ends d v inside (λ k y. 0 < k → at k ≤ y → Repeats w k (at k) y) (λ far le. subst₂ (λ (m n : ℕ). Repeats w d m n) (sym position) (sym is) (run .repeats)) (λ k n. e .each k);
+          small = set-cases ends d v 0 inside (λ k y. y ≤ 255) (let z = run .repeats .within in omega arith) (λ k n. e .small k);
+          each = set-cases ends d v 0 inside (λ k y. 0 < k → at k ≤ y → Repeats w k (at k) y) (λ far le. subst₂ (λ (m n : ℕ). Repeats w d m n) (sym position) (sym is) (run .repeats)) (λ k n. e .each k);
         }
       where
         inside : d < length ends

@@ -21,7 +21,8 @@ use Rattle.fsbm.specs.declared.config.Mode.the-variants.{Normal, Buffering, Emp
 use Rattle.basics.specs.Lists.Laws.{zeros-at}
 use Rattle.images.specs.Graph.{Members, Fitting, From, Star, here, more, Graph, Edge, Turn}
 use Rattle.decide.specs.Reach.{Walk, still, Square, Reach, begins, passes, moves, copies, CopyTo, Copied, ReadTo, Passed, Stage}
-use Rattle.images.proofs.SetCases.{none-in, row-cases}
+use Rattle.basics.specs.Lists.Laws.{set-cases}
+use Rattle.images.proofs.SetCases.{none-in}
 use Rattle.decide.proofs.CopyCases.{walk-free}
 
 -- a set at one position changes
@@ -29,7 +30,7 @@ pub fitting-set : (a : List ℕ) (i v : ℕ) → Fitting 256 a → i < 256 → v
 fitting-set a i v f lt fits =
     record {
       size = length-set a i v ∙ f .size;
-      each = row-cases a i v (let z = f .size in omega arith) (λ k y. y < 2 ^ width) fits (λ k n. f .each k);
+      each = set-cases a i v 0 (let z = f .size in omega arith) (λ k y. y < 2 ^ width) fits (λ k n. f .each k);
     }
 
 module _ (G : Graph) (w : List ℕ) (a : List ℕ) (i near : ℕ) (fit : Fitting 256 a) (inside : i < 256) (completes : Members near (From (getD a i 0) (Star (Turn G)))) where
@@ -69,7 +70,7 @@ module _ (G : Graph) (w : List ℕ) (a : List ℕ) (i near : ℕ) (fit : Fitting
     -- the letter at i adds what ReadTo says
     read-members : (k q : ℕ) → In (getD (set (set a i near) (i + 1) u) k 0) q ↔ (In (getD (set a i near) k 0) q ⊎ ReadTo G w i near k q)
     read-members k q =
-        row-cases (set a i near) (i + 1) u next (λ k y. In y q ↔ (In (getD (set a i near) k 0) q ⊎ ReadTo G w i near k q))
+        set-cases (set a i near) (i + 1) u 0 next (λ k y. In y q ↔ (In (getD (set a i near) k 0) q ⊎ ReadTo G w i near k q))
         (λ h. to (union .members q .0 h), λ h. union .members q .1 (back h))
         (λ k n. (λ h. inl h, elsewhere k n)) k
       where
@@ -131,7 +132,7 @@ pub stage-start : (G : Graph) (w : List ℕ) (start : ℕ) → start < 2 ^ width
 stage-start G w start fits =
     record {
       fitting = fitting-set (replicate 256 0) 0 start (record { size = refl; each = λ k. let z = zeros-at 256 k in omega arith }) (omega arith) fits;
-      sound = λ k q. row-cases (replicate 256 0) 0 start (omega arith) (λ k y. In y q → Reach G w start k q) (λ h. begins refl h) (λ k n h. absurd (none-in (zeros-at 256 k) q h)) k;
+      sound = λ k q. set-cases (replicate 256 0) 0 start 0 (omega arith) (λ k y. In y q → Reach G w start k q) (λ h. begins refl h) (λ k n h. absurd (none-in (zeros-at 256 k) q h)) k;
       begun = λ q h. h;
       passed = λ k p q (lt : k < 0). absurd (omega arith);
       read = λ k p q (lt : k < 0). absurd (omega arith);
@@ -158,7 +159,7 @@ module _ (G : Graph) (w : List ℕ) (start : ℕ) where
     near-sound q h = let z = ps .completes .members q .0 h in turns le (st .sound i (z .0) (z .1)) (z .2)
 
     at-sound : (k q : ℕ) → In (getD (set a i (ps .near)) k 0) q → Reach G w start k q
-    at-sound k q = row-cases a i (ps .near) inside (λ k y. In y q → Reach G w start k q) (near-sound q) (λ k n. st .sound k q) k
+    at-sound k q = set-cases a i (ps .near) 0 inside (λ k y. In y q → Reach G w start k q) (near-sound q) (λ k n. st .sound k q) k
 
     sound : (k q : ℕ) → In (getD (set a i (ps .near)) k 0) q ⊎ (ReadTo G w i (ps .near) k q ⊎ CopyTo G w i (bitAnd (ps .near) (G .buffering)) k q) → Reach G w start k q
     sound k q (inl h) = at-sound k q h

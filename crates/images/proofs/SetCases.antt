@@ -5,7 +5,6 @@
 -- members-none            == the number 0 has no members
 -- some-member             == any other number has one
 -- none-other              == a set without another is empty: its members are members of the other
--- row-cases               == what holds of a list whose element at one position is new
 -- normal-moves, buffering-moves, emptying-moves == what step_normal, step_buffering, step_emptying put together
 -- edges-taken             == the moves by the row of a letter are its edges
 -- states-image            == the image of those states of a set that are below a number
@@ -17,9 +16,8 @@ use mathlib.Core.Logic.{_⊎_, inl, inr}
 use mathlib.Core.Bool.{Bool, true, false}
 use mathlib.Core.List.{List}
 use native.Mathlib.Omega.{arith}
-use native.Mathlib.Decide.{decLt, ℕ-discrete}
-use lib.ListN.{length, getD, set}
-use lib.Seq.{getD-set-same, getD-set-other}
+use native.Mathlib.Decide.{decLt}
+use lib.ListN.{getD, set}
 use lib.Count.{trailingZeros}
 use lib.Dec.{eqb}
 use borrow.Author.Tests.{eqb-true, eq-eqb}
@@ -54,20 +52,6 @@ none-other a b d diff e q h = at (in? b q)
     at : Dec (In b q) → In b q
     at (yes y) = y
     at (no n) = absurd (none-in e q (diff .members q .1 (h, n)))
-
--- one element of a list changes
-
-module _ (rows : List ℕ) (q v : ℕ) (inside : q < length rows) where
-  row-same : (p : ℕ) → p ≡ q → getD (set rows q v) p 0 ≡ v
-  row-same p e = subst (λ (n : ℕ). getD (set rows q v) n 0 ≡ v) (sym e) (getD-set-same rows q v 0 inside)
-
-  -- what holds of the new element, and of the old ones elsewhere
-  pub row-cases : (P : ℕ → ℕ → Type 0) → P q v → ((p : ℕ) → (p ≡ q → ⊥) → P p (getD rows p 0)) → (p : ℕ) → P p (getD (set rows q v) p 0)
-  row-cases P new old p = at (ℕ-discrete p q)
-    where
-      at : Dec (p ≡ q) → P p (getD (set rows q v) p 0)
-      at (yes e) = subst (λ (n : ℕ). P p n) (sym (row-same p e)) (subst (λ (n : ℕ). P n v) (sym e) new)
-      at (no n) = subst (λ (y : ℕ). P p y) (sym (getD-set-other rows q p v 0 n)) (old p n)
 
 -- adding where a test says so
 

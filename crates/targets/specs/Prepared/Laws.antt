@@ -13,14 +13,14 @@
 -- turns-carried, turns-same   == what a state reaches at a position rests on the edges of letter 0 and the sets alone
 -- closing-start, closing-good, closing-turn, closing-end == the closures of the states, one by one
 -- made-good, made-whole       == a table without closures, and one with them: prepared for every word
-use Prim.Native.Nat.{ℕ, suc, _+_, _*_, _≤_, _<_}
+use Prim.Native.Nat.{ℕ, _+_, _*_, _≤_, _<_}
 use mathlib.Core.Path.{_≡_, refl, sym, ap, _∙_, subst}
 use mathlib.Core.Logic.{_↔_, _⊎_, inl, inr}
 use mathlib.Core.Bool.{Bool, true, false, false≢true}
 use mathlib.Core.List.{List}
 use native.Mathlib.Omega.{arith}
-use native.Mathlib.Decide.{ℕ-discrete, decLt}
-use native.Mathlib.Nat.{mul-le-mul, mul-le-mul-right, suc-mul}
+use native.Mathlib.Decide.{ℕ-discrete}
+use native.Mathlib.Nat.{mul-le-mul, mul-le-mul-right}
 use lib.ListN.{length, getD, set, length-set}
 use lib.Seq.{getD-set-same, getD-set-other}
 use Rattle.stateset.specs.Set.{width, In, SetIs}
@@ -33,23 +33,13 @@ use Rattle.fsbm.specs.declared.config.Mode.{Mode}
 use Rattle.fsbm.specs.declared.config.Mode.the-variants.{Normal, Buffering, Emptying}
 use Rattle.images.specs.declared.Kinds.{Kinds}
 use Rattle.images.specs.Graph.{Members, From, Star, here, more, closureOf, setOf, Graph, graph, Edge, Free, Turn, Closed, Good, Kind, KindsOf}
-use Rattle.images.proofs.SetCases.{members-as, row-cases}
+use Rattle.basics.specs.Lists.Laws.{set-cases}
+use Rattle.basics.specs.Pairs.{pair-same}
+use Rattle.images.proofs.SetCases.{members-as}
 use Rattle.targets.specs.Prepared.{Row, Prepared, Lettered, Whole, Wanted, Inside, Filled, Made, Sources, Closing, WithClosures}
 
--- the sets of a letter stand before those of a later one
-before : (s x y p q : ℕ) → p < s → x < y → x * s + p < y * s + q
-before s x y p q lt less =
-    let z : suc x * s ≤ y * s = mul-le-mul-right s (omega arith) in
-    let e = suc-mul x s in
-    omega arith
-
 pub apart : (s x y p q : ℕ) → p < s → q < s → setOf s x p ≡ setOf s y q → (x ≡ y) × (p ≡ q)
-apart s x y p q lp lq e = at (decLt x y) (decLt y x)
-  where
-    at : Dec (x < y) → Dec (y < x) → (x ≡ y) × (p ≡ q)
-    at (yes a) d = let z = before s x y p q lp a in absurd (omega arith)
-    at (no a) (yes b) = let z = before s y x q p lq b in absurd (omega arith)
-    at (no a) (no b) = let same : x ≡ y = omega arith in let z : x * s ≡ y * s = ap (λ (n : ℕ). n * s) same in (same, omega arith)
+apart s x y p q lp lq e = pair-same s x p y q lp lq (omega arith)
 
 -- the row of a letter that is there is in the table
 pub in-room : (s x y n : ℕ) → x ≤ y → setOf s y s ≤ n → setOf s x s ≤ n
@@ -80,7 +70,7 @@ pub marked-turn : (w wanted : List ℕ) (i : ℕ) → getD w i 0 < length wanted
 marked-turn w wanted i inside so-far j lt = at (ℕ-discrete j i)
   where
     mark : (x : ℕ) → 0 < getD wanted x 0 → 0 < getD (set wanted (getD w i 0) 1) x 0
-    mark x h = row-cases wanted (getD w i 0) 1 inside (λ y v. 0 < getD wanted y 0 → 0 < v) (λ z. omega arith) (λ y n z. z) x h
+    mark x h = set-cases wanted (getD w i 0) 1 0 inside (λ y v. 0 < getD wanted y 0 → 0 < v) (λ z. omega arith) (λ y n z. z) x h
 
     at : Dec (j ≡ i) → 0 < getD (set wanted (getD w i 0) 1) (getD w j 0) 0
     at (yes e) =
@@ -146,7 +136,7 @@ module _ (m : Machine) (list wanted targets : List ℕ) (k : ℕ) (inside : Insi
         room = subst (λ (n : ℕ). setOf (m .states) (m .letters) (m .states) ≤ n) (sym (length-set targets i r)) (f .room);
         none-closed = getD-set-other targets i 1 r 0 (λ (e : 1 ≡ i). omega arith) ∙ f .none-closed;
         members = λ x p q le lt.
-            row-cases targets i r room (λ j t. j ≡ setOf (m .states) x p → In t q ↔ (Wanted wanted x × Listed list (k + 1) p x q))
+            set-cases targets i r 0 room (λ j t. j ≡ setOf (m .states) x p → In t q ↔ (Wanted wanted x × Listed list (k + 1) p x q))
             (λ e. here x p q le lt (e)) (λ j n e. others x p q le lt j n e) (setOf (m .states) x p) refl;
       }
     where
@@ -302,7 +292,7 @@ module _ (states g h : ℕ) (before : List ℕ) (good : Good before states g h) 
         record {
           size = length-set now (2 + p) own ∙ c .size;
           others = λ i z. getD-set-other now (2 + p) i own 0 (λ (e : i ≡ 2 + p). other i e z) ∙ c .others i z;
-          done = λ q less. row-cases now (2 + p) own room (λ j t. j ≡ closureOf q → Members t (Star (Turn (graph before states g h)) q)) (λ e. here′ q (omega arith))
+          done = λ q less. set-cases now (2 + p) own 0 room (λ j t. j ≡ closureOf q → Members t (Star (Turn (graph before states g h)) q)) (λ e. here′ q (omega arith))
               (λ j n e. subst (λ (y : ℕ). Members (getD now y 0) (Star (Turn (graph before states g h)) q)) (sym e) (c .done q (omega arith))) (closureOf q) refl;
         }
       where
