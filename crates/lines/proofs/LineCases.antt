@@ -2,7 +2,6 @@
 --
 -- refused-long, refused-part, refused-column, refused-letter, not-refused == the ways through read_word
 -- Read letters line n word good k == what read_word has after k columns of n; read-none, read-more == where it starts, one column more
--- set-put                          == one byte stored behind bytes that were put
 -- line-written, line-length        == a printed line, written in parts
 -- short-line                       == a line that is not refused is short
 -- line-lettered                    == the letters of such a line are the machine's
@@ -11,11 +10,11 @@ use Prim.Native.Nat.{ℕ, zero, suc, _+_, _-_, _/_, _%_, _≤_, _<_}
 use mathlib.Core.Path.{_≡_, refl, sym, _∙_, ap}
 use mathlib.Core.Bool.{Bool, true, false, not, cond, _&&_, and-comm, true≢false}
 use mathlib.Core.Logic.{_⊎_, inl, inr}
-use mathlib.Core.List.{List, [], _∷_, _++_, append-assoc}
+use mathlib.Core.List.{List, [], _∷_, _++_}
 use native.Mathlib.Omega.{arith}
 use native.Mathlib.Numerals.{add-one}
-use lib.ListN.{length, getD, take, drop, set, length-set, length-append, List·getD-append}
-use lib.Seq.{take-suc-set, set-at, drop-cons, length-take-le, getD-at}
+use lib.ListN.{length, getD, take, set, length-set, length-append, List·getD-append}
+use lib.Seq.{take-suc-set, getD-at}
 use lib.Dec.{eqb, leb}
 use native.Mathlib.Decide.{decLe, decLt, ℕ-discrete}
 use borrow.Author.Tests.{le-leb, lt-leb, leb-true, eq-eqb, ne-eqb}
@@ -23,7 +22,7 @@ use Rattle.basics.specs.Search.{allBelow}
 use Rattle.basics.specs.Search.Laws.{allBelow-true, allBelow-false, and-true, and-both-true, true-or-false}
 use Rattle.basics.specs.Search.Loops.{pass, stop, first, second}
 use Rattle.basics.specs.Lists.{put}
-use Rattle.basics.specs.Lists.Laws.{put-put}
+use Rattle.basics.specs.Lists.Laws.{put-put, put-next}
 use Rattle.columns.specs.Column.{noNumber, columnOf}
 use Rattle.columns.specs.Column.Laws.{column-length}
 use Rattle.fsbm.specs.Answers.{goodLetter}
@@ -136,23 +135,6 @@ module _ (letters v k : ℕ) (word : List ℕ) where
   pub stored-letter : 1 ≤ v → v ≤ letters → LetterStored letters v k true word (set word k v)
   stored-letter l h = record { is-letter = pass (le-leb _ _ l) (sym (le-leb _ _ h)); stored = λ e. refl; kept = length-set word k v }
 
--- a byte behind bytes is put by a store
-module _ (at : ℕ) (l a : List ℕ) (fits : at ≤ length l) where
-  front-length : length (take at l ++ a) ≡ at + length a
-  front-length = length-append (take at l) a ∙ ap (λ (z : ℕ). z + length a) (length-take-le at l fits)
-
-  pub set-put : (x : ℕ) → at + length a < length l → set (put at l a) (at + length a) x ≡ put at l (a ++ (x ∷ []))
-  unfolding put
-  set-put x h =
-      ap (λ (z : List ℕ). set (take at l ++ a ++ z) (at + length a) x) (drop-cons l (at + length a) 0 h)
-      ∙ (set-at (take at l ++ a) (getD l (at + length a) 0) (drop (suc (at + length a)) l) x (at + length a) front-length
-      ∙ (sym (append-assoc (take at l ++ a) (x ∷ []) (drop (suc (at + length a)) l))
-      ∙ (ap (λ (z : List ℕ). z ++ drop (suc (at + length a)) l) (append-assoc (take at l) a (x ∷ []))
-      ∙ ap (λ (z : ℕ). take at l ++ (a ++ (x ∷ [])) ++ drop z l) (same-end ∙ ap (λ (z : ℕ). at + z) (sym (length-append a (x ∷ [])))))))
-    where
-      same-end : suc (at + length a) ≡ at + (length a + 1)
-      same-end = omega arith
-
 -- three columns and byte 10, written one after the other
 pub line-written : (at : ℕ) (l : List ℕ) (n a r : ℕ) (o₁ o₂ o₃ : List ℕ) → at + 16 ≤ length l
     → o₁ ≡ put at l (columnOf 5 n) → o₂ ≡ put (at + 5) o₁ (columnOf 5 a) → o₃ ≡ put (at + 10) o₂ (columnOf 5 r) → set o₃ (at + 15) 10 ≡ put at l (answerLine n a r)
@@ -160,7 +142,7 @@ unfolding answerLine
 line-written at l n a r o₁ o₂ o₃ fits e₁ e₂ e₃ =
     ap (λ (z : List ℕ). set z (at + 15) 10) (third e₃)
     ∙ (ap (λ (z : ℕ). set (put at l (columnOf 5 n ++ columnOf 5 a ++ columnOf 5 r)) (at + z) 10) (sym len₃)
-    ∙ set-put at l (columnOf 5 n ++ columnOf 5 a ++ columnOf 5 r) (omega arith) 10 (omega (arith, len₃)))
+    ∙ put-next at l (columnOf 5 n ++ columnOf 5 a ++ columnOf 5 r) 10 (omega (arith, len₃)))
   where
     len₁ : length (columnOf 5 n) ≡ 5
     len₁ = column-length 5 n

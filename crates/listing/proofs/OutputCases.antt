@@ -13,12 +13,13 @@
 use Prim.Native.Nat.{ℕ, _*_, _+_, _≤_}
 use mathlib.Core.Path.{_≡_, refl, sym, ap, _∙_, subst}
 use mathlib.Core.List.{List, [], _++_}
-use mathlib.Core.Bool.{Bool, true, false, _||_, true≢false}
+use mathlib.Core.Bool.{Bool, true, false, _||_}
 use native.Mathlib.Omega.{arith}
 use lib.ListN.{length, take}
 use lib.Seq.{take-at}
 use lib.Dec.{leb, eqb}
 use borrow.Author.Tests.{eqb-true, eq-eqb, ne-eqb}
+use Rattle.basics.specs.Search.Laws.{or-true-right, or-false}
 use Rattle.basics.specs.Lists.{put}
 use Rattle.basics.specs.Lists.Laws.{put-zero, put-length}
 use Rattle.fsbm.specs.Machine.{wellFormed}
@@ -79,24 +80,16 @@ reached-more m list held line out r input′ line′ out′ reached turned =
 
 -- when the program stops
 
-or-true : (a b : Bool) → b ≡ true → (a || b) ≡ true
-or-true true b e = refl
-or-true false b e = e
-
 or-first : (a b : Bool) → (a || b) ≡ true → b ≡ false → a ≡ true
 or-first true b e f = refl
 or-first false b e f = sym (sym e ∙ f)
-
-or-false : (a b : Bool) → (a || b) ≡ false → (a ≡ false) × (b ≡ false)
-or-false true b e = absurd (true≢false e)
-or-false false b e = (refl, e)
 
 module _ (t : Turn) where
   pub done-none : t .count ≡ 0 → true ≡ done t
   done-none e = ap (λ (z : Bool). z || leb mostWords (t .held .words) || t .closed) (sym (eq-eqb _ _ e))
 
   pub done-full : leb mostWords (t .held .words) ≡ true → true ≡ done t
-  done-full h = sym (ap (λ (z : Bool). z || t .closed) (or-true (eqb (t .count) 0) _ h))
+  done-full h = sym (ap (λ (z : Bool). z || t .closed) (or-true-right (eqb (t .count) 0) _ h))
 
   pub done-else : (t .count ≡ 0 → ⊥) → leb mostWords (t .held .words) ≡ false → t .closed ≡ done t
   done-else n h =
@@ -104,7 +97,7 @@ module _ (t : Turn) where
       ∙ ap (λ (z : Bool). z || leb mostWords (t .held .words) || t .closed) (sym (ne-eqb _ _ n))
 
   pub done-closed : t .closed ≡ true → done t ≡ true
-  done-closed e = or-true (atEnd t) (t .closed) e
+  done-closed e = or-true-right (atEnd t) (t .closed) e
 
   pub still-open : (r : Bool) → r ≡ done t → r ≡ false → t .closed ≡ false
   still-open r e f = or-false (atEnd t) (t .closed) (sym e ∙ f) .1

@@ -17,11 +17,10 @@ use lib.ListN.{length, take, getD, set, length-append}
 use lib.Seq.{take-all, take-suc, take-suc-set, take-append-seam, length-take-le}
 use borrow.Author.Tests.{eq-eqb, ne-eqb}
 use Rattle.basics.specs.Lists.{put}
-use Rattle.basics.specs.Lists.Laws.{put-none, put-put}
+use Rattle.basics.specs.Lists.Laws.{put-none, put-put, put-next}
 use Rattle.columns.specs.Column.{columnOf}
 use Rattle.columns.specs.Column.Laws.{column-length}
 use Rattle.fsbm.specs.declared.machine.Machine.{Machine}
-use Rattle.lines.proofs.LineCases.{set-put}
 use Rattle.lines.specs.declared.Answer.{Answer}
 use Rattle.lines.specs.Line.{lineAnswer, answerLine}
 use Rattle.sheet.specs.declared.read.Sheet.{Sheet}
@@ -42,7 +41,7 @@ module _ (bytes l out : List ℕ) (i : ℕ) (fits : length bytes ≤ length l) (
   copied-more h =
       ap (λ (z : List ℕ). set z i (getD bytes i 0)) so-far
       ∙ (ap (λ (z : ℕ). set (put 0 l (take i bytes)) z (getD bytes i 0)) at-i
-      ∙ (set-put 0 l (take i bytes) (omega arith) (getD bytes i 0) inside
+      ∙ (put-next 0 l (take i bytes) (getD bytes i 0) inside
       ∙ (ap (put 0 l) (sym (take-suc bytes i 0 h)) ∙ ap (λ (z : ℕ). put 0 l (take z bytes)) (sym (add-one i)))))
     where
       long : length (take i bytes) ≡ i
@@ -62,7 +61,7 @@ unfolding refusedSheet sheetRefused
 refused-written l o₁ o₂ n fits e₁ e₂ =
     ap (λ (z : List ℕ). set z 18 10) two
     ∙ (ap (λ (z : ℕ). set (put 0 l (sheetRefused ++ columnOf 5 n)) z 10) at
-    ∙ set-put 0 l (sheetRefused ++ columnOf 5 n) (omega arith) 10 inside)
+    ∙ put-next 0 l (sheetRefused ++ columnOf 5 n) 10 inside)
   where
     five : length (columnOf 5 n) ≡ 5
     five = column-length 5 n

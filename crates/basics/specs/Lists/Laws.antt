@@ -3,6 +3,7 @@
 -- put-none, put-zero   == nothing is put; a part is put at the front
 -- put-length           == the list stays as long as it was
 -- put-put              == a part, and then another behind it, are the two put as one
+-- put-next             == a store behind a part that was put makes it longer
 -- put-one, put-three   == one store, and three stores in a row, put a part
 -- set-cases            == what holds of the element that is stored, and of the others as they were, holds of all
 -- set-next             == the same of the elements up to the one that is stored
@@ -53,6 +54,10 @@ module _ {A : Type 0} where
   pub put-one : (l : List A) (i : ℕ) (a : A) → i < length l → set l i a ≡ put i l (a ∷ [])
   unfolding put
   put-one l i a h = sets-eq (a ∷ []) l i (omega arith)
+
+  pub put-next : (at : ℕ) (l a : List A) (x : A) → at + length a < length l → set (put at l a) (at + length a) x ≡ put at l (a ++ (x ∷ []))
+  put-next at l a x h =
+      put-one (put at l a) (at + length a) x (let z = put-length at l a (omega arith) in omega arith) ∙ put-put at (at + length a) l a (x ∷ []) refl (omega arith)
 
   pub put-three : (l : List A) (i : ℕ) (a b c : A) → i + 3 ≤ length l → set (set (set l i a) (i + 1) b) (i + 2) c ≡ put i l (a ∷ b ∷ c ∷ [])
   unfolding put

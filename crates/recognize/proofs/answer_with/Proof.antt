@@ -8,35 +8,27 @@ use borrow.Author.Needs.{needs}
 use Rattle.recognize.proofs.answer_with.Statement.{statement}
 use Rattle.recognize.proofs.answer_with.Tie as tie
 
--- src/lib.rt:51:9
 kinds-of-requires : tie.Need-kinds-of-requires
 kinds-of-requires c κs = rules ((c .before .before .before .before .before .before) .args .t1) (((c .before .before .before .before .before .before) .args .list) .now) (table-good 255 ((c .before .before .before .before .before .before) .args .t1) (((c .before .before .before .before .before .before) .args .list) .now) (((c .before .before .before .before .before .before) .args .word) .now) (((c .before .before .before .before .before .before) .pre) .0) .0) .states-fit
 
--- src/lib.rt:52:9
 reach-requires : tie.Need-reach-requires
 reach-requires c κs = (((c .before .before .before .before .before .before .before .before) .pre) .0, ((c .before .before .before .before .before .before .before .before) .pre) .3, ((c .before .before .before .before .before .before .before .before) .pre) .4, ((c .before) .kinds-of .ensures))
 
--- src/lib.rt:54:9
 same-length : tie.Need-same-length
 same-length c = search needs
 
--- src/lib.rt:54:9
 returns : tie.Need-returns
 returns c = says-no ((c .before .before .before .before .before .before .before .before .before .before .before .before .before) .args .t1) (((c .before .before .before .before .before .before .before .before .before .before .before .before .before) .args .list) .now) (((c .before .before .before .before .before .before .before .before .before .before .before .before .before) .args .word) .now) (((c .before .before .before .before .before .before .before .before .before .before .before .before .before) .args .run) .now) _ refl (((c .before .before .before .before .before .before .before .before .before .before .before .before .before) .pre) .0) (omega (arith, ((c .before .before .before .before .before .before .before .before .before .before .before .before .before) .pre) .1, ((c .before .before .before .before .before .before .before .before .before .before .before .before .before) .pre) .2)) (sym (not-true _ ((c) .if1 .taken)) ∙ ((c .before .before .before .before) .reach .ensures) .0)
 
--- src/lib.rt:56:9
 write-run-requires : tie.Need-write-run-requires
 write-run-requires c κs = (table-good 255 ((c .before .before .before .before .before .before .before .before .before .before .before .before .before .before .before) .args .t1) (((c .before .before .before .before .before .before .before .before .before .before .before .before .before .before .before) .args .list) .now) (((c .before .before .before .before .before .before .before .before .before .before .before .before .before .before .before) .args .word) .now) (((c .before .before .before .before .before .before .before .before .before .before .before .before .before .before .before) .pre) .0) .0, table-good 255 ((c .before .before .before .before .before .before .before .before .before .before .before .before .before .before .before) .args .t1) (((c .before .before .before .before .before .before .before .before .before .before .before .before .before .before .before) .args .list) .now) (((c .before .before .before .before .before .before .before .before .before .before .before .before .before .before .before) .args .word) .now) (((c .before .before .before .before .before .before .before .before .before .before .before .before .before .before .before) .pre) .0) .1, sym (((c .before .before .before .before .before .before) .reach .ensures) .0) ∙ not-false _ ((c .before .before) .if1 .left), omega (arith, ((c .before .before .before .before .before .before .before .before .before .before .before .before .before .before .before) .pre) .1, ((c .before .before .before .before .before .before .before .before .before .before .before .before .before .before .before) .pre) .2), ((c .before .before .before .before .before .before .before .before) .kinds-of .ensures), ((c .before .before .before .before .before .before) .reach .ensures) .2, ((c .before .before .before .before .before .before) .reach .ensures) .1)
 
--- src/lib.rt:39:1
 same-length-2 : tie.Need-same-length-2
 same-length-2 c = search needs
 
--- src/lib.rt:39:1
 same-length-3 : tie.Need-same-length-3
 same-length-3 c = search needs
 
--- src/lib.rt:39:1
 returns-2 : tie.Need-returns-2
 returns-2 c = let written = fewest-front ((c .before .before .before .before .before .before .before .before .before .before .before .before .before .before .before .before .before .before) .args .t1) (((c .before .before .before .before .before .before .before .before .before .before .before .before .before .before .before .before .before .before) .args .list) .now) (((c .before .before .before .before .before .before .before .before .before .before .before .before .before .before .before .before .before .before) .args .word) .now) (((c .before .before .before .before .before .before .before .before .before .before .before .before .before .before .before .before .before .before) .args .run) .now) _ _ (sym (((c .before .before .before .before .before .before .before .before .before) .reach .ensures) .0) ∙ not-false _ ((c .before .before .before .before .before) .if1 .left)) ((c .before .before) .write-run .ensures) in says-yes ((c .before .before .before .before .before .before .before .before .before .before .before .before .before .before .before .before .before .before) .args .t1) (((c .before .before .before .before .before .before .before .before .before .before .before .before .before .before .before .before .before .before) .args .list) .now) (((c .before .before .before .before .before .before .before .before .before .before .before .before .before .before .before .before .before .before) .args .word) .now) (((c .before .before .before .before .before .before .before .before .before .before .before .before .before .before .before .before .before .before) .args .run) .now) _ refl (((c .before .before .before .before .before .before .before .before .before .before .before .before .before .before .before .before .before .before) .pre) .0) (omega (arith, ((c .before .before .before .before .before .before .before .before .before .before .before .before .before .before .before .before .before .before) .pre) .1, ((c .before .before .before .before .before .before .before .before .before .before .before .before .before .before .before .before .before .before) .pre) .2)) (sym (not-false _ ((c .before .before .before .before .before) .if1 .left)) ∙ ((c .before .before .before .before .before .before .before .before .before) .reach .ensures) .0) _ ((c .before .before) .write-run .result) (written .fits) (written .bounded) (written .front) (written .accepts)
 
