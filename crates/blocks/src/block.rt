@@ -21,6 +21,7 @@ use crate::sizes::MOST_READERS;
 use crate::sizes::MOST_STATES;
 use crate::sizes::NOTHING;
 use fsbm::machine::Machine;
+use stateset::StateSet;
 
 // The first row from k on, below n, that has a mark; n or more where there is none.
 fn scan(d: &[u64; MOST_STATES], k: usize, n: usize) -> usize
@@ -55,8 +56,8 @@ fn work(
     list: &[u16],
     index: &[u16; MOST_KEYS],
     readers: &[u64; MOST_READERS],
-    g: u64,
-    h: u64,
+    g: StateSet,
+    h: StateSet,
     b: &mut [u64; MOST_PAIRS],
     d: &mut [u64; MOST_STATES],
     p: &mut [u64; MOST_STATES],
@@ -113,7 +114,7 @@ fn begin(
 fn begin_all(
     b: &mut [u64; MOST_PAIRS],
     d: &mut [u64; MOST_STATES],
-    set: u64,
+    set: StateSet,
     guess: usize,
     costs: &[u64; MOST_STATES],
     top: u64,
@@ -147,10 +148,10 @@ pub fn block_by(
     list: &[u16],
     index: &[u16; MOST_KEYS],
     readers: &[u64; MOST_READERS],
-    g: u64,
-    h: u64,
+    g: StateSet,
+    h: StateSet,
     guess: usize,
-    set: u64,
+    set: StateSet,
     costs: &[u64; MOST_STATES],
     b: &mut [u64; MOST_PAIRS],
     top: u64,
@@ -172,10 +173,10 @@ pub fn block(
     m: Machine,
     list: &[u16],
     index: &[u16; MOST_KEYS],
-    g: u64,
-    h: u64,
+    g: StateSet,
+    h: StateSet,
     guess: usize,
-    set: u64,
+    set: StateSet,
     costs: &[u64; MOST_STATES],
     b: &mut [u64; MOST_PAIRS],
 )

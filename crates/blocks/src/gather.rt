@@ -8,6 +8,7 @@ ghost use Rattle.blocks.specs.Gathered.{Adding, Pick, Reach, Far, From, 
 use crate::sizes::MOST_KEYS;
 use crate::sizes::MOST_PAIRS;
 use crate::sizes::MOST_STATES;
+use stateset::StateSet;
 
 // The same number as an index.
 pub fn wide(x: u16) -> usize
@@ -93,7 +94,7 @@ pub fn gather(
     may: u64,
     b: &[u64; MOST_PAIRS],
     s: usize,
-    set: u64,
+    set: StateSet,
     p: &mut [u64; MOST_STATES],
     top: u64,
 ) -> u64
@@ -134,7 +135,13 @@ fn near(may: u64, p: &mut [u64; MOST_STATES], got: u64, t: usize, v: u64, top: u
 }
 
 // For each state of the set: its number in row s, if it is less than top, and 1 more. The states that have a number then.
-pub fn stay(b: &[u64; MOST_PAIRS], s: usize, set: u64, p: &mut [u64; MOST_STATES], top: u64) -> u64
+pub fn stay(
+    b: &[u64; MOST_PAIRS],
+    s: usize,
+    set: StateSet,
+    p: &mut [u64; MOST_STATES],
+    top: u64,
+) -> u64
     requires { ⌜ length (now p) ≡ 64 ⌝ }
     requires { ⌜ (s < 64) × (top ≤ nothing) ⌝ }
     ensures { λ r. ⌜ Adding (Stay top (now (b .entry)) s (In «set»)) (now (p .entry)) 0 (now (p .exit)) r ⌝ }

@@ -8,9 +8,10 @@ ghost use Rattle.blocks.specs.Works.{Kind};
 ghost use Rattle.blocks.specs.Readers.{Noted, Readers};
 use crate::sizes::MOST_READERS;
 use fsbm::machine::Machine;
+use stateset::StateSet;
 
 // Adds the state that transition k leaves to the set of its letter, if both its ends are members of h.
-fn note(list: &[u16], k: usize, h: u64, sets: &mut [u64; MOST_READERS])
+fn note(list: &[u16], k: usize, h: StateSet, sets: &mut [u64; MOST_READERS])
     requires { ⌜ (k * 3 + 3 ≤ length (now list)) × (transitionAt (now list) k .letter < 251) × (length (now sets) ≡ 251) ⌝ }
     ensures { λ r. ⌜ Noted (now (list .entry)) k h (now (sets .entry)) (now (sets .exit)) ⌝ }
 {
@@ -27,7 +28,7 @@ fn note(list: &[u16], k: usize, h: u64, sets: &mut [u64; MOST_READERS])
 
 // For each letter the matching states that a transition leaves by it to a matching state. h has the matching states.
 // Time: the transitions, each once.
-pub fn readers(m: Machine, list: &[u16], h: u64) -> [u64; MOST_READERS]
+pub fn readers(m: Machine, list: &[u16], h: StateSet) -> [u64; MOST_READERS]
     requires { ⌜ (wellFormed m (now list) ≡ true) × Kind (matching (m .marks)) h ⌝ }
     ensures { λ r. ⌜ Readers m (now (list .entry)) r ⌝ }
 {

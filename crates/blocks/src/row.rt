@@ -19,9 +19,10 @@ use crate::sizes::MOST_READERS;
 use crate::sizes::MOST_STATES;
 use crate::sizes::PAIR;
 use fsbm::machine::Machine;
+use stateset::StateSet;
 
 // The states that a storing move from s may enter: g has the buffering states, h the matching states.
-fn storable(m: Machine, g: u64, h: u64, s: usize) -> u64
+fn storable(m: Machine, g: StateSet, h: StateSet, s: usize) -> u64
     requires { ⌜ Kind (buffering (m .marks)) g × Kind (matching (m .marks)) h ⌝ }
     ensures { λ r. ⌜ Storable m s r ⌝ }
 {
@@ -40,11 +41,11 @@ fn moved(
     index: &[u16; MOST_KEYS],
     stride: usize,
     x: usize,
-    h: u64,
+    h: StateSet,
     read: u64,
     b: &[u64; MOST_PAIRS],
     s: usize,
-    set: u64,
+    set: StateSet,
     p: &mut [u64; MOST_STATES],
     top: u64,
 ) -> u64
@@ -66,11 +67,11 @@ fn alone(
     list: &[u16],
     index: &[u16; MOST_KEYS],
     readers: &[u64; MOST_READERS],
-    h: u64,
+    h: StateSet,
     b: &mut [u64; MOST_PAIRS],
     d: &mut [u64; MOST_STATES],
     s: usize,
-    set: u64,
+    set: StateSet,
     p: &mut [u64; MOST_STATES],
     top: u64,
 )
@@ -90,12 +91,12 @@ fn group(
     list: &[u16],
     index: &[u16; MOST_KEYS],
     readers: &[u64; MOST_READERS],
-    h: u64,
+    h: StateSet,
     may: u64,
     b: &mut [u64; MOST_PAIRS],
     d: &mut [u64; MOST_STATES],
     s: usize,
-    set: u64,
+    set: StateSet,
     lo: usize,
     p: &mut [u64; MOST_STATES],
     top: u64,
@@ -120,12 +121,12 @@ fn groups(
     list: &[u16],
     index: &[u16; MOST_KEYS],
     readers: &[u64; MOST_READERS],
-    h: u64,
+    h: StateSet,
     may: u64,
     b: &mut [u64; MOST_PAIRS],
     d: &mut [u64; MOST_STATES],
     s: usize,
-    set: u64,
+    set: StateSet,
     lo: usize,
     end: usize,
     p: &mut [u64; MOST_STATES],
@@ -150,12 +151,12 @@ pub fn row(
     list: &[u16],
     index: &[u16; MOST_KEYS],
     readers: &[u64; MOST_READERS],
-    g: u64,
-    h: u64,
+    g: StateSet,
+    h: StateSet,
     b: &mut [u64; MOST_PAIRS],
     d: &mut [u64; MOST_STATES],
     s: usize,
-    set: u64,
+    set: StateSet,
     p: &mut [u64; MOST_STATES],
     top: u64,
 )

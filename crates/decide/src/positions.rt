@@ -19,11 +19,12 @@ use fsbm::config::Mode;
 use fsbm::limits::POSITIONS;
 use fsbm::machine::Machine;
 use images::Kinds;
+use stateset::StateSet;
 
 // The reached set of each position of a word, one for each position 0 to 255, and whether a state of the last is final: no before that is
 // known.
 pub struct Reached {
-    pub sets: [u64; POSITIONS],
+    pub sets: [StateSet; POSITIONS],
     pub accepted: bool,
 }
 
@@ -32,15 +33,15 @@ pub struct Reached {
 // Time: one step of a set for each letter up to last, and one for each letter that is read for a matching half. All matching halves
 // read the letters from i on: where the same states turn to matching as did last, the matching half goes on from where the last ended.
 fn copies_from(
-    targets: &[u64],
+    targets: &[StateSet],
     states: usize,
-    g: u64,
-    h: u64,
+    g: StateSet,
+    h: StateSet,
     word: &[u8],
     ends: &mut [u8; POSITIONS],
-    sets: &mut [u64; POSITIONS],
+    sets: &mut [StateSet; POSITIONS],
     i: usize,
-    starts: u64,
+    starts: StateSet,
     last: usize,
 )
     requires { ⌜ Good (now targets) states g h × Rooms (now targets) states (now word) × (i ≤ length (now word)) × (length (now word) ≤ 255) × RepeatEnds (now word) (now ends) (λ d. i + d) × Fitting 256 (now sets) × LastSquare (now word) i last ⌝ }
@@ -72,13 +73,13 @@ fn copies_from(
 
 // Completes the set of position i and adds what it reaches at later positions.
 fn pass_position(
-    targets: &[u64],
+    targets: &[StateSet],
     states: usize,
-    g: u64,
-    h: u64,
+    g: StateSet,
+    h: StateSet,
     word: &[u8],
     ends: &mut [u8; POSITIONS],
-    sets: &mut [u64; POSITIONS],
+    sets: &mut [StateSet; POSITIONS],
     i: usize,
 )
     requires { ⌜ Good (now targets) states g h × Rooms (now targets) states (now word) × (i ≤ length (now word)) × (length (now word) ≤ 255) × RepeatEnds (now word) (now ends) (λ d. i + d) × Fitting 256 (now sets) ⌝ }
@@ -109,10 +110,10 @@ fn pass_position(
 }
 
 // The sets at the start of a word: the initial states at position 0.
-fn start_at(initial: u64) -> Reached
+fn start_at(initial: StateSet) -> Reached
     ensures { λ r. ⌜ ((G : Graph) (w : List ℕ) → Stage G w initial (r .sets) 0) ⌝ }
 {
-    let mut sets: [u64; POSITIONS] = [0; POSITIONS];
+    let mut sets: [StateSet; POSITIONS] = [0; POSITIONS];
     sets[0] = initial;
     Reached {
         sets: sets,
@@ -122,12 +123,12 @@ fn start_at(initial: u64) -> Reached
 
 // Completes the sets of all positions of a word, from those at its start.
 fn reach_all(
-    targets: &[u64],
+    targets: &[StateSet],
     states: usize,
-    g: u64,
-    h: u64,
+    g: StateSet,
+    h: StateSet,
     word: &[u8],
-    sets: &mut [u64; POSITIONS],
+    sets: &mut [StateSet; POSITIONS],
 )
     requires { ⌜ Good (now targets) states g h × Rooms (now targets) states (now word) × (length (now word) ≤ 255) × Fitting 256 (now sets) ⌝ }
     ensures { λ r. ⌜ ((q : ℕ) → Stage (graph (now (targets .entry)) states g h) (now (word .entry)) q (now (sets .entry)) 0
@@ -149,7 +150,7 @@ fn reach_all(
 // letter of its matching half, those not counted again that the square before it has read from the same states. Finding the squares
 // compares at most n² letters in all.
 // Memory: the 256 sets (2 KB) and 256 bytes.
-pub fn decide(m: Machine, list: &[u16], targets: &[u64], kinds: Kinds, word: &[u8]) -> Reached
+pub fn decide(m: Machine, list: &[u16], targets: &[StateSet], kinds: Kinds, word: &[u8]) -> Reached
     requires { ⌜ (wellFormed m (now list) ≡ true) × (length (now word) ≤ 255) × Prepared m (now list) (now word) (now targets) × KindsOf (m .marks) (m .states) kinds ⌝ }
     ensures { λ r. ⌜ (r .accepted ≡ accepted m (now (list .entry)) (now (word .entry))) × Covers m (now (list .entry)) (now (word .entry)) (r .sets) ⌝ }
 {

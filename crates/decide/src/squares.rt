@@ -6,6 +6,7 @@ ghost use lib.ListN.{length};
 ghost use Rattle.decide.specs.Reach.{LastSquare};
 ghost use Rattle.decide.specs.Squares.{RunEnd, RepeatEnds, RepeatEndsAt, Ended, Squared, Turning};
 use fsbm::limits::POSITIONS;
+use stateset::StateSet;
 
 // The first position from q up to stop where the letter is not the one d positions before it; stop where there is none.
 fn run_end(word: &[u8], d: usize, q: usize, stop: usize) -> usize
@@ -76,7 +77,14 @@ pub fn last_square(word: &[u8], ends: &mut [u8; POSITIONS], i: usize) -> usize
 }
 
 // The states of s with which storing ends at j, where the letters from i up to j stand once more from j on.
-pub fn turning(h: u64, word: &[u8], ends: &mut [u8; POSITIONS], i: usize, j: usize, s: u64) -> u64
+pub fn turning(
+    h: StateSet,
+    word: &[u8],
+    ends: &mut [u8; POSITIONS],
+    i: usize,
+    j: usize,
+    s: StateSet,
+) -> StateSet
     requires { ⌜ (i < j) × (j + (j - i) ≤ length (now word)) × (length (now word) ≤ 255) × RepeatEndsAt (now word) (now ends) (j - i) j ⌝ }
     ensures { λ r. ⌜ Turning h (now (word .entry)) (now (ends .entry)) (now (ends .exit)) i j s r ⌝ }
 {

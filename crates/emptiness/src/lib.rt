@@ -11,19 +11,20 @@ ghost use Rattle.images.specs.Graph.{KindsOf};
 ghost use Rattle.emptiness.specs.Reached.{WithNext, Moved, Apart, Changed, Passed, Same};
 use fsbm::machine::Machine;
 use images::Kinds;
+use stateset::StateSet;
 
 // The passes after which the test gives up: more than the sets can take that grow by a state in each.
 const PASSES: usize = 200;
 
 // States in each mode.
 pub struct Reached {
-    pub normal: u64,
-    pub buffering: u64,
-    pub emptying: u64,
+    pub normal: StateSet,
+    pub buffering: StateSet,
+    pub emptying: StateSet,
 }
 
 // The set with q, if p is in it and the way is not barred.
-fn with_next(set: u64, barred: bool, p: usize, q: usize) -> u64
+fn with_next(set: StateSet, barred: bool, p: usize, q: usize) -> StateSet
     ensures { λ r. ⌜ WithNext «set» barred p q r ⌝ }
 {
     if barred {
@@ -36,7 +37,7 @@ fn with_next(set: u64, barred: bool, p: usize, q: usize) -> u64
 }
 
 // The sets with q where a transition from p to q leads there, not both of them matching states.
-fn apart(g: u64, p: usize, q: usize, s: Reached) -> Reached
+fn apart(g: StateSet, p: usize, q: usize, s: Reached) -> Reached
     ensures { λ r. ⌜ Apart g p q s r ⌝ }
 {
     Reached {
@@ -47,7 +48,7 @@ fn apart(g: u64, p: usize, q: usize, s: Reached) -> Reached
 }
 
 // The sets with q where a transition from p to q leads there. g has the buffering states, h the matching states.
-fn moved(g: u64, h: u64, p: usize, q: usize, s: Reached) -> Reached
+fn moved(g: StateSet, h: StateSet, p: usize, q: usize, s: Reached) -> Reached
     ensures { λ r. ⌜ Moved g h p q s r ⌝ }
 {
     if !stateset::member(h, p) {
@@ -64,7 +65,7 @@ fn moved(g: u64, h: u64, p: usize, q: usize, s: Reached) -> Reached
 }
 
 // The same for transition k of the list.
-fn with_move(list: &[u16], k: usize, g: u64, h: u64, s: Reached) -> Reached
+fn with_move(list: &[u16], k: usize, g: StateSet, h: StateSet, s: Reached) -> Reached
     requires { ⌜ k * 3 + 3 ≤ length (now list) ⌝ }
     ensures { λ r. ⌜ Moved g h (transitionAt (now (list .entry)) k .from) (transitionAt (now (list .entry)) k .to) s r ⌝ }
 {
@@ -72,7 +73,7 @@ fn with_move(list: &[u16], k: usize, g: u64, h: u64, s: Reached) -> Reached
 }
 
 // The sets with the states that a change of mode leads to.
-fn with_changes(g: u64, h: u64, s: Reached) -> Reached
+fn with_changes(g: StateSet, h: StateSet, s: Reached) -> Reached
     ensures { λ r. ⌜ Changed g h s r ⌝ }
 {
     Reached {
@@ -83,7 +84,7 @@ fn with_changes(g: u64, h: u64, s: Reached) -> Reached
 }
 
 // The sets with the states that one move leads to: the changes of mode, and the first n transitions of the list in turn.
-fn pass(list: &[u16], n: usize, g: u64, h: u64, s: Reached) -> Reached
+fn pass(list: &[u16], n: usize, g: StateSet, h: StateSet, s: Reached) -> Reached
     requires { ⌜ n * 3 ≤ length (now list) ⌝ }
     ensures { λ r. ⌜ Passed (now (list .entry)) n g h s r ⌝ }
 {

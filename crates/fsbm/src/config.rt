@@ -11,9 +11,9 @@ use crate::answer;
 use crate::answer::Refusal;
 use crate::answer::Stepped;
 use crate::limits::LONGEST_CHECKED;
-use crate::limits::MAX_STATES;
 use crate::machine;
 use crate::machine::Machine;
+use crate::machine::Marks;
 use crate::machine::Transition;
 
 // The entry that begins storing.
@@ -77,7 +77,7 @@ fn advance(p: usize, x: u16) -> usize
 }
 
 // Whether neither both ends of a transition are matching nor the state q is buffering.
-fn is_open(both: bool, marks: &[u8; MAX_STATES], q: usize) -> bool
+fn is_open(both: bool, marks: &Marks, q: usize) -> bool
     ensures { λ r. ⌜ r ≡ (not both && not (buffering (now (marks .entry)) q)) ⌝ }
 {
     if both {
@@ -87,7 +87,7 @@ fn is_open(both: bool, marks: &[u8; MAX_STATES], q: usize) -> bool
 }
 
 // Whether the marks at its ends let a transition be taken in a mode.
-fn passes(mode: Mode, marks: &[u8; MAX_STATES], t: Transition) -> bool
+fn passes(mode: Mode, marks: &Marks, t: Transition) -> bool
     ensures { λ r. ⌜ r ≡ passes (now (marks .entry)) t mode ⌝ }
 {
     let both = machine::both_matching(marks, t);
@@ -113,7 +113,7 @@ impl Config {
     }
 
     // Whether a run on a word of n letters accepts here: final, normal, the buffer empty, the word read to its end.
-    pub fn is_accepting(self, marks: &[u8; MAX_STATES], n: usize) -> bool
+    pub fn is_accepting(self, marks: &Marks, n: usize) -> bool
         ensures { λ r. ⌜ r ≡ accepts (now (marks .entry)) n self ⌝ }
     {
         if !machine::is_final(marks, self.state) {
@@ -185,7 +185,7 @@ impl Config {
     }
 
     // Whether a transition leaves this state and may be taken here.
-    pub fn may_take(self, marks: &[u8; MAX_STATES], word: &[u8], t: Transition) -> bool
+    pub fn may_take(self, marks: &Marks, word: &[u8], t: Transition) -> bool
         ensures { λ r. ⌜ r ≡ mayTake (now (marks .entry)) (now (word .entry)) self t ⌝ }
     {
         if t.from as usize != self.state {
@@ -233,7 +233,7 @@ impl Config {
     }
 
     // An entry that changes the mode.
-    pub fn change_mode(self, marks: &[u8; MAX_STATES], entry: u16) -> Move
+    pub fn change_mode(self, marks: &Marks, entry: u16) -> Move
         ensures { λ r. ⌜ r ≡ changes (now (marks .entry)) self entry (self .mode) ⌝ }
     {
         let mode = self.mode;
@@ -245,7 +245,7 @@ impl Config {
     }
 
     // An entry in normal mode: it begins storing at a buffering state, where the buffer is empty.
-    fn begin_buffering(self, marks: &[u8; MAX_STATES], entry: u16) -> Move
+    fn begin_buffering(self, marks: &Marks, entry: u16) -> Move
         ensures { λ r. ⌜ r ≡ changes (now (marks .entry)) self entry Normal ⌝ }
     {
         if entry != BEGIN_BUFFERING {
@@ -270,7 +270,7 @@ impl Config {
     }
 
     // An entry in buffering mode: it begins matching at a matching state.
-    fn begin_emptying(self, marks: &[u8; MAX_STATES], entry: u16) -> Move
+    fn begin_emptying(self, marks: &Marks, entry: u16) -> Move
         ensures { λ r. ⌜ r ≡ changes (now (marks .entry)) self entry Buffering ⌝ }
     {
         if entry != BEGIN_EMPTYING {
@@ -292,7 +292,7 @@ impl Config {
     }
 
     // An entry in emptying mode: it goes back to normal at a matching state, where the buffer is empty.
-    fn back_to_normal(self, marks: &[u8; MAX_STATES], entry: u16) -> Move
+    fn back_to_normal(self, marks: &Marks, entry: u16) -> Move
         ensures { λ r. ⌜ r ≡ changes (now (marks .entry)) self entry Emptying ⌝ }
     {
         if entry != BACK_TO_NORMAL {
@@ -321,7 +321,7 @@ impl Config {
         self,
         states: usize,
         transitions: usize,
-        marks: &[u8; MAX_STATES],
+        marks: &Marks,
         list: &[u16],
         word: &[u8],
         entry: u16,

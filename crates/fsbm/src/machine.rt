@@ -13,6 +13,9 @@ use crate::limits::MAX_LETTERS;
 use crate::limits::MAX_STATES;
 use crate::limits::MAX_TRANSITIONS;
 
+// For each state a sum of 1 (initial), 2 (final), 4 (buffering) and 8 (matching); 0 past the last state.
+pub type Marks = [u8; MAX_STATES];
+
 // A finite-state buffered machine without its transitions, which stand in a lent list (document 01: a table's record).
 #[repr(C)]
 pub struct Machine {
@@ -21,8 +24,7 @@ pub struct Machine {
     // Letters are numbered from 1; 0 in a transition is epsilon.
     pub letters: usize,
     pub transitions: usize,
-    // For each state a sum of 1 (initial), 2 (final), 4 (buffering) and 8 (matching).
-    pub marks: [u8; MAX_STATES],
+    pub marks: Marks,
 }
 
 // One transition of the lent list.
@@ -33,7 +35,7 @@ pub struct Transition {
 }
 
 // The mark of state q; 0 where q is no state of any machine.
-pub fn mark(marks: &[u8; MAX_STATES], q: usize) -> u8
+pub fn mark(marks: &Marks, q: usize) -> u8
     ensures { λ r. ⌜ r ≡ markOf (now (marks .entry)) q ⌝ }
 {
     if q < MAX_STATES {
@@ -43,35 +45,35 @@ pub fn mark(marks: &[u8; MAX_STATES], q: usize) -> u8
 }
 
 // Whether a run may start in state q.
-pub fn is_initial(marks: &[u8; MAX_STATES], q: usize) -> bool
+pub fn is_initial(marks: &Marks, q: usize) -> bool
     ensures { λ r. ⌜ r ≡ initial (now (marks .entry)) q ⌝ }
 {
     mark(marks, q) % 2 == 1
 }
 
 // Whether a run may end in state q.
-pub fn is_final(marks: &[u8; MAX_STATES], q: usize) -> bool
+pub fn is_final(marks: &Marks, q: usize) -> bool
     ensures { λ r. ⌜ r ≡ final (now (marks .entry)) q ⌝ }
 {
     mark(marks, q) / 2 % 2 == 1
 }
 
 // Whether storing begins in state q.
-pub fn is_buffering(marks: &[u8; MAX_STATES], q: usize) -> bool
+pub fn is_buffering(marks: &Marks, q: usize) -> bool
     ensures { λ r. ⌜ r ≡ buffering (now (marks .entry)) q ⌝ }
 {
     mark(marks, q) / 4 % 2 == 1
 }
 
 // Whether state q matches stored letters.
-pub fn is_matching(marks: &[u8; MAX_STATES], q: usize) -> bool
+pub fn is_matching(marks: &Marks, q: usize) -> bool
     ensures { λ r. ⌜ r ≡ matching (now (marks .entry)) q ⌝ }
 {
     mark(marks, q) / 8 % 2 == 1
 }
 
 // Whether both ends of a transition are matching states: such a transition is taken only in emptying mode.
-pub fn both_matching(marks: &[u8; MAX_STATES], t: Transition) -> bool
+pub fn both_matching(marks: &Marks, t: Transition) -> bool
     ensures { λ r. ⌜ r ≡ bothMatching (now (marks .entry)) t ⌝ }
 {
     if is_matching(marks, t.from as usize) {
@@ -132,7 +134,7 @@ fn states_for(q: u8, v: u8) -> u8
 
 // Whether the marks of all 64 states obey the rules: at most 15, never buffering and matching together (so at most 11), 0 past the
 // last state. The loop has no early exit, so that many marks can be tested at once.
-fn good_marks(states: usize, marks: &[u8; MAX_STATES]) -> bool
+fn good_marks(states: usize, marks: &Marks) -> bool
     ensures { λ r. ⌜ ((m : Machine) → m .states ≡ states → m .marks ≡ now (marks .entry) → r ≡ allBelow maxStates (goodMark m)) ⌝ }
 {
     let mut largest: u8 = 0;

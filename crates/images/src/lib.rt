@@ -12,11 +12,12 @@ ghost use Rattle.stateset.specs.Set.{width, In};
 ghost use Rattle.fsbm.specs.declared.config.Mode.the-variants.{Normal, Buffering, Emptying};
 ghost use Rattle.images.specs.Graph.{Members, From, Star, graph, RowEdge, Edge, Free, Advance, EmptyCopy, Turn, Room, Good, KindsOf};
 use fsbm::config::Mode;
-use fsbm::limits::MAX_STATES;
 use fsbm::machine;
+use fsbm::machine::Marks;
+use stateset::StateSet;
 
 // The set with q if yes, else the set.
-pub fn add_if(set: u64, q: usize, yes: bool) -> u64
+pub fn add_if(set: StateSet, q: usize, yes: bool) -> StateSet
     ensures { λ r. ⌜ Members r (λ p. In set p ⊎ ((p ≡ q) × (p < width) × (yes ≡ true))) ⌝ }
 {
     if yes {
@@ -26,7 +27,7 @@ pub fn add_if(set: u64, q: usize, yes: bool) -> u64
 }
 
 // The set with q where its mark has this bit: 0 initial, 1 final, 2 buffering, 3 matching.
-fn add_marked(set: u64, q: usize, mark: usize, bit: usize) -> u64
+fn add_marked(set: StateSet, q: usize, mark: usize, bit: usize) -> StateSet
     requires { ⌜ bit < 4 ⌝ }
     ensures { λ r. ⌜ Members r (λ p. In set p ⊎ ((p ≡ q) × (p < width) × (eqb (mark / 2 ^ bit % 2) 1 ≡ true))) ⌝ }
 {
@@ -35,14 +36,14 @@ fn add_marked(set: u64, q: usize, mark: usize, bit: usize) -> u64
 
 // The states of each kind.
 pub struct Kinds {
-    pub initial: u64,
-    pub finals: u64,
-    pub buffering: u64,
-    pub matching: u64,
+    pub initial: StateSet,
+    pub finals: StateSet,
+    pub buffering: StateSet,
+    pub matching: StateSet,
 }
 
 // The states of each kind by their marks. Time: the states, each once.
-pub fn kinds_of(marks: &[u8; MAX_STATES], states: usize) -> Kinds
+pub fn kinds_of(marks: &Marks, states: usize) -> Kinds
     requires { ⌜ states ≤ width ⌝ }
     ensures { λ r. ⌜ KindsOf (now (marks .entry)) states r ⌝ }
 {
@@ -83,7 +84,7 @@ fn row_of(states: usize, x: u8) -> usize
 }
 
 // The union of what a row of the table has for the states of a set.
-fn row_union(targets: &[u64], row: usize, states: usize, set: u64) -> u64
+fn row_union(targets: &[StateSet], row: usize, states: usize, set: StateSet) -> StateSet
     requires { ⌜ (states ≤ width) × (row + states ≤ length (now targets)) ⌝ }
     ensures { λ r. ⌜ Members r (From set (λ p q. (p < states) × In (getD (now (targets .entry)) (row + p) 0) q)) ⌝ }
 {
@@ -99,7 +100,14 @@ fn row_union(targets: &[u64], row: usize, states: usize, set: u64) -> u64
 
 // The image of a set under the normal moves by the letter whose row begins there: those of a buffering state may not be taken, and
 // those of a matching state do not lead to a matching state.
-fn step_normal(targets: &[u64], row: usize, states: usize, g: u64, h: u64, set: u64) -> u64
+fn step_normal(
+    targets: &[StateSet],
+    row: usize,
+    states: usize,
+    g: StateSet,
+    h: StateSet,
+    set: StateSet,
+) -> StateSet
     requires { ⌜ (states ≤ width) × (row + states ≤ length (now targets)) ⌝ }
     ensures { λ r. ⌜ Members r (From set (RowEdge (now (targets .entry)) row states g h Normal)) ⌝ }
 {
@@ -110,7 +118,14 @@ fn step_normal(targets: &[u64], row: usize, states: usize, g: u64, h: u64, set: 
 }
 
 // The same for buffering moves: none leads to a buffering state, and those of a matching state do not lead to a matching state.
-fn step_buffering(targets: &[u64], row: usize, states: usize, g: u64, h: u64, set: u64) -> u64
+fn step_buffering(
+    targets: &[StateSet],
+    row: usize,
+    states: usize,
+    g: StateSet,
+    h: StateSet,
+    set: StateSet,
+) -> StateSet
     requires { ⌜ (states ≤ width) × (row + states ≤ length (now targets)) ⌝ }
     ensures { λ r. ⌜ Members r (From set (RowEdge (now (targets .entry)) row states g h Buffering)) ⌝ }
 {
@@ -121,7 +136,14 @@ fn step_buffering(targets: &[u64], row: usize, states: usize, g: u64, h: u64, se
 }
 
 // The same for emptying moves: all are from a matching state to a matching state.
-fn step_emptying(targets: &[u64], row: usize, states: usize, g: u64, h: u64, set: u64) -> u64
+fn step_emptying(
+    targets: &[StateSet],
+    row: usize,
+    states: usize,
+    g: StateSet,
+    h: StateSet,
+    set: StateSet,
+) -> StateSet
     requires { ⌜ (states ≤ width) × (row + states ≤ length (now targets)) ⌝ }
     ensures { λ r. ⌜ Members r (From set (RowEdge (now (targets .entry)) row states g h Emptying)) ⌝ }
 {
@@ -130,7 +152,15 @@ fn step_emptying(targets: &[u64], row: usize, states: usize, g: u64, h: u64, set
 }
 
 // The image of a set under the moves that read x in a mode. Time: the members of the set, each once.
-fn step_set(targets: &[u64], states: usize, g: u64, h: u64, mode: Mode, set: u64, x: u8) -> u64
+fn step_set(
+    targets: &[StateSet],
+    states: usize,
+    g: StateSet,
+    h: StateSet,
+    mode: Mode,
+    set: StateSet,
+    x: u8,
+) -> StateSet
     requires { ⌜ Good (now targets) states g h × Room (now targets) states x ⌝ }
     ensures { λ r. ⌜ Members r (From set (Edge (graph (now (targets .entry)) states g h) mode x)) ⌝ }
 {
@@ -143,7 +173,7 @@ fn step_set(targets: &[u64], states: usize, g: u64, h: u64, mode: Mode, set: u64
 }
 
 // The states that have epsilon transitions; it may have others too.
-fn epsilons(targets: &[u64]) -> u64
+fn epsilons(targets: &[StateSet]) -> StateSet
     requires { ⌜ 0 < length (now targets) ⌝ }
     ensures { λ r. ⌜ r ≡ getD (now (targets .entry)) 0 0 ⌝ }
 {
@@ -151,7 +181,7 @@ fn epsilons(targets: &[u64]) -> u64
 }
 
 // The states whose closures the table has.
-fn closed(targets: &[u64]) -> u64
+fn closed(targets: &[StateSet]) -> StateSet
     requires { ⌜ 1 < length (now targets) ⌝ }
     ensures { λ r. ⌜ r ≡ getD (now (targets .entry)) 1 0 ⌝ }
 {
@@ -159,7 +189,14 @@ fn closed(targets: &[u64]) -> u64
 }
 
 // The states that a set reaches by epsilon moves in a mode. Only states that have epsilon transitions are looked up.
-pub fn close_set(targets: &[u64], states: usize, g: u64, h: u64, mode: Mode, set: u64) -> u64
+pub fn close_set(
+    targets: &[StateSet],
+    states: usize,
+    g: StateSet,
+    h: StateSet,
+    mode: Mode,
+    set: StateSet,
+) -> StateSet
     requires { ⌜ Good (now targets) states g h ⌝ }
     ensures { λ r. ⌜ Members r (From set (Free (graph (now (targets .entry)) states g h) mode)) ⌝ }
 {
@@ -180,7 +217,15 @@ pub fn close_set(targets: &[u64], states: usize, g: u64, h: u64, mode: Mode, set
 }
 
 // The image of a set under the moves that read the letter x of a word in a mode; no move reads letter 0.
-pub fn read_set(targets: &[u64], states: usize, g: u64, h: u64, mode: Mode, set: u64, x: u8) -> u64
+pub fn read_set(
+    targets: &[StateSet],
+    states: usize,
+    g: StateSet,
+    h: StateSet,
+    mode: Mode,
+    set: StateSet,
+    x: u8,
+) -> StateSet
     requires { ⌜ Good (now targets) states g h × Room (now targets) states x ⌝ }
     ensures { λ r. ⌜ Members r (λ q. (0 < x) × From set (Edge (graph (now (targets .entry)) states g h) mode x) q) ⌝ }
 {
@@ -191,7 +236,15 @@ pub fn read_set(targets: &[u64], states: usize, g: u64, h: u64, mode: Mode, set:
 }
 
 // The states that a set reaches by a move that reads the letter x of a word and epsilon moves after it.
-pub fn advance(targets: &[u64], states: usize, g: u64, h: u64, mode: Mode, set: u64, x: u8) -> u64
+pub fn advance(
+    targets: &[StateSet],
+    states: usize,
+    g: StateSet,
+    h: StateSet,
+    mode: Mode,
+    set: StateSet,
+    x: u8,
+) -> StateSet
     requires { ⌜ Good (now targets) states g h × Room (now targets) states x ⌝ }
     ensures { λ r. ⌜ Members r (From set (Advance (graph (now (targets .entry)) states g h) mode x)) ⌝ }
 {
@@ -203,7 +256,13 @@ pub fn advance(targets: &[u64], states: usize, g: u64, h: u64, mode: Mode, set: 
 }
 
 // The states that a set reaches by one copy of nothing.
-fn empty_copies(targets: &[u64], states: usize, g: u64, h: u64, set: u64) -> u64
+fn empty_copies(
+    targets: &[StateSet],
+    states: usize,
+    g: StateSet,
+    h: StateSet,
+    set: StateSet,
+) -> StateSet
     requires { ⌜ Good (now targets) states g h ⌝ }
     ensures { λ r. ⌜ Members r (From set (EmptyCopy (graph (now (targets .entry)) states g h))) ⌝ }
 {
@@ -224,7 +283,13 @@ fn empty_copies(targets: &[u64], states: usize, g: u64, h: u64, set: u64) -> u64
 
 // The states that a set reaches at one position in normal mode, found in turns: copies of nothing from the states that came last, and then
 // epsilon moves from those that are new.
-fn close_in_turns(targets: &[u64], states: usize, g: u64, h: u64, set: u64) -> u64
+fn close_in_turns(
+    targets: &[StateSet],
+    states: usize,
+    g: StateSet,
+    h: StateSet,
+    set: StateSet,
+) -> StateSet
     requires { ⌜ Good (now targets) states g h ⌝ }
     ensures { λ r. ⌜ Members r (From set (Star (Turn (graph (now (targets .entry)) states g h)))) ⌝ }
 {
@@ -243,7 +308,13 @@ fn close_in_turns(targets: &[u64], states: usize, g: u64, h: u64, set: u64) -> u
 
 // The states that a set reaches at one position in normal mode: by epsilon moves and copies of nothing, as often as wanted.
 // Time: the members of the set, each once, where the table has the closures of all of them; else some turns of epsilon moves and copies.
-pub fn close_position(targets: &[u64], states: usize, g: u64, h: u64, set: u64) -> u64
+pub fn close_position(
+    targets: &[StateSet],
+    states: usize,
+    g: StateSet,
+    h: StateSet,
+    set: StateSet,
+) -> StateSet
     requires { ⌜ Good (now targets) states g h ⌝ }
     ensures { λ r. ⌜ Members r (From set (Star (Turn (graph (now (targets .entry)) states g h)))) ⌝ }
 {

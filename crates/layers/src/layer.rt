@@ -11,28 +11,30 @@ ghost use Rattle.layers.specs.Rows.{Given, Closed};
 ghost use Rattle.layers.specs.Layers.{blankRow, NoneBelow, Seeded, FirstRow, EmptyingLayer, BufferingLayer, Storing, Round, ClosedPlace, PositionLayer};
 use crate::row;
 use crate::row::NONE;
+use crate::row::Row;
 use fsbm::config::Mode;
 use fsbm::limits::MAX_STATES;
 use fsbm::machine;
 use fsbm::machine::Machine;
+use stateset::StateSet;
 
 // The three rows of a position, the buffer empty. Where no copy ends there, that of emptying mode says none.
 pub struct Position {
-    pub normal: [u32; MAX_STATES],
-    pub buffering: [u32; MAX_STATES],
-    pub emptying: [u32; MAX_STATES],
+    pub normal: Row,
+    pub buffering: Row,
+    pub emptying: Row,
     pub ends: bool,
 }
 
 // A row that says none everywhere.
-pub fn blank() -> [u32; MAX_STATES]
+pub fn blank() -> Row
     ensures { λ r. ⌜ r ≡ blankRow ⌝ }
 {
     [NONE; MAX_STATES]
 }
 
 // The row of the end of the word, in normal mode: 0 at the final states, none elsewhere.
-fn seeds(m: Machine) -> [u32; MAX_STATES]
+fn seeds(m: Machine) -> Row
     requires { ⌜ m .states ≤ 64 ⌝ }
     ensures { λ r. ⌜ Seeded m (m .states) r ⌝ }
 {
@@ -51,10 +53,10 @@ fn seeds(m: Machine) -> [u32; MAX_STATES]
 fn close_buffering(
     m: Machine,
     list: &[u16],
-    targets: &[u64],
-    g: u64,
-    h: u64,
-    row: &mut [u32; MAX_STATES],
+    targets: &[StateSet],
+    g: StateSet,
+    h: StateSet,
+    row: &mut Row,
 )
     requires { ⌜ Given m (now list) (now targets) g h ⌝ }
     ensures { λ r. ⌜ Closed m (now (list .entry)) (λ q. q < m .states) Buffering (now (row .entry)) (now (row .exit)) ⌝ }
@@ -75,10 +77,10 @@ fn close_buffering(
 fn close_emptying(
     m: Machine,
     list: &[u16],
-    targets: &[u64],
-    g: u64,
-    h: u64,
-    row: &mut [u32; MAX_STATES],
+    targets: &[StateSet],
+    g: StateSet,
+    h: StateSet,
+    row: &mut Row,
 )
     requires { ⌜ Given m (now list) (now targets) g h ⌝ }
     ensures { λ r. ⌜ Closed m (now (list .entry)) (λ q. q < m .states) Emptying (now (row .entry)) (now (row .exit)) ⌝ }
@@ -91,12 +93,12 @@ fn close_emptying(
 pub fn emptying_layer(
     m: Machine,
     list: &[u16],
-    targets: &[u64],
-    g: u64,
-    h: u64,
+    targets: &[StateSet],
+    g: StateSet,
+    h: StateSet,
     x: u16,
-    next: &[u32; MAX_STATES],
-    row: &mut [u32; MAX_STATES],
+    next: &Row,
+    row: &mut Row,
 ) -> bool
     requires { ⌜ Given m (now list) (now targets) g h × Row m (now list) (now targets) x × (now row ≡ blankRow) ⌝ }
     ensures { λ r. ⌜ EmptyingLayer m (now (list .entry)) x (now (next .entry)) (now (row .exit)) × (r ≡ false → now (row .exit) ≡ blankRow) ⌝ }
@@ -113,13 +115,13 @@ pub fn emptying_layer(
 pub fn buffering_layer(
     m: Machine,
     list: &[u16],
-    targets: &[u64],
-    g: u64,
-    h: u64,
+    targets: &[StateSet],
+    g: StateSet,
+    h: StateSet,
     x: u16,
-    next: &[u32; MAX_STATES],
-    emptied: &[u32; MAX_STATES],
-    row: &mut [u32; MAX_STATES],
+    next: &Row,
+    emptied: &Row,
+    row: &mut Row,
 ) -> bool
     requires { ⌜ Given m (now list) (now targets) g h × Row m (now list) (now targets) x × (now row ≡ blankRow) ⌝ }
     ensures { λ r. ⌜ BufferingLayer m (now (list .entry)) x (now (next .entry)) (now (emptied .entry)) (now (row .exit)) × (r ≡ false → now (row .exit) ≡ blankRow) ⌝ }
@@ -141,14 +143,14 @@ pub fn buffering_layer(
 fn round(
     m: Machine,
     list: &[u16],
-    targets: &[u64],
-    g: u64,
-    h: u64,
-    near: u64,
-    starts: u64,
-    normal: &mut [u32; MAX_STATES],
-    buffering: &mut [u32; MAX_STATES],
-    emptying: &mut [u32; MAX_STATES],
+    targets: &[StateSet],
+    g: StateSet,
+    h: StateSet,
+    near: StateSet,
+    starts: StateSet,
+    normal: &mut Row,
+    buffering: &mut Row,
+    emptying: &mut Row,
 ) -> bool
     requires { ⌜ Given m (now list) (now targets) g h × ((q : ℕ) → In near q → q < m .states) ⌝ }
     ensures { λ r. ⌜ Round m (now (list .entry)) near starts h (now (normal .entry)) (now (buffering .entry)) (now (emptying .entry)) (now (normal .exit)) (now (buffering .exit)) (now (emptying .exit)) r ⌝ }
@@ -172,12 +174,12 @@ fn round(
 fn close_shut(
     m: Machine,
     list: &[u16],
-    targets: &[u64],
-    g: u64,
-    h: u64,
-    near: u64,
-    normal: &mut [u32; MAX_STATES],
-    emptying: &mut [u32; MAX_STATES],
+    targets: &[StateSet],
+    g: StateSet,
+    h: StateSet,
+    near: StateSet,
+    normal: &mut Row,
+    emptying: &mut Row,
 )
     requires { ⌜ Given m (now list) (now targets) g h × ((q : ℕ) → In near q → q < m .states) ⌝ }
     ensures { λ r. ⌜ ((b : List ℕ) → ClosedPlace m (now (list .entry)) near 0 h (now (normal .entry)) b (now (emptying .entry)) (now (normal .exit)) b (now (emptying .exit))) ⌝ }
@@ -191,14 +193,14 @@ fn close_shut(
 fn close_position(
     m: Machine,
     list: &[u16],
-    targets: &[u64],
-    g: u64,
-    h: u64,
-    near: u64,
-    starts: u64,
-    normal: &mut [u32; MAX_STATES],
-    buffering: &mut [u32; MAX_STATES],
-    emptying: &mut [u32; MAX_STATES],
+    targets: &[StateSet],
+    g: StateSet,
+    h: StateSet,
+    near: StateSet,
+    starts: StateSet,
+    normal: &mut Row,
+    buffering: &mut Row,
+    emptying: &mut Row,
 )
     requires { ⌜ Given m (now list) (now targets) g h × ((q : ℕ) → In near q → q < m .states) ⌝ }
     ensures { λ r. ⌜ ClosedPlace m (now (list .entry)) near starts h (now (normal .entry)) (now (buffering .entry)) (now (emptying .entry)) (now (normal .exit)) (now (buffering .exit)) (now (emptying .exit)) ⌝ }
@@ -226,7 +228,7 @@ fn close_position(
 }
 
 // The row that normal mode starts from: 0 at the final states where the word is read to its end, else none.
-fn first_row(m: Machine, last: bool) -> [u32; MAX_STATES]
+fn first_row(m: Machine, last: bool) -> Row
     requires { ⌜ m .states ≤ 64 ⌝ }
     ensures { λ r. ⌜ FirstRow m last r ⌝ }
 {
@@ -237,7 +239,7 @@ fn first_row(m: Machine, last: bool) -> [u32; MAX_STATES]
 }
 
 // The states that a copy is stored in at a position: all where one begins, else none.
-fn storing_states(starts: u64, states: usize) -> u64
+fn storing_states(starts: StateSet, states: usize) -> StateSet
     ensures { λ r. ⌜ Storing starts states r ⌝ }
 {
     if starts == 0 {
@@ -252,14 +254,14 @@ fn storing_states(starts: u64, states: usize) -> u64
 pub fn position_layer(
     m: Machine,
     list: &[u16],
-    targets: &[u64],
-    g: u64,
-    h: u64,
-    near: u64,
+    targets: &[StateSet],
+    g: StateSet,
+    h: StateSet,
+    near: StateSet,
     last: bool,
     x: u16,
-    onward: &[u32; MAX_STATES],
-    storing: &[u32; MAX_STATES],
+    onward: &Row,
+    storing: &Row,
 ) -> Position
     requires { ⌜ Given m (now list) (now targets) g h × Row m (now list) (now targets) x × ((q : ℕ) → In near q → q < m .states) ⌝ }
     ensures { λ r. ⌜ PositionLayer m (now (list .entry)) near last x (now (onward .entry)) (now (storing .entry)) (r .normal) (r .buffering) (r .emptying)

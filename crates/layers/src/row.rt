@@ -13,19 +13,23 @@ ghost use Rattle.layers.specs.Rows.{Given, Lowered, Lowering, Through, R
 use fsbm::config::Mode;
 use fsbm::limits::MAX_STATES;
 use fsbm::machine::Machine;
+use stateset::StateSet;
 
 // The number that says that there is no way to acceptance.
 pub const NONE: u32 = 4294967295;
 
+// A number for each state.
+pub type Row = [u32; MAX_STATES];
+
 // A row at a glance: the states that have a number, the least number, and the states that have it.
 struct Sum {
-    live: u64,
+    live: StateSet,
     least: u32,
-    lows: u64,
+    lows: StateSet,
 }
 
 // The states of a set that a transition from a may lead to where both are matching or not: none of h where a is one of h.
-fn apart(h: u64, a: usize, set: u64) -> u64
+fn apart(h: StateSet, a: usize, set: StateSet) -> StateSet
     ensures { λ r. ⌜ Apart h a set r ⌝ }
 {
     if stateset::member(h, a) {
@@ -35,7 +39,7 @@ fn apart(h: u64, a: usize, set: u64) -> u64
 }
 
 // The states of a set that a transition from a may lead to in normal mode.
-fn normal_cut(g: u64, h: u64, a: usize, set: u64) -> u64
+fn normal_cut(g: StateSet, h: StateSet, a: usize, set: StateSet) -> StateSet
     ensures { λ r. ⌜ Cut g h Normal a set r ⌝ }
 {
     if stateset::member(g, a) {
@@ -45,14 +49,14 @@ fn normal_cut(g: u64, h: u64, a: usize, set: u64) -> u64
 }
 
 // The same in buffering mode.
-fn buffering_cut(g: u64, h: u64, a: usize, set: u64) -> u64
+fn buffering_cut(g: StateSet, h: StateSet, a: usize, set: StateSet) -> StateSet
     ensures { λ r. ⌜ Cut g h Buffering a set r ⌝ }
 {
     stateset::difference(apart(h, a, set), g)
 }
 
 // The same in emptying mode.
-fn emptying_cut(h: u64, a: usize, set: u64) -> u64
+fn emptying_cut(h: StateSet, a: usize, set: StateSet) -> StateSet
     ensures { λ r. ⌜ Cut 0 h Emptying a set r ⌝ }
 {
     if stateset::member(h, a) {
@@ -62,7 +66,7 @@ fn emptying_cut(h: u64, a: usize, set: u64) -> u64
 }
 
 // The same in a mode.
-fn cut(g: u64, h: u64, mode: Mode, a: usize, set: u64) -> u64
+fn cut(g: StateSet, h: StateSet, mode: Mode, a: usize, set: StateSet) -> StateSet
     ensures { λ r. ⌜ Cut g h mode a set r ⌝ }
 {
     match mode {
@@ -83,7 +87,7 @@ fn smaller(a: u32, b: u32) -> u32
 }
 
 // The least number of the states below a number.
-fn least_below(row: &[u32; MAX_STATES], states: usize) -> u32
+fn least_below(row: &Row, states: usize) -> u32
     requires { ⌜ states ≤ 64 ⌝ }
     ensures { λ r. ⌜ ((q : ℕ) → q < states → r ≤ at (now (row .entry)) q) ⌝ }
 {
@@ -97,7 +101,7 @@ fn least_below(row: &[u32; MAX_STATES], states: usize) -> u32
 }
 
 // The row at a glance. Two loops with no branches in them: which states have a number is hard to foresee.
-fn glance(row: &[u32; MAX_STATES], states: usize) -> Sum
+fn glance(row: &Row, states: usize) -> Sum
     requires { ⌜ states ≤ 64 ⌝ }
     ensures { λ r. ⌜ Glance (now (row .entry)) states r ⌝ }
 {
@@ -115,7 +119,7 @@ fn glance(row: &[u32; MAX_STATES], states: usize) -> Sum
 }
 
 // The least number of the states of a set. Time: the members of the set, each once.
-fn least_of(row: &[u32; MAX_STATES], set: u64) -> u32
+fn least_of(row: &Row, set: StateSet) -> u32
     ensures { λ r. ⌜ LeastOf (now (row .entry)) set r ⌝ }
 {
     let mut least = NONE;
@@ -129,7 +133,7 @@ fn least_of(row: &[u32; MAX_STATES], set: u64) -> u32
 }
 
 // The same of states that have numbers, from what the row shows at a glance where that tells it.
-fn least_in(row: &[u32; MAX_STATES], s: Sum, set: u64) -> u32
+fn least_in(row: &Row, s: Sum, set: StateSet) -> u32
     requires { ⌜ Seen (now row) set s ⌝ }
     ensures { λ r. ⌜ LeastOf (now (row .entry)) set r ⌝ }
 {
@@ -154,7 +158,7 @@ fn lesser(v: u32, d: u32) -> u32
 }
 
 // Lowers the number of state a to v + 1 where that is less, and says whether it was.
-fn lower(row: &mut [u32; MAX_STATES], a: usize, v: u32) -> bool
+fn lower(row: &mut Row, a: usize, v: u32) -> bool
     requires { ⌜ a < 64 ⌝ }
     ensures { λ r. ⌜ Lowered (now (row .entry)) a v (now (row .exit)) r ⌝ }
 {
@@ -171,15 +175,15 @@ fn lower(row: &mut [u32; MAX_STATES], a: usize, v: u32) -> bool
 fn visit(
     m: Machine,
     list: &[u16],
-    targets: &[u64],
-    g: u64,
-    h: u64,
+    targets: &[StateSet],
+    g: StateSet,
+    h: StateSet,
     mode: Mode,
     x: u16,
-    next: &[u32; MAX_STATES],
+    next: &Row,
     s: Sum,
     a: usize,
-    row: &mut [u32; MAX_STATES],
+    row: &mut Row,
 ) -> bool
     requires { ⌜ Given m (now list) (now targets) g h × Row m (now list) (now targets) x × (a < m .states) × Glance (now next) (m .states) s ⌝ }
     ensures { λ r. ⌜ Lowering (Only (Through m (now (list .entry)) mode x (now (next .entry))) a) (now (row .entry)) (now (row .exit)) r ⌝ }
@@ -198,14 +202,14 @@ fn visit(
 fn pass(
     m: Machine,
     list: &[u16],
-    targets: &[u64],
-    g: u64,
-    h: u64,
+    targets: &[StateSet],
+    g: StateSet,
+    h: StateSet,
     mode: Mode,
     x: u16,
-    set: u64,
-    next: &[u32; MAX_STATES],
-    row: &mut [u32; MAX_STATES],
+    set: StateSet,
+    next: &Row,
+    row: &mut Row,
 ) -> bool
     requires { ⌜ Given m (now list) (now targets) g h × Row m (now list) (now targets) x × ((q : ℕ) → In set q → q < m .states) ⌝ }
     ensures { λ r. ⌜ Lowering (Within (Through m (now (list .entry)) mode x (now (next .entry))) set) (now (row .entry)) (now (row .exit)) r ⌝ }
@@ -227,14 +231,14 @@ fn pass(
 pub fn read(
     m: Machine,
     list: &[u16],
-    targets: &[u64],
-    g: u64,
-    h: u64,
+    targets: &[StateSet],
+    g: StateSet,
+    h: StateSet,
     mode: Mode,
     x: u16,
-    set: u64,
-    next: &[u32; MAX_STATES],
-    row: &mut [u32; MAX_STATES],
+    set: StateSet,
+    next: &Row,
+    row: &mut Row,
 ) -> bool
     requires { ⌜ Given m (now list) (now targets) g h × Row m (now list) (now targets) x × ((q : ℕ) → In set q → q < m .states) ⌝ }
     ensures { λ r. ⌜ Lowering (Within (Reads m (now (list .entry)) mode x (now (next .entry))) set) (now (row .entry)) (now (row .exit)) r ⌝ }
@@ -249,12 +253,12 @@ pub fn read(
 pub fn close(
     m: Machine,
     list: &[u16],
-    targets: &[u64],
-    g: u64,
-    h: u64,
+    targets: &[StateSet],
+    g: StateSet,
+    h: StateSet,
     mode: Mode,
-    set: u64,
-    row: &mut [u32; MAX_STATES],
+    set: StateSet,
+    row: &mut Row,
 )
     requires { ⌜ Given m (now list) (now targets) g h × ((q : ℕ) → In set q → q < m .states) ⌝ }
     ensures { λ r. ⌜ Closed m (now (list .entry)) (In set) mode (now (row .entry)) (now (row .exit)) ⌝ }
@@ -273,7 +277,7 @@ pub fn close(
 
 // Lowers the numbers of the states of a set along the changes of mode into the row `next`, and says whether any number fell.
 // Time: the states of the set, each once.
-pub fn change(set: u64, next: &[u32; MAX_STATES], row: &mut [u32; MAX_STATES]) -> bool
+pub fn change(set: StateSet, next: &Row, row: &mut Row) -> bool
     ensures { λ r. ⌜ Lowering (Within (Beside (now (next .entry))) set) (now (row .entry)) (now (row .exit)) r ⌝ }
 {
     let mut fell = false;
@@ -289,7 +293,7 @@ pub fn change(set: u64, next: &[u32; MAX_STATES], row: &mut [u32; MAX_STATES]) -
 }
 
 // Whether a row says none at every state.
-pub fn is_blank(row: &[u32; MAX_STATES], states: usize) -> bool
+pub fn is_blank(row: &Row, states: usize) -> bool
     requires { ⌜ states ≤ 64 ⌝ }
     ensures { λ r. ⌜ (r ≡ true → (q : ℕ) → q < states → none ≤ at (now (row .entry)) q) ⌝ }
 {

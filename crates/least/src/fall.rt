@@ -12,6 +12,7 @@ use blocks::sizes::MOST_KEYS;
 use blocks::sizes::MOST_STATES;
 use blocks::sizes::NOTHING;
 use fsbm::machine::Machine;
+use stateset::StateSet;
 
 // Lowers the number of q to v and adds q to the set, where v is less; the set then.
 pub fn fall(d: &mut [u64; MOST_STATES], got: u64, q: usize, v: u64) -> u64
@@ -71,7 +72,7 @@ fn steps(
 }
 
 // The states that a normal move from q may enter: h has the matching states.
-fn enterable(h: u64, q: usize) -> u64
+fn enterable(h: StateSet, q: usize) -> u64
     ensures { λ r. ⌜ Enterable h q r ⌝ }
 {
     let all = stateset::full(64);
@@ -87,8 +88,8 @@ pub fn normal(
     m: Machine,
     list: &[u16],
     index: &[u16; MOST_KEYS],
-    g: u64,
-    h: u64,
+    g: StateSet,
+    h: StateSet,
     q: usize,
     d: &mut [u64; MOST_STATES],
     got: u64,

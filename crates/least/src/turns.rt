@@ -23,14 +23,15 @@ use blocks::sizes::MOST_PAIRS;
 use blocks::sizes::MOST_READERS;
 use blocks::sizes::MOST_STATES;
 use blocks::sizes::NOTHING;
-use fsbm::limits::MAX_STATES;
 use fsbm::machine;
 use fsbm::machine::Machine;
+use fsbm::machine::Marks;
 use images::Kinds;
+use stateset::StateSet;
 
 // The set with the state that transition k enters, if that is a matching state and transition k does not leave one. h has the matching
 // states.
-fn with_entered(list: &[u16], k: usize, h: u64, set: u64) -> u64
+fn with_entered(list: &[u16], k: usize, h: StateSet, set: StateSet) -> u64
     requires { ⌜ k * 3 + 3 ≤ length (now list) ⌝ }
     ensures { λ r. ⌜ EnteredBy (now (list .entry)) k h «set» r ⌝ }
 {
@@ -45,7 +46,7 @@ fn with_entered(list: &[u16], k: usize, h: u64, set: u64) -> u64
 }
 
 // The matching states that some transition enters that does not leave a matching state. Time: the transitions, each once.
-pub fn ends(m: Machine, list: &[u16], h: u64) -> u64
+pub fn ends(m: Machine, list: &[u16], h: StateSet) -> u64
     requires { ⌜ (m .transitions * 3 ≤ length (now list)) × Kind (matching (m .marks)) h ⌝ }
     ensures { λ r. ⌜ Entered m (now (list .entry)) r ⌝ }
 {
@@ -63,8 +64,8 @@ fn normal_turn(
     m: Machine,
     list: &[u16],
     index: &[u16; MOST_KEYS],
-    g: u64,
-    h: u64,
+    g: StateSet,
+    h: StateSet,
     d: &mut [u64; MOST_STATES],
     fresh: u64,
 ) -> u64
@@ -94,7 +95,7 @@ fn greater(a: u64, b: u64) -> u64
 }
 
 // The largest number of a member of h, or the limit where that is less.
-fn largest(h: u64, d: &[u64; MOST_STATES], limit: u64) -> u64
+fn largest(h: StateSet, d: &[u64; MOST_STATES], limit: u64) -> u64
     requires { ⌜ limit ≤ nothing ⌝ }
     ensures { λ r. ⌜ Tops limit h (now (d .entry)) r ⌝ }
 {
@@ -124,7 +125,7 @@ fn end(d: &mut [u64; MOST_STATES], got: u64, z: usize, v: u64, top: u64) -> u64
 
 // Notes the guess for z, where the number of z is reached along a copy with it: v is the number of the copy's last pair. Of the notes
 // nothing is promised.
-fn note(hints: &mut [u8; MAX_STATES], d: &[u64; MOST_STATES], guess: u8, z: usize, v: u64) {
+fn note(hints: &mut Marks, d: &[u64; MOST_STATES], guess: u8, z: usize, v: u64) {
     if 64 <= z {
         return;
     }
@@ -141,9 +142,9 @@ fn note(hints: &mut [u8; MAX_STATES], d: &[u64; MOST_STATES], guess: u8, z: usiz
 fn end_all(
     b: &[u64; MOST_PAIRS],
     guess: usize,
-    h: u64,
+    h: StateSet,
     d: &mut [u64; MOST_STATES],
-    hints: &mut [u8; MAX_STATES],
+    hints: &mut Marks,
     got: u64,
     top: u64,
 ) -> u64
@@ -168,13 +169,13 @@ fn guessed(
     list: &[u16],
     index: &[u16; MOST_KEYS],
     readers: &[u64; MOST_READERS],
-    g: u64,
-    h: u64,
+    g: StateSet,
+    h: StateSet,
     guess: usize,
-    set: u64,
+    set: StateSet,
     b: &mut [u64; MOST_PAIRS],
     d: &mut [u64; MOST_STATES],
-    hints: &mut [u8; MAX_STATES],
+    hints: &mut Marks,
     got: u64,
     limit: u64,
 ) -> u64
@@ -188,7 +189,7 @@ fn guessed(
 }
 
 // The limit, or one more than the number of the final state f, where that is less.
-fn lower_limit(marks: &[u8; MAX_STATES], d: &[u64; MOST_STATES], f: usize, limit: u64) -> u64
+fn lower_limit(marks: &Marks, d: &[u64; MOST_STATES], f: usize, limit: u64) -> u64
     requires { ⌜ f < 64 ⌝ }
     ensures { λ r. ⌜ Lowered (now (marks .entry)) (now (d .entry)) limit r ⌝ }
 {
@@ -206,7 +207,7 @@ fn lower_limit(marks: &[u8; MAX_STATES], d: &[u64; MOST_STATES], f: usize, limit
 }
 
 // The limit, or one more than the least number of a final state, where that is less: no copy of a larger number leads to a shorter word.
-fn lowered(marks: &[u8; MAX_STATES], d: &[u64; MOST_STATES], limit: u64) -> u64
+fn lowered(marks: &Marks, d: &[u64; MOST_STATES], limit: u64) -> u64
     ensures { λ r. ⌜ Lowered (now (marks .entry)) (now (d .entry)) limit r ⌝ }
 {
     let mut least = limit;
@@ -231,13 +232,13 @@ fn copies(
     list: &[u16],
     index: &[u16; MOST_KEYS],
     readers: &[u64; MOST_READERS],
-    g: u64,
-    h: u64,
+    g: StateSet,
+    h: StateSet,
     storing: u64,
-    set: u64,
+    set: StateSet,
     b: &mut [u64; MOST_PAIRS],
     d: &mut [u64; MOST_STATES],
-    hints: &mut [u8; MAX_STATES],
+    hints: &mut Marks,
     first: u64,
 ) -> Turned
     requires { ⌜ Ready m (now list) (now index) h × Kind (buffering (m .marks)) g × Readers m (now list) (now readers) ⌝ }
@@ -303,7 +304,7 @@ fn turns(
     storing: u64,
     b: &mut [u64; MOST_PAIRS],
     d: &mut [u64; MOST_STATES],
-    hints: &mut [u8; MAX_STATES],
+    hints: &mut Marks,
 )
     requires { ⌜ Ready m (now list) (now index) (kinds .matching) × Kind (buffering (m .marks)) (kinds .buffering) × KindsOf (m .marks) (m .states) kinds × Readers m (now list) (now readers) ⌝ }
     requires { ⌜ First (kinds .initial) (now d) × (length (now b) ≡ 4096) × Past m (now b) ⌝ }
@@ -351,7 +352,7 @@ pub fn costs(
     kinds: Kinds,
     b: &mut [u64; MOST_PAIRS],
     d: &mut [u64; MOST_STATES],
-    hints: &mut [u8; MAX_STATES],
+    hints: &mut Marks,
 )
     requires { ⌜ Ready m (now list) (now index) (kinds .matching) × Kind (buffering (m .marks)) (kinds .buffering) × KindsOf (m .marks) (m .states) kinds ⌝ }
     requires { ⌜ (length (now d) ≡ 64) × (length (now b) ≡ 4096) × Past m (now b) ⌝ }

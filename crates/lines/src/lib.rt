@@ -12,6 +12,7 @@ ghost use Rattle.lines.specs.Line.{WordRead, LetterStored, lineAnswer, a
 use decide::positions;
 use fsbm::machine::Machine;
 use images::Kinds;
+use stateset::StateSet;
 
 // The most bytes of a word's line: 160 letters in columns of five.
 pub const LONGEST: usize = 800;
@@ -91,7 +92,13 @@ pub fn write_line(out: &mut [u8], at: usize, number: usize, a: Answer)
 // What is printed for a word's line, on a table that obeys the rules (the sheet reader answers no other) and was prepared for all its
 // words: 2 and the refusal's number, in the order 9, 2, 8, or 1 or 0 for a word that the table accepts or not.
 // Time: the line once, and the time of the decision. Memory: 160 bytes, and that of the decision.
-pub fn answer_line(m: Machine, list: &[u16], targets: &[u64], kinds: Kinds, line: &[u8]) -> Answer
+pub fn answer_line(
+    m: Machine,
+    list: &[u16],
+    targets: &[StateSet],
+    kinds: Kinds,
+    line: &[u8],
+) -> Answer
     requires { ⌜ Ready m (now list) (now targets) kinds ⌝ }
     ensures { λ r. ⌜ r ≡ lineAnswer m (now (list .entry)) (now (line .entry)) ⌝ }
 {

@@ -20,6 +20,7 @@ use fsbm::machine::Machine;
 use images::Kinds;
 use libc::STDIN_FILENO;
 use libc::STDOUT_FILENO;
+use stateset::StateSet;
 use stream::Held;
 use targets::MOST_SETS;
 
@@ -59,7 +60,7 @@ fn list_piece(
     sheet: &[u8],
     m: Machine,
     list: &[u16],
-    targets: &[u64],
+    targets: &[StateSet],
     kinds: Kinds,
     input: &mut [u8],
     line: &mut [u8],
@@ -107,7 +108,7 @@ fn take_input(
     sheet: &[u8],
     m: Machine,
     list: &[u16],
-    targets: &[u64],
+    targets: &[StateSet],
     kinds: Kinds,
     input: &mut [u8],
     line: &mut [u8],
@@ -144,7 +145,7 @@ fn end_input(
     sheet: &[u8],
     m: Machine,
     list: &[u16],
-    targets: &[u64],
+    targets: &[StateSet],
     kinds: Kinds,
     line: &[u8],
     out: &mut [u8],
@@ -163,7 +164,14 @@ fn end_input(
 }
 
 // Lists the words of standard input over a table.
-fn list_words(sheet: &[u8], m: Machine, list: &[u16], targets: &[u64], kinds: Kinds, out: &mut [u8])
+fn list_words(
+    sheet: &[u8],
+    m: Machine,
+    list: &[u16],
+    targets: &[StateSet],
+    kinds: Kinds,
+    out: &mut [u8],
+)
     requires { ⌜ Ready m (now list) (now targets) kinds ⌝ }
     requires { ⌜ ReadFrom (now sheet) m (now list) ⌝ }
     requires { ⌜ 65536 ≤ length (now out) ⌝ }
@@ -189,7 +197,7 @@ fn transition_buffer() -> [u16; LIST_LENGTH]
 }
 
 // Room for the sets of the largest prepared table.
-fn target_buffer() -> [u64; MOST_SETS]
+fn target_buffer() -> [StateSet; MOST_SETS]
     ensures { λ r. ⌜ (16130 ≡ length r) × ((i : ℕ) → getD r i 0 ≡ 0) ⌝ }
 {
     [0; MOST_SETS]

@@ -11,9 +11,10 @@ use fsbm::limits::MAX_STATES;
 use fsbm::limits::MAX_TRANSITIONS;
 use fsbm::machine;
 use fsbm::machine::Machine;
+use fsbm::machine::Marks;
 
 // Whether state q is neither buffering nor matching.
-fn plain_state(marks: &[u8; MAX_STATES], q: usize) -> bool
+fn plain_state(marks: &Marks, q: usize) -> bool
     ensures { λ r. ⌜ r ≡ plainState (now (marks .entry)) q ⌝ }
 {
     if machine::is_buffering(marks, q) {
@@ -23,7 +24,7 @@ fn plain_state(marks: &[u8; MAX_STATES], q: usize) -> bool
 }
 
 // Whether none of the first n states is buffering or matching.
-fn plain_states(marks: &[u8; MAX_STATES], n: usize) -> bool
+fn plain_states(marks: &Marks, n: usize) -> bool
     ensures { λ r. ⌜ r ≡ allBelow n (plainState (now (marks .entry))) ⌝ }
 {
     let mut q = n;

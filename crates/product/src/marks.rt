@@ -7,6 +7,7 @@ ghost use Rattle.product.specs.Product.{pairMark, joinedMark, joinedMark
 use fsbm::limits::MAX_STATES;
 use fsbm::machine;
 use fsbm::machine::Machine;
+use fsbm::machine::Marks;
 
 // Whether both hold.
 fn both(a: bool, b: bool) -> bool
@@ -30,7 +31,7 @@ fn flag(b: bool, v: u8) -> u8
 }
 
 // The mark of the pair (p, r): initial and final where both states are, buffering and matching as p.
-fn pair_mark(first: &[u8; MAX_STATES], p: usize, second: &[u8; MAX_STATES], r: usize) -> u8
+fn pair_mark(first: &Marks, p: usize, second: &Marks, r: usize) -> u8
     ensures { λ v. ⌜ v ≡ pairMark (now (first .entry)) p (now (second .entry)) r ⌝ }
 {
     let initial = flag(
@@ -67,14 +68,14 @@ fn joined_mark(first: Machine, second: Machine, q: usize) -> u8
 }
 
 // 64 zeros.
-fn zeros() -> [u8; MAX_STATES]
+fn zeros() -> Marks
     ensures { λ r. ⌜ r ≡ zerosOf 64 ⌝ }
 {
     [0; MAX_STATES]
 }
 
 // The marks of all 64 states.
-pub fn joined_marks(first: Machine, second: Machine) -> [u8; MAX_STATES]
+pub fn joined_marks(first: Machine, second: Machine) -> Marks
     requires { ⌜ first .states * second .states ≤ 64 ⌝ }
     requires { ⌜ 1 ≤ second .states ⌝ }
     ensures { λ r. ⌜ r ≡ joinedMarks first second ⌝ }

@@ -17,6 +17,7 @@ use fsbm::limits::LONGEST_WORD;
 use fsbm::machine::Machine;
 use images::Kinds;
 use runs::walk;
+use stateset::StateSet;
 use targets::MOST_SETS;
 
 // The sets of a small table: what is cleared for a word goes by the smallest size that is enough.
@@ -33,7 +34,7 @@ pub enum Recognized {
 }
 
 // The states that runs reach, and whether the word is accepted, with a table of zeros lent that is prepared for the word.
-fn reach(m: Machine, list: &[u16], targets: &mut [u64], kinds: Kinds, word: &[u8]) -> Reached
+fn reach(m: Machine, list: &[u16], targets: &mut [StateSet], kinds: Kinds, word: &[u8]) -> Reached
     requires { ⌜ (tableAndWord longestRecognized m (now list) (now word) ≡ 0) × (setOf (m .states) (m .letters) (m .states) ≤ length (now targets))
         × ((i : ℕ) → getD (now targets) i 0 ≡ 0) × KindsOf (m .marks) (m .states) kinds ⌝ }
     ensures { λ r. ⌜ (r .accepted ≡ accepted m (now (list .entry)) (now (word .entry))) × Covers m (now (list .entry)) (now (word .entry)) (r .sets)
@@ -47,7 +48,7 @@ fn reach(m: Machine, list: &[u16], targets: &mut [u64], kinds: Kinds, word: &[u8
 fn answer_with(
     m: Machine,
     list: &[u16],
-    targets: &mut [u64],
+    targets: &mut [StateSet],
     word: &[u8],
     needed: usize,
     run: &mut [u16],
@@ -73,7 +74,7 @@ fn answer_small(m: Machine, list: &[u16], word: &[u8], needed: usize, run: &mut 
         × (setOf (m .states) (m .letters) (m .states) ≤ 160) ⌝ }
     ensures { λ r. ⌜ Recognition m (now (list .entry)) (now (word .entry)) (now (run .entry)) (now (run .exit)) r ⌝ }
 {
-    let mut targets: [u64; SMALL] = [0; SMALL];
+    let mut targets: [StateSet; SMALL] = [0; SMALL];
     let kinds = images::kinds_of(&m.marks, m.states);
     let reached = reach(m, list, &mut targets, kinds, word);
     if !reached.accepted {
@@ -95,7 +96,7 @@ fn answer_medium(
         × (setOf (m .states) (m .letters) (m .states) ≤ 2048) ⌝ }
     ensures { λ r. ⌜ Recognition m (now (list .entry)) (now (word .entry)) (now (run .entry)) (now (run .exit)) r ⌝ }
 {
-    let mut targets: [u64; MEDIUM] = [0; MEDIUM];
+    let mut targets: [StateSet; MEDIUM] = [0; MEDIUM];
     answer_with(m, list, &mut targets, word, needed, run)
 }
 
@@ -105,7 +106,7 @@ fn answer_large(m: Machine, list: &[u16], word: &[u8], needed: usize, run: &mut 
         × (setOf (m .states) (m .letters) (m .states) ≤ 16130) ⌝ }
     ensures { λ r. ⌜ Recognition m (now (list .entry)) (now (word .entry)) (now (run .entry)) (now (run .exit)) r ⌝ }
 {
-    let mut targets: [u64; MOST_SETS] = [0; MOST_SETS];
+    let mut targets: [StateSet; MOST_SETS] = [0; MOST_SETS];
     answer_with(m, list, &mut targets, word, needed, run)
 }
 

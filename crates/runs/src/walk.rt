@@ -28,11 +28,13 @@ use fsbm::machine;
 use fsbm::machine::Machine;
 use images::Kinds;
 use layers::row::NONE;
+use layers::row::Row;
+use stateset::StateSet;
 use tables::copy;
 use tables::table;
 
 // The number of state q in row i of a table.
-fn number(t: &[[u32; MAX_STATES]], i: usize, q: usize) -> u32
+fn number(t: &[Row], i: usize, q: usize) -> u32
     requires { ⌜ (i < length (now t)) × (q < 64) ⌝ }
     ensures { λ r. ⌜ r ≡ getD (getD (now (t .entry)) i []) q 0 ⌝ }
 {
@@ -43,12 +45,12 @@ fn number(t: &[[u32; MAX_STATES]], i: usize, q: usize) -> u32
 fn cost(
     m: Machine,
     list: &[u16],
-    sets: &[u64; POSITIONS],
+    sets: &[StateSet; POSITIONS],
     word: &[u8],
     c: Config,
-    t: &[[u32; MAX_STATES]],
-    emptied: &[[u32; MAX_STATES]],
-    stored: &[[u32; MAX_STATES]],
+    t: &[Row],
+    emptied: &[Row],
+    stored: &[Row],
 ) -> u32
     requires { ⌜ (m .states ≤ 64) × (wellPlaced (m .states) (length (now word)) c ≡ true) × Ready m (now list) (now sets) (now word) (now t) (now emptied) (now stored) c ⌝ }
     ensures { λ r. ⌜ Best m (now (list .entry)) (nearOf m (now (word .entry)) (now (sets .entry))) (published (now (word .entry)) c) r ⌝ }
@@ -78,12 +80,12 @@ fn cost(
 fn leads(
     m: Machine,
     list: &[u16],
-    sets: &[u64; POSITIONS],
+    sets: &[StateSet; POSITIONS],
     word: &[u8],
     c: Config,
-    t: &[[u32; MAX_STATES]],
-    emptied: &[[u32; MAX_STATES]],
-    stored: &[[u32; MAX_STATES]],
+    t: &[Row],
+    emptied: &[Row],
+    stored: &[Row],
     d: u32,
     k: usize,
 ) -> bool
@@ -118,12 +120,12 @@ fn scan(
     m: Machine,
     list: &[u16],
     first: &[u16; FIRSTS],
-    sets: &[u64; POSITIONS],
+    sets: &[StateSet; POSITIONS],
     word: &[u8],
     c: Config,
-    t: &[[u32; MAX_STATES]],
-    emptied: &[[u32; MAX_STATES]],
-    stored: &[[u32; MAX_STATES]],
+    t: &[Row],
+    emptied: &[Row],
+    stored: &[Row],
     d: u32,
 ) -> usize
     requires { ⌜ (wellFormed m (now list) ≡ true) × (wellPlaced (m .states) (length (now word)) c ≡ true) × Ready m (now list) (now sets) (now word) (now t) (now emptied) (now stored) c
@@ -158,12 +160,12 @@ fn entry(
     m: Machine,
     list: &[u16],
     first: &[u16; FIRSTS],
-    sets: &[u64; POSITIONS],
+    sets: &[StateSet; POSITIONS],
     word: &[u8],
     c: Config,
-    t: &[[u32; MAX_STATES]],
-    emptied: &[[u32; MAX_STATES]],
-    stored: &[[u32; MAX_STATES]],
+    t: &[Row],
+    emptied: &[Row],
+    stored: &[Row],
     d: u32,
 ) -> u16
     requires { ⌜ (wellFormed m (now list) ≡ true) × (wellPlaced (m .states) (length (now word)) c ≡ true) × Ready m (now list) (now sets) (now word) (now t) (now emptied) (now stored) c
@@ -182,16 +184,16 @@ fn entry(
 fn refresh(
     m: Machine,
     list: &[u16],
-    targets: &[u64],
-    g: u64,
-    h: u64,
-    sets: &[u64; POSITIONS],
+    targets: &[StateSet],
+    g: StateSet,
+    h: StateSet,
+    sets: &[StateSet; POSITIONS],
     word: &[u8],
     c: Config,
     e: u16,
-    t: &[[u32; MAX_STATES]],
-    emptied: &mut [[u32; MAX_STATES]],
-    stored: &mut [[u32; MAX_STATES]],
+    t: &[Row],
+    emptied: &mut [Row],
+    stored: &mut [Row],
 )
     requires { ⌜ Known m (now list) (now targets) g h (now word) × Fresh m (now list) (now sets) (now word) (now t) (now emptied) (now stored) c e ⌝ }
     ensures { λ r. ⌜ Refreshed m (now (list .entry)) (now (sets .entry)) (now (word .entry)) (now (t .entry)) (now (emptied .entry)) (now (emptied .exit)) (now (stored .entry)) (now (stored .exit)) c ⌝ }
@@ -219,17 +221,17 @@ fn refresh(
 fn walk(
     m: Machine,
     list: &[u16],
-    targets: &[u64],
-    g: u64,
-    h: u64,
-    sets: &[u64; POSITIONS],
+    targets: &[StateSet],
+    g: StateSet,
+    h: StateSet,
+    sets: &[StateSet; POSITIONS],
     first: &[u16; FIRSTS],
     word: &[u8],
     q: usize,
     moves: u32,
-    t: &[[u32; MAX_STATES]],
-    emptied: &mut [[u32; MAX_STATES]],
-    stored: &mut [[u32; MAX_STATES]],
+    t: &[Row],
+    emptied: &mut [Row],
+    stored: &mut [Row],
     run: &mut [u16],
 ) -> usize
     requires { ⌜ (wellFormed m (now list) ≡ true) × (q < m .states) × (initial (m .marks) q ≡ true) × Sized (now word) (now t) (now emptied) (now stored)
@@ -268,7 +270,7 @@ fn walk(
 }
 
 // The better start of b (the number of states: none yet) and q.
-fn better(m: Machine, row: &[u32; MAX_STATES], b: usize, q: usize) -> usize
+fn better(m: Machine, row: &Row, b: usize, q: usize) -> usize
     requires { ⌜ (m .states ≤ 64) × (q < m .states) × Started m (now row) q b ⌝ }
     ensures { λ r. ⌜ Started m (now (row .entry)) (q + 1) r ⌝ }
 {
@@ -285,7 +287,7 @@ fn better(m: Machine, row: &[u32; MAX_STATES], b: usize, q: usize) -> usize
 }
 
 // The first initial state with the least number of a row; the number of states where no state is initial.
-fn start(m: Machine, row: &[u32; MAX_STATES]) -> usize
+fn start(m: Machine, row: &Row) -> usize
     requires { ⌜ m .states ≤ 64 ⌝ }
     ensures { λ r. ⌜ Started m (now (row .entry)) (m .states) r ⌝ }
 {
@@ -302,16 +304,16 @@ fn start(m: Machine, row: &[u32; MAX_STATES]) -> usize
 fn write_with(
     m: Machine,
     list: &[u16],
-    targets: &[u64],
-    g: u64,
-    h: u64,
-    sets: &[u64; POSITIONS],
+    targets: &[StateSet],
+    g: StateSet,
+    h: StateSet,
+    sets: &[StateSet; POSITIONS],
     word: &[u8],
-    t: &mut [[u32; MAX_STATES]],
-    ends: &mut [[u32; MAX_STATES]],
+    t: &mut [Row],
+    ends: &mut [Row],
     left: &mut [u16],
-    emptied: &mut [[u32; MAX_STATES]],
-    stored: &mut [[u32; MAX_STATES]],
+    emptied: &mut [Row],
+    stored: &mut [Row],
     run: &mut [u16],
 ) -> usize
     requires { ⌜ (wellFormed m (now list) ≡ true) × (length (now word) ≤ 255) × (accepted m (now list) (now word) ≡ true) × (runBound m (length (now word)) ≤ length (now run))
@@ -343,47 +345,47 @@ fn write_with(
 }
 
 // The rows of the positions of a word of at most 15 letters, three each.
-fn few_positions() -> [[u32; MAX_STATES]; 48] {
+fn few_positions() -> [Row; 48] {
     [[NONE; MAX_STATES]; 48]
 }
 
 // And of the ends of its copies.
-fn few_ends() -> [[u32; MAX_STATES]; 16] {
+fn few_ends() -> [Row; 16] {
     [[NONE; MAX_STATES]; 16]
 }
 
 // And of the letters of a copy.
-fn few_rows() -> [[u32; MAX_STATES]; 8] {
+fn few_rows() -> [Row; 8] {
     [[NONE; MAX_STATES]; 8]
 }
 
 // Those of a word of at most 63 letters.
-fn some_positions() -> [[u32; MAX_STATES]; 192] {
+fn some_positions() -> [Row; 192] {
     [[NONE; MAX_STATES]; 192]
 }
 
 // And of the ends of its copies.
-fn some_ends() -> [[u32; MAX_STATES]; 64] {
+fn some_ends() -> [Row; 64] {
     [[NONE; MAX_STATES]; 64]
 }
 
 // And of the letters of a copy.
-fn some_rows() -> [[u32; MAX_STATES]; 32] {
+fn some_rows() -> [Row; 32] {
     [[NONE; MAX_STATES]; 32]
 }
 
 // Those of any word.
-fn all_positions() -> [[u32; MAX_STATES]; 768] {
+fn all_positions() -> [Row; 768] {
     [[NONE; MAX_STATES]; 768]
 }
 
 // And of the ends of its copies.
-fn all_ends() -> [[u32; MAX_STATES]; 256] {
+fn all_ends() -> [Row; 256] {
     [[NONE; MAX_STATES]; 256]
 }
 
 // And of the letters of a copy.
-fn all_rows() -> [[u32; MAX_STATES]; 128] {
+fn all_rows() -> [Row; 128] {
     [[NONE; MAX_STATES]; 128]
 }
 
@@ -391,10 +393,10 @@ fn all_rows() -> [[u32; MAX_STATES]; 128] {
 fn write_long(
     m: Machine,
     list: &[u16],
-    targets: &[u64],
-    g: u64,
-    h: u64,
-    sets: &[u64; POSITIONS],
+    targets: &[StateSet],
+    g: StateSet,
+    h: StateSet,
+    sets: &[StateSet; POSITIONS],
     word: &[u8],
     run: &mut [u16],
 ) -> usize
@@ -428,10 +430,10 @@ fn write_long(
 fn write_medium(
     m: Machine,
     list: &[u16],
-    targets: &[u64],
-    g: u64,
-    h: u64,
-    sets: &[u64; POSITIONS],
+    targets: &[StateSet],
+    g: StateSet,
+    h: StateSet,
+    sets: &[StateSet; POSITIONS],
     word: &[u8],
     run: &mut [u16],
 ) -> usize
@@ -465,10 +467,10 @@ fn write_medium(
 fn write_short(
     m: Machine,
     list: &[u16],
-    targets: &[u64],
-    g: u64,
-    h: u64,
-    sets: &[u64; POSITIONS],
+    targets: &[StateSet],
+    g: StateSet,
+    h: StateSet,
+    sets: &[StateSet; POSITIONS],
     word: &[u8],
     run: &mut [u16],
 ) -> usize
@@ -502,10 +504,10 @@ fn write_short(
 fn write_sized(
     m: Machine,
     list: &[u16],
-    targets: &[u64],
-    g: u64,
-    h: u64,
-    sets: &[u64; POSITIONS],
+    targets: &[StateSet],
+    g: StateSet,
+    h: StateSet,
+    sets: &[StateSet; POSITIONS],
     word: &[u8],
     run: &mut [u16],
 ) -> usize
@@ -531,7 +533,7 @@ fn write_sized(
 pub fn write_run(
     m: Machine,
     list: &[u16],
-    targets: &[u64],
+    targets: &[StateSet],
     kinds: Kinds,
     word: &[u8],
     reached: Reached,

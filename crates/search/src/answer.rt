@@ -13,8 +13,8 @@ use blocks::sizes::NOTHING;
 use common::Common;
 use common::Lengths;
 use fsbm::answer::Refusal;
-use fsbm::limits::MAX_STATES;
 use fsbm::machine::Machine;
+use fsbm::machine::Marks;
 
 // The weight of a letter: a least weight is letters × 2^32 + moves.
 const LETTER: u64 = 4294967296;
@@ -56,7 +56,7 @@ pub fn answer(
     starts: u64,
     ends: u64,
     d: &[u64; MOST_STATES],
-    hints: &[u8; MAX_STATES],
+    hints: &Marks,
     b: &mut [u64; MOST_PAIRS],
     f: usize,
     word: &mut [u8],

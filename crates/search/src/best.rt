@@ -5,8 +5,8 @@ ghost use Rattle.pieces.specs.Blocks.{costOf};
 ghost use Rattle.search.specs.Best.{Best};
 use blocks::sizes::MOST_STATES;
 use blocks::sizes::NOTHING;
-use fsbm::limits::MAX_STATES;
 use fsbm::machine;
+use fsbm::machine::Marks;
 
 // The number of a state; of none, that nothing leads there.
 pub fn cost(d: &[u64; MOST_STATES], q: usize) -> u64
@@ -19,7 +19,7 @@ pub fn cost(d: &[u64; MOST_STATES], q: usize) -> u64
 }
 
 // Of b, the best state below q, and q the better one: q where it is final and has a lesser number.
-fn better(marks: &[u8; MAX_STATES], d: &[u64; MOST_STATES], b: usize, q: usize) -> usize
+fn better(marks: &Marks, d: &[u64; MOST_STATES], b: usize, q: usize) -> usize
     requires { ⌜ Best (now marks) (now d) q b × (q < 64) ⌝ }
     ensures { λ r. ⌜ Best (now (marks .entry)) (now (d .entry)) (q + 1) r ⌝ }
 {
@@ -34,7 +34,7 @@ fn better(marks: &[u8; MAX_STATES], d: &[u64; MOST_STATES], b: usize, q: usize) 
 
 // The final state with the least number; 64 where no final state has one below 2^62.
 // Time: the states once.
-pub fn best(marks: &[u8; MAX_STATES], d: &[u64; MOST_STATES]) -> usize
+pub fn best(marks: &Marks, d: &[u64; MOST_STATES]) -> usize
     ensures { λ r. ⌜ Best (now (marks .entry)) (now (d .entry)) 64 r ⌝ }
 {
     let mut b = MOST_STATES;

@@ -5,8 +5,8 @@ ghost use Rattle.search.specs.Runs.{Writable, Runs};
 use blocks::sizes::MOST_KEYS;
 use blocks::sizes::MOST_PAIRS;
 use blocks::sizes::MOST_STATES;
-use fsbm::limits::MAX_STATES;
 use fsbm::machine::Machine;
+use fsbm::machine::Marks;
 use least::turns;
 use shortest::into;
 
@@ -32,7 +32,7 @@ pub fn write_runs(
     starts: u64,
     ends: u64,
     d: &[u64; MOST_STATES],
-    hints: &[u8; MAX_STATES],
+    hints: &Marks,
     b: &mut [u64; MOST_PAIRS],
     f: usize,
     word: &mut [u8],

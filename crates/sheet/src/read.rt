@@ -12,6 +12,7 @@ use crate::faults;
 use fsbm::answer::Refusal;
 use fsbm::limits::MAX_STATES;
 use fsbm::machine::Machine;
+use fsbm::machine::Marks;
 
 // The answer of read_sheet: refusal.number is 0 where the sheet was read. After a refusal every field of the machine is 0.
 pub struct Sheet {
@@ -35,11 +36,11 @@ fn refused(number: u8, needed: usize) -> Sheet
 }
 
 // The marks of the states, and 0 past the last one, of a sheet without fault.
-fn read_marks(sheet: &[u8], states: usize) -> [u8; MAX_STATES]
+fn read_marks(sheet: &[u8], states: usize) -> Marks
     requires { ⌜ (firstFault (now sheet) ≡ 0) × (states ≡ columnAt (now sheet) 0) ⌝ }
     ensures { λ r. ⌜ r ≡ marksOf (now (sheet .entry)) (columnAt (now (sheet .entry)) 0) ⌝ }
 {
-    let mut marks: [u8; MAX_STATES] = [0; MAX_STATES];
+    let mut marks: Marks = [0; MAX_STATES];
     let mut at: usize = 21;
     let mut q: usize = 0;
     while q < states {

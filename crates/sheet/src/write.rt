@@ -12,9 +12,9 @@ use crate::HEADER_LENGTH;
 use crate::STATE_LENGTH;
 use crate::TRANSITION_LENGTH;
 use fsbm::answer::Refusal;
-use fsbm::limits::MAX_STATES;
 use fsbm::machine;
 use fsbm::machine::Machine;
+use fsbm::machine::Marks;
 
 // The answer of write_sheet: why it refused, or how many bytes it wrote.
 pub enum Written {
@@ -55,7 +55,7 @@ fn write_transition(sheet: &mut [u8], at: usize, from: u16, letter: u16, to: u16
 }
 
 // The lines of the states, written after line one.
-fn write_states(sheet: &mut [u8], marks: &[u8; MAX_STATES], states: usize)
+fn write_states(sheet: &mut [u8], marks: &Marks, states: usize)
     requires { ⌜ (states ≤ 64) × (16 + 11 * states ≤ length (now sheet)) ⌝ }
     ensures { λ r. ⌜ now (sheet .exit) ≡ put 16 (now (sheet .entry)) (eachBelow states (stateLine (now (marks .entry)))) ⌝ }
 {

@@ -11,9 +11,9 @@ use blocks::sizes::MOST_STATES;
 use fsbm::config::BACK_TO_NORMAL;
 use fsbm::config::BEGIN_BUFFERING;
 use fsbm::config::BEGIN_EMPTYING;
-use fsbm::limits::MAX_STATES;
 use fsbm::machine;
 use fsbm::machine::Machine;
+use fsbm::machine::Marks;
 
 // How far the two halves of a copy are walked back: their states, the places of the first letter and of the first entry that are written,
 // and how many entries of the storing half are kept for later.
@@ -34,7 +34,7 @@ pub struct Progress {
 
 // Whether a copy with the guess h has just begun at the pair (s, t), and this makes the pair's number.
 fn begun(
-    marks: &[u8; MAX_STATES],
+    marks: &Marks,
     d: &[u64; MOST_STATES],
     b: &[u64; MOST_PAIRS],
     h: usize,

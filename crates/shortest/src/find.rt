@@ -13,9 +13,9 @@ use blocks::gather;
 use blocks::sizes::MOST_PAIRS;
 use blocks::sizes::MOST_STATES;
 use blocks::sizes::PAIR;
-use fsbm::limits::MAX_STATES;
 use fsbm::machine;
 use fsbm::machine::Machine;
+use fsbm::machine::Marks;
 use least::fall;
 
 // The moves of a pair's two halves, each by its transition; the number of transitions says that the half stands still.
@@ -51,13 +51,7 @@ pub fn cost(d: &[u64; MOST_STATES], q: usize) -> u64
 }
 
 // Whether transition k is taken in normal mode and its weight and the number where it begins make the number that is wanted.
-fn normal_fits(
-    marks: &[u8; MAX_STATES],
-    list: &[u16],
-    d: &[u64; MOST_STATES],
-    want: u64,
-    k: usize,
-) -> bool
+fn normal_fits(marks: &Marks, list: &[u16], d: &[u64; MOST_STATES], want: u64, k: usize) -> bool
     requires { ⌜ transitionAt (now list) k .from < 64 ⌝ }
     ensures { λ r. ⌜ r ≡ normalTest (now (marks .entry)) (now (list .entry)) (now (d .entry)) want k ⌝ }
 {
@@ -74,7 +68,7 @@ fn normal_fits(
 
 // The same of a transition by epsilon in buffering mode, for a pair whose matching half is in t.
 fn store_fits(
-    marks: &[u8; MAX_STATES],
+    marks: &Marks,
     list: &[u16],
     b: &[u64; MOST_PAIRS],
     t: usize,
@@ -99,7 +93,7 @@ fn store_fits(
 
 // The same of a transition by x in emptying mode, with the weight w, for a pair whose storing half is in s.
 fn match_fits(
-    marks: &[u8; MAX_STATES],
+    marks: &Marks,
     list: &[u16],
     b: &[u64; MOST_PAIRS],
     s: usize,

@@ -13,9 +13,9 @@ use blocks::block;
 use blocks::sizes::MOST_KEYS;
 use blocks::sizes::MOST_PAIRS;
 use blocks::sizes::MOST_STATES;
-use fsbm::limits::MAX_STATES;
 use fsbm::machine;
 use fsbm::machine::Machine;
+use fsbm::machine::Marks;
 
 // Writes a normal move by transition k before place i of the word and place r of the run.
 fn read(list: &[u16], k: usize, word: &mut [u8], i: usize, run: &mut [u16], r: usize) -> Progress
@@ -93,7 +93,7 @@ fn step(
     ends: u64,
     middles: u64,
     d: &[u64; MOST_STATES],
-    hints: &[u8; MAX_STATES],
+    hints: &Marks,
     b: &mut [u64; MOST_PAIRS],
     q: usize,
     word: &mut [u8],
@@ -137,7 +137,7 @@ pub fn write(
     ends: u64,
     middles: u64,
     d: &[u64; MOST_STATES],
-    hints: &[u8; MAX_STATES],
+    hints: &Marks,
     b: &mut [u64; MOST_PAIRS],
     f: usize,
     word: &mut [u8],

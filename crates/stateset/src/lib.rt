@@ -7,18 +7,21 @@ ghost use Prim.Native.Nat.{_<_};
 ghost use lib.Bits.{bitAnd, bitOr};
 ghost use Rattle.stateset.specs.Set.{width, In, has, added, removed, without, below, lowestOf, SetIs, Lowest};
 
+// A set of states.
+pub type StateSet = u64;
+
 // How many states a set can hold.
 pub const WIDTH: usize = 64;
 
 // The set with no member.
-pub fn empty() -> u64
+pub fn empty() -> StateSet
     ensures { λ r. ⌜ SetIs r 0 (λ p. ⊥) ⌝ }
 {
     0
 }
 
 // The states below n: all states where n is 64 or more.
-pub fn full(n: usize) -> u64
+pub fn full(n: usize) -> StateSet
     ensures { λ r. ⌜ SetIs r (below n) (λ p. (p < n) × (p < width)) ⌝ }
 {
     if n < WIDTH {
@@ -29,7 +32,7 @@ pub fn full(n: usize) -> u64
 }
 
 // Whether q is a member of the set.
-pub fn member(set: u64, q: usize) -> bool
+pub fn member(set: StateSet, q: usize) -> bool
     ensures { λ r. ⌜ r ≡ has set q ⌝ }
 {
     if q < WIDTH {
@@ -40,21 +43,21 @@ pub fn member(set: u64, q: usize) -> bool
 }
 
 // The set with the state q.
-pub fn add(set: u64, q: usize) -> u64
+pub fn add(set: StateSet, q: usize) -> StateSet
     ensures { λ r. ⌜ SetIs r (added set q) (λ p. In set p ⊎ ((p ≡ q) × (p < width))) ⌝ }
 {
     if q < WIDTH { set | (1u64 << q) } else { set }
 }
 
 // The set of the state q alone.
-pub fn single(q: usize) -> u64
+pub fn single(q: usize) -> StateSet
     ensures { λ r. ⌜ SetIs r (added 0 q) (λ p. (p ≡ q) × (p < width)) ⌝ }
 {
     add(empty(), q)
 }
 
 // The set without its lowest member; empty where it is empty. The step of a loop over the members.
-pub fn without_lowest(set: u64) -> u64
+pub fn without_lowest(set: StateSet) -> StateSet
     ensures { λ r. ⌜ SetIs r (removed set (lowestOf set)) (λ p. In set p × (p ≡ lowestOf set → ⊥)) ⌝ }
 {
     if set == 0 {
@@ -64,28 +67,28 @@ pub fn without_lowest(set: u64) -> u64
 }
 
 // The members of a and those of b.
-pub fn union(a: u64, b: u64) -> u64
+pub fn union(a: StateSet, b: StateSet) -> StateSet
     ensures { λ r. ⌜ SetIs r (bitOr a b) (λ p. In a p ⊎ In b p) ⌝ }
 {
     a | b
 }
 
 // The members that a and b share.
-pub fn intersection(a: u64, b: u64) -> u64
+pub fn intersection(a: StateSet, b: StateSet) -> StateSet
     ensures { λ r. ⌜ SetIs r (bitAnd a b) (λ p. In a p × In b p) ⌝ }
 {
     a & b
 }
 
 // The members of a that are no members of b.
-pub fn difference(a: u64, b: u64) -> u64
+pub fn difference(a: StateSet, b: StateSet) -> StateSet
     ensures { λ r. ⌜ SetIs r (without a b) (λ p. In a p × (In b p → ⊥)) ⌝ }
 {
     a & !b
 }
 
 // The lowest member of the set, or 64 where it has none.
-pub fn lowest(set: u64) -> u32
+pub fn lowest(set: StateSet) -> u32
     ensures { λ r. ⌜ Lowest set r ⌝ }
 {
     u64::trailing_zeros(set)

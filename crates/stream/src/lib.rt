@@ -19,6 +19,7 @@ ghost use Rattle.stream.specs.Pieces.{mostKept, opening, endPrints};
 ghost use Rattle.stream.specs.Calls.{pendingOf, ended, openAnswer, Lent, ByteKept, ByteTaken, PieceTaken};
 use fsbm::machine::Machine;
 use images::Kinds;
+use stateset::StateSet;
 
 // The most words that are listed.
 pub const MOST_WORDS: usize = 99999;
@@ -118,7 +119,7 @@ pub fn is_full(held: Held) -> bool
 fn end_line(
     m: Machine,
     list: &[u16],
-    targets: &[u64],
+    targets: &[StateSet],
     kinds: Kinds,
     line: &[u8],
     out: &mut [u8],
@@ -155,7 +156,7 @@ fn keep(line: &mut [u8], kept: usize, b: u8) -> usize
 fn take_byte(
     m: Machine,
     list: &[u16],
-    targets: &[u64],
+    targets: &[StateSet],
     kinds: Kinds,
     b: u8,
     line: &mut [u8],
@@ -187,7 +188,7 @@ fn take_byte(
 pub fn take_piece(
     m: Machine,
     list: &[u16],
-    targets: &[u64],
+    targets: &[StateSet],
     kinds: Kinds,
     piece: &[u8],
     line: &mut [u8],
@@ -212,7 +213,7 @@ pub fn take_piece(
 pub fn finish(
     m: Machine,
     list: &[u16],
-    targets: &[u64],
+    targets: &[StateSet],
     kinds: Kinds,
     line: &[u8],
     out: &mut [u8],

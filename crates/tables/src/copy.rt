@@ -13,14 +13,15 @@ ghost use Rattle.fsbm.specs.declared.machine.Machine.{Machine};
 ghost use Rattle.tables.specs.Tables.{Known, rowAt, PositionRows, EmptyRow, EmptyingRows, BufferingRows, ChangeLayer, Extended, EndRow, EndRows, Fruitless, Skipped, EndedRow, ChangedRow, StoredRow, StoringRow, StartingRow};
 use crate::halves;
 use crate::halves::HALVES;
-use fsbm::limits::MAX_STATES;
 use fsbm::limits::POSITIONS;
 use fsbm::machine::Machine;
 use layers::layer;
+use layers::row::Row;
+use stateset::StateSet;
 
 // A row. Where it is not live, it is blank.
 pub struct Layer {
-    pub row: [u32; MAX_STATES],
+    pub row: Row,
     pub live: bool,
 }
 
@@ -32,7 +33,7 @@ pub struct Tail {
 }
 
 // Row i of a table.
-pub fn load(t: &[[u32; MAX_STATES]], i: usize) -> [u32; MAX_STATES]
+pub fn load(t: &[Row], i: usize) -> Row
     requires { ⌜ i < length (now t) ⌝ }
     ensures { λ r. ⌜ r ≡ getD (now (t .entry)) i [] ⌝ }
 {
@@ -40,7 +41,7 @@ pub fn load(t: &[[u32; MAX_STATES]], i: usize) -> [u32; MAX_STATES]
 }
 
 // Puts a row in as row i of a table.
-pub fn save(t: &mut [[u32; MAX_STATES]], i: usize, row: [u32; MAX_STATES])
+pub fn save(t: &mut [Row], i: usize, row: Row)
     requires { ⌜ i < length (now t) ⌝ }
     ensures { λ r. ⌜ now (t .exit) ≡ set (now (t .entry)) i row ⌝ }
 {
@@ -68,15 +69,15 @@ fn dead() -> Layer
 pub fn emptying_rows(
     m: Machine,
     list: &[u16],
-    targets: &[u64],
-    g: u64,
-    h: u64,
-    sets: &[u64; POSITIONS],
+    targets: &[StateSet],
+    g: StateSet,
+    h: StateSet,
+    sets: &[StateSet; POSITIONS],
     word: &[u8],
-    last: [u32; MAX_STATES],
+    last: Row,
     e: usize,
     d: usize,
-    rows: &mut [[u32; MAX_STATES]],
+    rows: &mut [Row],
 )
     requires { ⌜ Known m (now list) (now targets) g h (now word) × (d ≤ e) × (e ≤ length (now word)) × (d < length (now rows)) × EmptyRow m (now list) (now sets) (now word) e 0 last ⌝ }
     ensures { λ r. ⌜ EmptyingRows m (now (list .entry)) (now (sets .entry)) (now (word .entry)) e d (now (rows .entry)) (now (rows .exit)) ⌝ }
@@ -98,15 +99,15 @@ pub fn emptying_rows(
 fn extend(
     m: Machine,
     list: &[u16],
-    targets: &[u64],
-    g: u64,
-    h: u64,
-    sets: &[u64; POSITIONS],
+    targets: &[StateSet],
+    g: StateSet,
+    h: StateSet,
+    sets: &[StateSet; POSITIONS],
     word: &[u8],
     e: usize,
     r: usize,
     d: usize,
-    row: &mut [u32; MAX_STATES],
+    row: &mut Row,
 ) -> Tail
     requires { ⌜ Known m (now list) (now targets) g h (now word) × (r ≤ d) × (d ≤ e) × (e ≤ length (now word)) × EmptyRow m (now list) (now sets) (now word) e r (now row) ⌝ }
     ensures { λ t. ⌜ Extended m (now (list .entry)) (now (sets .entry)) (now (word .entry)) e d t (now (row .exit)) ⌝ }
@@ -131,13 +132,7 @@ fn extend(
 }
 
 // Keeps what was extended for the end e, and hands its row on.
-fn keep(
-    tail: Tail,
-    row: &[u32; MAX_STATES],
-    e: usize,
-    ends: &mut [[u32; MAX_STATES]],
-    left: &mut [u16],
-) -> Layer
+fn keep(tail: Tail, row: &Row, e: usize, ends: &mut [Row], left: &mut [u16]) -> Layer
     requires { ⌜ (e < length (now ends)) × (e < length (now left)) × (e ≤ 255) × (tail .left ≤ e) ⌝ }
     ensures { λ r. ⌜ ((m : Machine) (list sets w : List ℕ) (d : ℕ) → d ≤ e → Extended m list sets w e d tail (now (row .entry)) → EndedRow m list sets w e d (now (ends .entry)) (now (ends .exit)) (now (left .entry)) (now (left .exit)) r) ⌝ }
 {
@@ -158,15 +153,15 @@ fn keep(
 fn ended_row(
     m: Machine,
     list: &[u16],
-    targets: &[u64],
-    g: u64,
-    h: u64,
-    sets: &[u64; POSITIONS],
+    targets: &[StateSet],
+    g: StateSet,
+    h: StateSet,
+    sets: &[StateSet; POSITIONS],
     word: &[u8],
-    t: &[[u32; MAX_STATES]],
+    t: &[Row],
     e: usize,
     d: usize,
-    ends: &mut [[u32; MAX_STATES]],
+    ends: &mut [Row],
     left: &mut [u16],
 ) -> Layer
     requires { ⌜ Known m (now list) (now targets) g h (now word) × (d ≤ e) × (e ≤ length (now word)) × (length (now word) ≤ 255) × (length (now word) * 3 + 3 ≤ length (now t))
@@ -226,16 +221,16 @@ fn skip_fruitless(i: usize, d: usize, counts: &[u16; HALVES], left: &[u16]) -> u
 fn change_row(
     m: Machine,
     list: &[u16],
-    targets: &[u64],
-    g: u64,
-    h: u64,
-    sets: &[u64; POSITIONS],
+    targets: &[StateSet],
+    g: StateSet,
+    h: StateSet,
+    sets: &[StateSet; POSITIONS],
     word: &[u8],
-    t: &[[u32; MAX_STATES]],
+    t: &[Row],
     i: usize,
     d: usize,
     counts: &[u16; HALVES],
-    ends: &mut [[u32; MAX_STATES]],
+    ends: &mut [Row],
     left: &mut [u16],
 ) -> Layer
     requires { ⌜ Known m (now list) (now targets) g h (now word) × (0 < d) × (i + d + d ≤ length (now word)) × (length (now word) ≤ 255) × (length (now word) * 3 + 3 ≤ length (now t))
@@ -266,15 +261,15 @@ fn change_row(
 fn stored_row(
     m: Machine,
     list: &[u16],
-    targets: &[u64],
-    g: u64,
-    h: u64,
+    targets: &[StateSet],
+    g: StateSet,
+    h: StateSet,
     x: u16,
-    next: &[u32; MAX_STATES],
+    next: &Row,
     goes: bool,
-    change: &[u32; MAX_STATES],
+    change: &Row,
     turns: bool,
-    row: &mut [u32; MAX_STATES],
+    row: &mut Row,
 ) -> bool
     requires { ⌜ Given m (now list) (now targets) g h × Row m (now list) (now targets) x × (now row ≡ blankRow) ⌝ }
     ensures { λ r. ⌜ StoredRow m (now (list .entry)) x (record { row = now (next .entry); live = goes }) (record { row = now (change .entry); live = turns }) (record { row = now (row .exit); live = r }) ⌝ }
@@ -291,15 +286,15 @@ fn stored_row(
 fn storing_row(
     m: Machine,
     list: &[u16],
-    targets: &[u64],
-    g: u64,
-    h: u64,
-    sets: &[u64; POSITIONS],
+    targets: &[StateSet],
+    g: StateSet,
+    h: StateSet,
+    sets: &[StateSet; POSITIONS],
     word: &[u8],
-    t: &[[u32; MAX_STATES]],
+    t: &[Row],
     i: usize,
     counts: &[u16; HALVES],
-    ends: &mut [[u32; MAX_STATES]],
+    ends: &mut [Row],
     left: &mut [u16],
 ) -> Layer
     requires { ⌜ Known m (now list) (now targets) g h (now word) × (i < length (now word)) × (length (now word) ≤ 255) × (length (now word) * 3 + 3 ≤ length (now t))
@@ -352,16 +347,16 @@ fn storing_row(
 pub fn starting_row(
     m: Machine,
     list: &[u16],
-    targets: &[u64],
-    g: u64,
-    h: u64,
-    sets: &[u64; POSITIONS],
+    targets: &[StateSet],
+    g: StateSet,
+    h: StateSet,
+    sets: &[StateSet; POSITIONS],
     word: &[u8],
-    t: &[[u32; MAX_STATES]],
+    t: &[Row],
     i: usize,
-    starts: u64,
+    starts: StateSet,
     counts: &[u16; HALVES],
-    ends: &mut [[u32; MAX_STATES]],
+    ends: &mut [Row],
     left: &mut [u16],
 ) -> Layer
     requires { ⌜ Known m (now list) (now targets) g h (now word) × (i < length (now word)) × (length (now word) ≤ 255) × (length (now word) * 3 + 3 ≤ length (now t))
@@ -378,12 +373,12 @@ pub fn starting_row(
 fn fresh_change(
     m: Machine,
     list: &[u16],
-    targets: &[u64],
-    g: u64,
-    h: u64,
-    sets: &[u64; POSITIONS],
+    targets: &[StateSet],
+    g: StateSet,
+    h: StateSet,
+    sets: &[StateSet; POSITIONS],
     word: &[u8],
-    t: &[[u32; MAX_STATES]],
+    t: &[Row],
     i: usize,
     d: usize,
 ) -> Layer
@@ -407,14 +402,14 @@ fn fresh_change(
 pub fn buffering_rows(
     m: Machine,
     list: &[u16],
-    targets: &[u64],
-    g: u64,
-    h: u64,
-    sets: &[u64; POSITIONS],
+    targets: &[StateSet],
+    g: StateSet,
+    h: StateSet,
+    sets: &[StateSet; POSITIONS],
     word: &[u8],
-    t: &[[u32; MAX_STATES]],
+    t: &[Row],
     i: usize,
-    stored: &mut [[u32; MAX_STATES]],
+    stored: &mut [Row],
 )
     requires { ⌜ Known m (now list) (now targets) g h (now word) × (i < length (now word)) × (length (now word) * 3 + 3 ≤ length (now t)) × (length (now word) / 2 < length (now stored))
         × ((p : ℕ) → i < p → p ≤ length (now word) → PositionRows m (now list) (now sets) (now word) (now t) p) ⌝ }

@@ -12,14 +12,15 @@ ghost use Rattle.tables.specs.Tables.{Known, putPosition, Placed, Sizes,
 use crate::copy;
 use crate::halves;
 use crate::halves::HALVES;
-use fsbm::limits::MAX_STATES;
 use fsbm::limits::POSITIONS;
 use fsbm::machine::Machine;
 use layers::layer;
 use layers::layer::Position;
+use layers::row::Row;
+use stateset::StateSet;
 
 // Puts the rows of position p into the table.
-fn put_position(t: &mut [[u32; MAX_STATES]], p: usize, position: Position)
+fn put_position(t: &mut [Row], p: usize, position: Position)
     requires { ⌜ p * 3 + 3 ≤ length (now t) ⌝ }
     ensures { λ r. ⌜ now (t .exit) ≡ putPosition (now (t .entry)) p position ⌝ }
 {
@@ -32,13 +33,7 @@ fn put_position(t: &mut [[u32; MAX_STATES]], p: usize, position: Position)
 }
 
 // Puts the rows of position p into the table, and has the copies that end there begin with them, or be blank where none goes on.
-fn position_rows(
-    p: usize,
-    position: Position,
-    t: &mut [[u32; MAX_STATES]],
-    ends: &mut [[u32; MAX_STATES]],
-    left: &mut [u16],
-)
+fn position_rows(p: usize, position: Position, t: &mut [Row], ends: &mut [Row], left: &mut [u16])
     requires { ⌜ (p * 3 + 3 ≤ length (now t)) × (p < length (now ends)) × (p < length (now left)) ⌝ }
     ensures { λ r. ⌜ Placed p position (now (t .entry)) (now (t .exit)) (now (ends .entry)) (now (ends .exit)) (now (left .entry)) (now (left .exit)) ⌝ }
 {
@@ -65,7 +60,7 @@ fn unreached() -> Position
 }
 
 // The states that runs reach at position p in normal mode.
-fn near_at(m: Machine, sets: &[u64; POSITIONS], p: usize) -> u64
+fn near_at(m: Machine, sets: &[StateSet; POSITIONS], p: usize) -> StateSet
     requires { ⌜ p ≤ 255 ⌝ }
     ensures { λ r. ⌜ (r ≡ bitAnd (getD (now (sets .entry)) p 0) (below (m .states))) × ((q : ℕ) → In r q → q < m .states) ⌝ }
 {
@@ -76,13 +71,13 @@ fn near_at(m: Machine, sets: &[u64; POSITIONS], p: usize) -> u64
 fn fill_end(
     m: Machine,
     list: &[u16],
-    targets: &[u64],
-    g: u64,
-    h: u64,
-    sets: &[u64; POSITIONS],
+    targets: &[StateSet],
+    g: StateSet,
+    h: StateSet,
+    sets: &[StateSet; POSITIONS],
     word: &[u8],
-    t: &mut [[u32; MAX_STATES]],
-    ends: &mut [[u32; MAX_STATES]],
+    t: &mut [Row],
+    ends: &mut [Row],
     left: &mut [u16],
 )
     requires { ⌜ Known m (now list) (now targets) g h (now word) × (length (now word) ≤ 255) × Sizes (now word) (now t) (now ends) (now left) ⌝ }
@@ -99,14 +94,14 @@ fn fill_end(
 fn fill_position(
     m: Machine,
     list: &[u16],
-    targets: &[u64],
-    g: u64,
-    h: u64,
-    sets: &[u64; POSITIONS],
+    targets: &[StateSet],
+    g: StateSet,
+    h: StateSet,
+    sets: &[StateSet; POSITIONS],
     word: &[u8],
     p: usize,
-    t: &mut [[u32; MAX_STATES]],
-    ends: &mut [[u32; MAX_STATES]],
+    t: &mut [Row],
+    ends: &mut [Row],
     left: &mut [u16],
     counts: &mut [u16; HALVES],
 )
@@ -157,13 +152,13 @@ fn fill_position(
 pub fn fill(
     m: Machine,
     list: &[u16],
-    targets: &[u64],
-    g: u64,
-    h: u64,
-    sets: &[u64; POSITIONS],
+    targets: &[StateSet],
+    g: StateSet,
+    h: StateSet,
+    sets: &[StateSet; POSITIONS],
     word: &[u8],
-    t: &mut [[u32; MAX_STATES]],
-    ends: &mut [[u32; MAX_STATES]],
+    t: &mut [Row],
+    ends: &mut [Row],
     left: &mut [u16],
 )
     requires { ⌜ Known m (now list) (now targets) g h (now word) × (length (now word) ≤ 255) × Sizes (now word) (now t) (now ends) (now left) ⌝ }

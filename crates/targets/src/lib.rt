@@ -18,6 +18,7 @@ ghost use Rattle.images.specs.Graph.{setOf, Good, KindsOf};
 ghost use Rattle.targets.specs.Prepared.{Prepared, Lettered, Whole, Wanted, Inside, Filled, Made, Sources, Closing, WithClosures};
 use fsbm::machine::Machine;
 use images::Kinds;
+use stateset::StateSet;
 
 // The sets of the largest machine's table.
 pub const MOST_SETS: usize = 16130;
@@ -62,7 +63,7 @@ fn is_wanted(wanted: &[u8; BYTES], x: usize) -> bool
 }
 
 // Adds transition number k to the table, where its letter is wanted.
-fn put(m: Machine, list: &[u16], wanted: &[u8; BYTES], targets: &mut [u64], k: usize)
+fn put(m: Machine, list: &[u16], wanted: &[u8; BYTES], targets: &mut [StateSet], k: usize)
     requires { ⌜ Inside m (now list) k × Filled m (now list) (now wanted) (now targets) k ⌝ }
     ensures { λ r. ⌜ Filled m (now (list .entry)) (now (wanted .entry)) (now (targets .exit)) (k + 1) ⌝ }
 {
@@ -77,7 +78,7 @@ fn put(m: Machine, list: &[u16], wanted: &[u8; BYTES], targets: &mut [u64], k: u
 }
 
 // Fills the rows of the wanted letters in a table of zeros.
-fn fill_rows(m: Machine, list: &[u16], wanted: &[u8; BYTES], targets: &mut [u64])
+fn fill_rows(m: Machine, list: &[u16], wanted: &[u8; BYTES], targets: &mut [StateSet])
     requires { ⌜ (wellFormed m (now list) ≡ true) × (setOf (m .states) (m .letters) (m .states) ≤ length (now targets)) × ((i : ℕ) → getD (now targets) i 0 ≡ 0) ⌝ }
     ensures { λ r. ⌜ Filled m (now (list .entry)) (now (wanted .entry)) (now (targets .exit)) (m .transitions) ⌝ }
 {
@@ -89,7 +90,7 @@ fn fill_rows(m: Machine, list: &[u16], wanted: &[u8; BYTES], targets: &mut [u64]
 }
 
 // The set with p where its own set of states is not empty, else the set.
-fn add_source(set: u64, p: usize, own: u64) -> u64
+fn add_source(set: StateSet, p: usize, own: StateSet) -> StateSet
     ensures { λ r. ⌜ ((q : ℕ) → In set q → In r q) × ((own ≡ 0 → ⊥) → p < width → In r p) ⌝ }
 {
     if own == 0 {
@@ -99,7 +100,7 @@ fn add_source(set: u64, p: usize, own: u64) -> u64
 }
 
 // The states below a number whose set in the row of letter 0 is not empty.
-fn sources(targets: &[u64], states: usize) -> u64
+fn sources(targets: &[StateSet], states: usize) -> StateSet
     requires { ⌜ (states ≤ width) × (2 + states + states ≤ length (now targets)) ⌝ }
     ensures { λ r. ⌜ Sources (now (targets .entry)) states states r ⌝ }
 {
@@ -113,7 +114,7 @@ fn sources(targets: &[u64], states: usize) -> u64
 }
 
 // Fills a table of zeros: the rows of the wanted letters, and as its first set the states that have epsilon transitions.
-fn fill(m: Machine, list: &[u16], wanted: &[u8; BYTES], targets: &mut [u64])
+fn fill(m: Machine, list: &[u16], wanted: &[u8; BYTES], targets: &mut [StateSet])
     requires { ⌜ (wellFormed m (now list) ≡ true) × (setOf (m .states) (m .letters) (m .states) ≤ length (now targets)) × ((i : ℕ) → getD (now targets) i 0 ≡ 0) ⌝ }
     ensures { λ r. ⌜ Made m (now (list .entry)) (now (wanted .entry)) (now (targets .exit)) ⌝ }
 {
@@ -123,7 +124,7 @@ fn fill(m: Machine, list: &[u16], wanted: &[u8; BYTES], targets: &mut [u64])
 }
 
 // Puts the closure of each state into a table that has none.
-fn put_closures(states: usize, g: u64, h: u64, targets: &mut [u64])
+fn put_closures(states: usize, g: StateSet, h: StateSet, targets: &mut [StateSet])
     requires { ⌜ Good (now targets) states g h × (getD (now targets) 1 0 ≡ 0) ⌝ }
     ensures { λ r. ⌜ Closing states g h (now (targets .entry)) (now (targets .exit)) states ⌝ }
 {
@@ -137,7 +138,7 @@ fn put_closures(states: usize, g: u64, h: u64, targets: &mut [u64])
 }
 
 // The same, and as the table's second set the states.
-fn close_states(states: usize, g: u64, h: u64, targets: &mut [u64])
+fn close_states(states: usize, g: StateSet, h: StateSet, targets: &mut [StateSet])
     requires { ⌜ Good (now targets) states g h × (getD (now targets) 1 0 ≡ 0) ⌝ }
     ensures { λ r. ⌜ WithClosures states g h (now (targets .entry)) (now (targets .exit)) ⌝ }
 {
@@ -147,7 +148,7 @@ fn close_states(states: usize, g: u64, h: u64, targets: &mut [u64])
 
 // Prepares a table of zeros for every word of the machine's letters.
 // Time: the transitions and the states, each once, and the closure of each state. Memory: none but the table and 256 bytes.
-pub fn prepare(m: Machine, list: &[u16], kinds: Kinds, targets: &mut [u64])
+pub fn prepare(m: Machine, list: &[u16], kinds: Kinds, targets: &mut [StateSet])
     requires { ⌜ (wellFormed m (now list) ≡ true) × (setOf (m .states) (m .letters) (m .states) ≤ length (now targets)) × ((i : ℕ) → getD (now targets) i 0 ≡ 0)
         × KindsOf (m .marks) (m .states) kinds ⌝ }
     ensures { λ r. ⌜ Whole m (now (list .entry)) (now (targets .exit)) × ((p : ℕ) → p < m .states → In (getD (now (targets .exit)) 1 0) p) ⌝ }
@@ -159,7 +160,7 @@ pub fn prepare(m: Machine, list: &[u16], kinds: Kinds, targets: &mut [u64])
 
 // Prepares a table of zeros for one word: a transition whose letter does not stand in the word is passed over.
 // Time: the transitions, the states and the letters of the word, each once. Memory: none but the table and 256 bytes.
-pub fn prepare_for(m: Machine, list: &[u16], word: &[u8], targets: &mut [u64])
+pub fn prepare_for(m: Machine, list: &[u16], word: &[u8], targets: &mut [StateSet])
     requires { ⌜ (wellFormed m (now list) ≡ true) × Lettered (m .letters) (now word) × (setOf (m .states) (m .letters) (m .states) ≤ length (now targets)) × ((i : ℕ) → getD (now targets) i 0 ≡ 0) ⌝ }
     ensures { λ r. ⌜ Prepared m (now (list .entry)) (now (word .entry)) (now (targets .exit)) ⌝ }
 {
