@@ -145,16 +145,14 @@ pub fn section() {
         "over and over. Listed: words in the file. Ratio: time of the proved program / time of plain Rust."
     );
     println!();
-    println!(
-        "{:10} {:>7} {:14} {:>5} {:>6} {:>11} {:>11} {:>7}",
-        "table", "letters", "words", "yes", "listed", "proved", "plain", "ratio"
-    );
+    println!("| table | letters | words | yes | listed | proved | plain Rust | ratio |");
+    println!("|---|---|---|---|---|---|---|---|");
     let tables = [
         table_t(),
         repeated(),
         zones(),
         dense(),
-        in_turn("in turn", 1),
+        in_turn("zones in turn, 9 states", 1),
     ];
     let mut empties = Vec::new();
     for table in &tables {
@@ -172,7 +170,7 @@ pub fn section() {
     println!("On an empty input, milliseconds:");
     for (name, (proved, plain)) in empties {
         println!(
-            "{name:10} proved {:6.3}, plain {:6.3}",
+            "{name}: proved {:.3}, plain Rust {:.3}",
             1e3 * proved,
             1e3 * plain
         );
@@ -191,9 +189,9 @@ fn row(place: &Place, table: &Table, length: usize, kind: &str, empty: (f64, f64
     let answers = listed.chunks_exact(16).skip(1).take(words.len());
     let yes = answers.filter(|line| line[9] == b'1').count();
     println!(
-        "{:10} {length:7} {kind:14} {:>5} {count:6} {:>11} {:>11} {:7.2}",
+        "| {} | {length} | {kind} | {yes}/{} | {count} | {} | {} | {:.2} |",
         table.name,
-        format!("{yes}/{}", words.len()),
+        words.len(),
         rate(count as f64 / proved),
         rate(count as f64 / plain),
         proved / plain

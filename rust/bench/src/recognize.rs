@@ -75,7 +75,7 @@ pub fn repeated() -> Table {
         [2, 1, 2],
         [2, 2, 2],
     ];
-    Table::new("repeated", 2, &[5, 0, 10], &moves)
+    Table::new("doubled words repeated", 2, &[5, 0, 10], &moves)
 }
 
 /// Ten copy zones of six states over 20 letters. In a zone storing goes to and fro between two states, matching too, and
@@ -111,7 +111,7 @@ pub fn zones() -> Table {
             moves.push([plain, 0, begin + 6]);
         }
     }
-    Table::new("60 states", 20, &marks, &moves)
+    Table::new("60 states, 10 zones", 20, &marks, &moves)
 }
 
 /// Pairs of copy zones in turn over one letter, the first of a pair for one letter and the second for two: copies of every
@@ -148,7 +148,7 @@ pub fn dense() -> Table {
     let moves: Vec<[u16; 3]> = (0..4000)
         .map(|number| [number / 64, 1, number % 64])
         .collect();
-    Table::new("dense", 1, &marks, &moves)
+    Table::new("dense, 64 states, 4,000 transitions", 1, &marks, &moves)
 }
 
 /// The kinds of words over so many letters. Over one letter all words of a length are the same.
@@ -249,17 +249,15 @@ pub fn section() {
     );
     println!("the first pass came to. Ratio: time of the proved call / time of plain Rust.");
     println!();
-    println!(
-        "{:10} {:>7} {:14} {:>5} {:>11} {:>11} {:>7}",
-        "table", "letters", "words", "yes", "proved", "plain", "ratio"
-    );
+    println!("| table | letters | words | yes | proved | plain Rust | ratio |");
+    println!("|---|---|---|---|---|---|---|");
     let tables = [
         table_t(),
         repeated(),
         zones(),
         dense(),
-        in_turn("in turn", 1),
-        in_turn("in turn, 7", 7),
+        in_turn("zones in turn, 9 states", 1),
+        in_turn("zones in turn, 63 states", 7),
     ];
     let mut slowest = Vec::new();
     for table in &tables {
@@ -280,13 +278,11 @@ pub fn section() {
         "The slowest of the measured words of 254 and 255 letters for the proved call. Milliseconds, best of up to {CALLS} calls."
     );
     println!();
-    println!(
-        "{:10} {:>7} {:14} {:>6} {:>10} {:>10} {:>7}",
-        "table", "letters", "word", "answer", "proved", "plain", "ratio"
-    );
+    println!("| table | letters | word | answer | proved, ms | plain Rust, ms | ratio |");
+    println!("|---|---|---|---|---|---|---|");
     for (name, single) in slowest {
         println!(
-            "{name:10} {:7} {:14} {:>6} {:10.3} {:10.3} {:7.2}",
+            "| {name} | {} | {} | {} | {:.3} | {:.3} | {:.2} |",
             single.length,
             single.kind,
             if single.yes { "yes" } else { "no" },
@@ -297,14 +293,14 @@ pub fn section() {
     }
     println!();
     println!(
-        "T is table T; repeated is T with a way back, doubled words one after another; 60 states has 20 letters,"
+        "Doubled words repeated is T with a way back, doubled words one after another; the table of 60 states has 20 letters,"
     );
     println!(
-        "{} transitions and 10 copy zones; dense has 64 states, {} transitions and one letter; in turn has two copy",
+        "{} transitions and 10 copy zones; the dense one has {} transitions and one letter; zones in turn have two copy",
         tables[2].machine.transitions, tables[3].machine.transitions
     );
     println!(
-        "zones in turn over one letter, for one letter and for two, and in turn, 7 has seven such pairs, {} states.",
+        "zones in turn over one letter, for one letter and for two, and those of {} states seven such pairs.",
         tables[5].machine.states
     );
 }
@@ -399,8 +395,8 @@ fn row(table: &Table, length: usize, kind: &'static str) -> Vec<Single> {
     let count = words.len() as f64;
     let yes = singles.iter().filter(|single| single.yes).count();
     println!(
-        "{name:10} {length:7} {kind:14} {:>5} {:>11} {:>11} {:7.2}",
-        format!("{yes}/{}", words.len()),
+        "| {name} | {length} | {kind} | {yes}/{} | {} | {} | {:.2} |",
+        words.len(),
         rate(count / proved),
         rate(count / plain),
         proved / plain
@@ -411,8 +407,16 @@ fn row(table: &Table, length: usize, kind: &'static str) -> Vec<Single> {
 /// The number with three digits or more.
 pub fn rate(number: f64) -> String {
     match number {
-        100.0.. => format!("{number:.0}"),
+        100.0.. => thousands(number.round() as u64),
         10.0.. => format!("{number:.1}"),
         _ => format!("{number:.2}"),
+    }
+}
+
+/// The number with a comma before each three digits.
+fn thousands(number: u64) -> String {
+    match number {
+        1000.. => format!("{},{:03}", thousands(number / 1000), number % 1000),
+        _ => number.to_string(),
     }
 }
