@@ -1,23 +1,25 @@
 /* Calls of the proved library for finite-state buffered machines (FSBMs).
  *
- *   zagvirk_step         one move of a run
- *   zagvirk_check_run    whether a run accepts a word
- *   zagvirk_read_sheet   a machine from its sheet
- *   zagvirk_write_sheet  a machine's sheet
- *   zagvirk_translate    a written word to letters
- *   zagvirk_join         the product of a machine with a plain machine
- *   zagvirk_list_copies  the copies of an accepting run
- *   zagvirk_recognize    whether a machine accepts a word, with a run
- *   zagvirk_common_word  a shortest word that a machine and a plain machine both accept, with a run of each
+ *   zagvirk_step          one move of a run
+ *   zagvirk_check_run     whether a run accepts a word
+ *   zagvirk_read_sheet    a machine from its sheet
+ *   zagvirk_write_sheet   a machine's sheet
+ *   zagvirk_translate     a written word to letters
+ *   zagvirk_join          the product of a machine with a plain machine
+ *   zagvirk_list_copies   the copies of an accepting run
+ *   zagvirk_recognize     whether a machine accepts a word, with a run
+ *   zagvirk_accepts       whether a machine accepts a word, without a run
+ *   zagvirk_accept_words  the same for each word of a list
+ *   zagvirk_common_word   a shortest word that a machine and a plain machine both accept, with a run of each
  *
  * A machine has states numbered from 0 (1 to 64), letters numbered from 1 (0 to 250) and transitions numbered from 0
  * (0 to 4,000). Letter 0 in a transition is epsilon: nothing is read. A word is an array of bytes, one letter each.
  *
  * Link with libexports.a. A call only reads the arrays that its prototype marks const. It writes to the fronts of the
- * others and leaves the rest of them as it was; after a refusal, and after the answer no, all of them are as they were.
- * An array that is not const may not overlap with another argument. A pointer that goes with a length of 0 must still
- * not be null. Lengths are in elements. Nothing is kept after a call returns, and calls on several threads do not
- * affect one another.
+ * others and leaves the rest of them as it was; after a refusal, and after the answer no of zagvirk_recognize or
+ * zagvirk_common_word, all of them are as they were. An array that is not const may not overlap with another argument.
+ * A pointer that goes with a length of 0 must still not be null. Lengths are in elements. Nothing is kept after a call
+ * returns, and calls on several threads do not affect one another.
  */
 #ifndef ZAGVIRK_H
 #define ZAGVIRK_H
@@ -29,17 +31,19 @@
  * is 0, records and answers may change with the minor version: compile again then.
  */
 #define ZAGVIRK_VERSION_MAJOR 0
-#define ZAGVIRK_VERSION_MINOR 1
+#define ZAGVIRK_VERSION_MINOR 2
 #define ZAGVIRK_VERSION_PATCH 0
 #define ZAGVIRK_VERSION (10000 * ZAGVIRK_VERSION_MAJOR + 100 * ZAGVIRK_VERSION_MINOR + ZAGVIRK_VERSION_PATCH)
 
 /* The stack, in bytes, of a thread that makes a call; no call uses a heap. Measured on x86-64 Linux and rounded up, not
  * proved: the least threads that ran the calls on the largest inputs had 464 KB (zagvirk_recognize), 220 KB
- * (zagvirk_common_word), 80 KB (zagvirk_join) and for every other call 16 KB, the least that a thread may have there;
- * these take below 1 KB themselves. What the caller's own functions need comes on top.
+ * (zagvirk_common_word), 144 KB (zagvirk_accepts), 140 KB (zagvirk_accept_words), 80 KB (zagvirk_join) and for every
+ * other call 16 KB, the least that a thread may have there; these take below 1 KB themselves. What the caller's own
+ * functions need comes on top.
  */
 #define ZAGVIRK_STACK_RECOGNIZE (480 * 1024)
 #define ZAGVIRK_STACK_COMMON_WORD (240 * 1024)
+#define ZAGVIRK_STACK_ACCEPTS (160 * 1024) /* zagvirk_accepts and zagvirk_accept_words */
 #define ZAGVIRK_STACK_JOIN (96 * 1024)
 #define ZAGVIRK_STACK_SMALL (16 * 1024) /* every other call */
 
@@ -63,7 +67,7 @@ extern "C" {
 #define ZAGVIRK_BEGIN_EMPTYING 65534
 #define ZAGVIRK_BACK_TO_NORMAL 65535
 
-/* Refusals. With 15 and 17 to 20 a result's field `needed` is the length that the array needs, else it is 0. */
+/* Refusals. With 15, 17 to 20 and 35 a result's field `needed` is the length that the array needs, else it is 0. */
 #define ZAGVIRK_LINE_CUT_SHORT 1        /* fewer bytes are left than the next line takes */
 #define ZAGVIRK_COLUMN_BROKEN 2         /* a column or a line end is not as described */
 #define ZAGVIRK_COUNT_OUT_OF_RANGE 3    /* a count is outside its range */
@@ -84,6 +88,8 @@ extern "C" {
 #define ZAGVIRK_WORD_TOO_SHORT 18       /* the array for a word is too short */
 #define ZAGVIRK_SHEET_TOO_SHORT 19      /* the array for a sheet is too short */
 #define ZAGVIRK_COPIES_TOO_SHORT 20     /* the array for copies is too short */
+#define ZAGVIRK_ENDS_BROKEN 34          /* the ends of words fall, or lie past the letters */
+#define ZAGVIRK_ANSWERS_TOO_SHORT 35    /* the array for answers is too short */
 
 /* A machine's record. marks[i] is the mark of state i; marks past the last state are 0.
  *
@@ -264,10 +270,52 @@ typedef struct {
  *
  * Time: one pass over the machine and the word, then sets of states, at most word_len^2 / 2 of them for the answer; for
  * a run rows of fewest entries, at most word_len^2 / 2 of them too. Stack: ZAGVIRK_STACK_RECOGNIZE, of which a word
- * that is not accepted takes 140 KB.
+ * that is not accepted takes 144 KB.
  */
 zagvirk_recognized zagvirk_recognize(zagvirk_machine machine, const uint16_t *list, size_t list_len,
                                      const uint8_t *word, size_t word_len, uint16_t *run, size_t run_len);
+
+/* Yes or no without a run. */
+
+/* The result of zagvirk_accepts. accepted is 0 after a refusal. */
+typedef struct {
+  uint8_t refusal;  /* 0, 16, 9 or 8 */
+  uint8_t accepted; /* 0 or 1 */
+} zagvirk_decided;
+
+/* The result of zagvirk_accept_words. words is the number of answers written, 0 after a refusal. */
+typedef struct {
+  uint8_t refusal; /* 0, 16, 34 or 35 */
+  size_t needed;
+  size_t words;
+} zagvirk_words_answered;
+
+/* Whether the machine accepts the word. The answer is that of zagvirk_recognize with a run that is long enough.
+ *
+ * Refuses, in this order: 16, 9 over 255 letters, 8.
+ *
+ * Time: one pass over the machine and the word, then sets of states, at most word_len^2 / 2 of them. Stack:
+ * ZAGVIRK_STACK_ACCEPTS.
+ */
+zagvirk_decided zagvirk_accepts(zagvirk_machine machine, const uint16_t *list, size_t list_len, const uint8_t *word,
+                                size_t word_len);
+
+/* Whether the machine accepts each word of a list, which has any number of words, also none. The letters of all words
+ * stand one after another in letters: word k, counted from 0, ends before letters[ends[k]] and begins where the word
+ * before it ends, the first one at letters[0]. A word may be empty. Letters behind the last end are not looked at.
+ *
+ * For each word a byte is written to the front of answers: 1 yes, 0 no, else the refusal of this word alone, 9 over 255
+ * letters, then 8.
+ *
+ * Refuses, in this order: 16, 34 if an end is below the one before it or above letters_len, 35 if answers has fewer
+ * than ends_len elements.
+ *
+ * Time: the machine is tested and prepared once, in proportion to it; then passes over the ends and the letters, and
+ * for each word sets of states as in zagvirk_accepts. Stack: ZAGVIRK_STACK_ACCEPTS, whatever the number of words.
+ */
+zagvirk_words_answered zagvirk_accept_words(zagvirk_machine machine, const uint16_t *list, size_t list_len,
+                                            const uint8_t *letters, size_t letters_len, const size_t *ends,
+                                            size_t ends_len, uint8_t *answers, size_t answers_len);
 
 /* Common words. */
 

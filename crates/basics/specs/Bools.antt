@@ -1,18 +1,28 @@
 -- Bools: what a choice, a negation and a negated conjunction say. Generic.
 --
 -- cond-elim                    == what holds of both arms, each with its test, holds of the choice
+-- is-first, is-second          == a choice between two things that differ is the first exactly if its test is true, the second exactly if it is false
 -- not-says, says-not           == `not a` is true exactly if a is not true
 -- not-and-says, says-not-and   == the same for `not (a && b)`
 -- false-iff                    == a Bool that is true exactly if A holds is false exactly if A does not
 -- same-truth                   == two Bools that are true together are equal
-use mathlib.Core.Path.{_≡_, refl, sym}
+use mathlib.Core.Path.{_≡_, refl, sym, _∙_}
 use mathlib.Core.Logic.{_↔_}
-use mathlib.Core.Bool.{Bool, true, false, cond, not, _&&_, false≢true}
+use mathlib.Core.Bool.{Bool, true, false, cond, not, _&&_, false≢true, true≢false}
 use Rattle.basics.specs.Search.Laws.{and-true, and-both-true, not-both}
 
 pub cond-elim : {A : Type 0} (P : A → Type 0) (b : Bool) (x y : A) → (b ≡ true → P x) → (b ≡ false → P y) → P (cond b x y)
 cond-elim P true x y t f = t refl
 cond-elim P false x y t f = f refl
+
+module _ {A : Type 0} {x y r : A} (differ : x ≡ y → ⊥) where
+  pub is-first : (b : Bool) → r ≡ cond b x y → (r ≡ x) ↔ (b ≡ true)
+  is-first true e = (λ h. refl, λ h. e)
+  is-first false e = (λ h. absurd (differ (sym h ∙ e)), λ h. absurd (false≢true h))
+
+  pub is-second : (b : Bool) → r ≡ cond b x y → (r ≡ y) ↔ (b ≡ false)
+  is-second true e = (λ h. absurd (differ (sym e ∙ h)), λ h. absurd (true≢false h))
+  is-second false e = (λ h. refl, λ h. e)
 
 pub not-says : (a : Bool) → not a ≡ true → a ≡ true → ⊥
 not-says true h t = false≢true h

@@ -18,20 +18,20 @@
 -- sheet-round-trip    == a sheet read and written is the same bytes
 use Prim.Native.Nat.{ℕ, _*_, _≤_}
 use mathlib.Core.Path.{_≡_, refl, sym, _∙_, ap, subst}
-use mathlib.Core.Logic.{_↔_}
+use mathlib.Core.Logic.{_↔_, Iff·trans}
 use mathlib.Core.Bool.{Bool, true, false, cond}
 use mathlib.Core.List.{List, _++_}
 use native.Mathlib.Omega.{arith}
 use lib.ListN.{length, take, drop}
 use lib.Dec.{leb, eqb}
 use borrow.Author.Tests.{le-leb, eq-eqb}
-use Rattle.basics.specs.Bools.{false-iff}
+use Rattle.basics.specs.Bools.{is-first, is-second, false-iff}
 use Rattle.basics.specs.Search.Loops.{first}
 use Rattle.fsbm.specs.Moves.{accepting}
 use Rattle.fsbm.specs.Published.{fsbmOf, InLanguage}
 use Rattle.fsbm.specs.Entries.{WrittenRun}
 use Rattle.fsbm.specs.Accepted.{runBound, accepted}
-use Rattle.fsbm.specs.Answers.{longestChecked, tableAndWord, checkedBy, checkAnswer, refusal}
+use Rattle.fsbm.specs.Answers.{longestChecked, longestRecognized, tableAndWord, checkedBy, checkAnswer, checkedValues, refusal}
 use Rattle.fsbm.specs.Machine.{wellFormed}
 use Rattle.fsbm.specs.declared.machine.Machine.{Machine}
 use Rattle.fsbm.specs.declared.answer.Checked.{Checked}
@@ -43,11 +43,14 @@ use Rattle.sheet.specs.declared.read.Sheet.{Sheet}
 use Rattle.sheet.specs.declared.write.Written.{Written}
 use Rattle.sheet.specs.declared.write.Written.the-variants.{Bytes}
 use Rattle.sheet_laws.specs.Calls.{Wrote, Read, written-read, read-written}
-use Rattle.recognize.specs.Recognition.{longestRecognized, recognition, recognizedValues, Recognition}
+use Rattle.recognize.specs.Recognition.{recognition, recognizedValues, Recognition}
 use Rattle.recognize.specs.declared.Recognized.{Recognized}
 use Rattle.recognize.specs.declared.Recognized.the-variants.{No, Yes}
 
 -- 1. Recognition, where nothing is refused: a table and a word that pass 16, 9 and 8, and a slice that is long enough
+
+yes-not-no : (k : ℕ) → Yes k ≡ No → ⊥
+yes-not-no k e = let z = ap (λ (a : Recognized). recognizedValues a .accepted) e in omega arith
 
 module _ (m : Machine) (list w before after : List ℕ) (r : Recognized) (contract : Recognition m list w before after r)
     (not-refused : tableAndWord longestRecognized m list w ≡ 0) (long-enough : runBound m (length w) ≤ length before) where
@@ -64,10 +67,6 @@ module _ (m : Machine) (list w before after : List ℕ) (r : Recognized) (contra
   yes-accepted true e k y = refl
   yes-accepted false e k y = absurd (let z : _≡_ {A = ℕ} 0 1 = cc in omega arith)
 
-  no-accepted : (b : Bool) → r ≡ cond b (Yes (contract .entries)) No → r ≡ No → b ≡ false
-  no-accepted true e n = absurd (let z : _≡_ {A = ℕ} 0 1 = cc in omega arith)
-  no-accepted false e n = refl
-
   pub yes-iff-published : ((k : ℕ) × (r ≡ Yes k)) ↔ InLanguage (fsbmOf m list) w
   yes-iff-published = (
     λ y. accepted-iff-published m list w obeys .0 (yes-accepted (accepted m list w) answered (y .0) (y .1)),
@@ -75,10 +74,8 @@ module _ (m : Machine) (list w before after : List ℕ) (r : Recognized) (contra
   )
 
   pub no-iff-published : (r ≡ No) ↔ (InLanguage (fsbmOf m list) w → ⊥)
-  no-iff-published = (
-    λ n. accepted-not-published m list w obeys .0 (no-accepted (accepted m list w) answered n),
-    λ f. answered ∙ ap (λ (b : Bool). cond b (Yes (contract .entries)) No) (accepted-not-published m list w obeys .1 f),
-  )
+  no-iff-published =
+      Iff·trans (is-second (yes-not-no (contract .entries)) (accepted m list w) answered) (accepted-not-published m list w obeys)
 
   pub yes-written : (k : ℕ) → r ≡ Yes k → WrittenRun m list w (take k after) × (k ≤ runBound m (length w)) × (after ≡ take k after ++ drop k before)
   yes-written k y =
@@ -93,34 +90,22 @@ module _ (m : Machine) (list w before after : List ℕ) (r : Recognized) (contra
 
 -- 2. The run checker, where nothing is refused: a table and a word that pass 16, 9 and 8; any list of numbers is taken for a run
 
+accepting-or-not : checked.Accepting ≡ checked.NotAccepting → ⊥
+accepting-or-not e = let z = ap (λ (a : Checked). checkedValues a .accepting) e in omega arith
+
 module _ (m : Machine) (list w run : List ℕ) (r : Checked) (contract : r ≡ checkAnswer m list w run) (not-refused : tableAndWord longestChecked m list w ≡ 0) where
   checked-as : r ≡ checkedBy (accepting m list w run)
   unfolding checkAnswer
   checked-as = contract ∙ sym (first _ (eq-eqb (tableAndWord longestChecked m list w) 0 not-refused) refl)
 
-  passes-accepting : (b : Bool) → r ≡ checkedBy b → (r ≡ checked.Accepting) ↔ (b ≡ true)
-  passes-accepting true e = (λ p. refl, λ t. e)
-  passes-accepting false e =
-      (λ p. absurd (let z : _≡_ {A = ℕ} 0 1 = cc in omega arith), λ (t : false ≡ true). absurd (let z : _≡_ {A = ℕ} 0 1 = cc in omega arith))
-
-  fails-accepting : (b : Bool) → r ≡ checkedBy b → (r ≡ checked.NotAccepting) ↔ (b ≡ false)
-  fails-accepting true e =
-      (λ p. absurd (let z : _≡_ {A = ℕ} 0 1 = cc in omega arith), λ (t : true ≡ false). absurd (let z : _≡_ {A = ℕ} 0 1 = cc in omega arith))
-  fails-accepting false e = (λ p. refl, λ t. e)
-
   written-iff : (accepting m list w run ≡ true) ↔ WrittenRun m list w run
   written-iff = accepting-iff-written m list w (table-good longestChecked m list w not-refused .0) run
 
   pub passes-iff-written : (r ≡ checked.Accepting) ↔ WrittenRun m list w run
-  passes-iff-written =
-      let a = passes-accepting (accepting m list w run) checked-as in
-      (λ p. written-iff .0 (a .0 p), λ s. a .1 (written-iff .1 s))
+  passes-iff-written = Iff·trans (is-first accepting-or-not (accepting m list w run) checked-as) written-iff
 
   pub fails-iff-not : (r ≡ checked.NotAccepting) ↔ (WrittenRun m list w run → ⊥)
-  fails-iff-not =
-      let a = fails-accepting (accepting m list w run) checked-as in
-      let n = false-iff (accepting m list w run) written-iff in
-      (λ p. n .0 (a .0 p), λ s. a .1 (n .1 s))
+  fails-iff-not = Iff·trans (is-second accepting-or-not (accepting m list w run) checked-as) (false-iff (accepting m list w run) written-iff)
 
 -- 3. Sheets
 

@@ -3,3 +3,4 @@ pub mod Products
 pub mod Recognize
 pub mod Run
 pub mod SheetAnswers
+pub mod YesOrNo

@@ -4,3 +4,4 @@ pub mod products;
 pub mod recognition;
 pub mod run;
 pub mod sheets;
+pub mod yes_or_no;

@@ -2,17 +2,17 @@
 --
 -- step-refused, step-moved, check-refused, check-tried == the ways through Config::step and check_run
 -- step-says, check-says == an answer that is right has the right number and values
--- table-good == what no refusal says of a table and a word
-use Prim.Native.Nat.{ℕ, _≤_}
+-- word-good, table-good == what no refusal says of a word, and of a table and a word
+use Prim.Native.Nat.{ℕ, _≤_, _<_}
 use mathlib.Core.Path.{_≡_, refl, sym, _∙_, ap}
 use mathlib.Core.Bool.{Bool, true, false, cond}
 use mathlib.Core.List.{List}
 use mathlib.Core.Logic.{_⊎_, inl, inr}
 use native.Mathlib.Omega.{arith}
-use lib.ListN.{length}
+use lib.ListN.{length, getD}
 use lib.Dec.{leb, eqb}
 use borrow.Author.Tests.{eq-eqb, ne-eqb, leb-true}
-use Rattle.basics.specs.Search.Laws.{true-or-false}
+use Rattle.basics.specs.Search.Laws.{true-or-false, and-true, allIn-at}
 use Rattle.fsbm.specs.Machine.{wellFormed}
 use Rattle.basics.specs.Search.Loops.{first, second}
 use Rattle.fsbm.specs.declared.machine.Machine.{Machine}
@@ -23,7 +23,7 @@ use Rattle.fsbm.specs.declared.answer.Stepped.the-variants as stepped
 use Rattle.fsbm.specs.declared.answer.Checked.{Checked}
 use Rattle.fsbm.specs.declared.answer.Checked.the-variants as checked
 use Rattle.fsbm.specs.Moves.{move, accepting}
-use Rattle.fsbm.specs.Answers.{longestChecked, tableAndWord, refusal, steppedBy, stepAnswer, steppedValues, stepValues, checkedBy, checkAnswer, checkedValues, checkValues}
+use Rattle.fsbm.specs.Answers.{longestChecked, goodLetter, goodLetters, wordFault, tableAndWord, refusal, steppedBy, stepAnswer, steppedValues, stepValues, checkedBy, checkAnswer, checkedValues, checkValues}
 
 -- n is the number that the tests of the table and the word give
 module _ (m : Machine) (list w : List ℕ) (n : ℕ) (at-n : n ≡ tableAndWord longestChecked m list w) where
@@ -74,13 +74,25 @@ module _ (m : Machine) (list w : List ℕ) where
       at true n false = refl
       at false n a = refl
 
--- a table and a word that no test refuses
-pub table-good : (longest : ℕ) (m : Machine) (list w : List ℕ) → tableAndWord longest m list w ≡ 0 → (wellFormed m list ≡ true) × (length w ≤ longest)
-unfolding tableAndWord
-table-good longest m list w e = at (true-or-false (wellFormed m list)) (true-or-false (leb (length w) longest))
+-- a word that no test refuses
+pub word-good : (longest letters : ℕ) (w : List ℕ) → wordFault longest letters w ≡ 0 → (length w ≤ longest) × ((i : ℕ) → i < length w → getD w i 0 ≤ letters)
+word-good longest letters w e = at (true-or-false (leb (length w) longest)) (true-or-false (goodLetters letters w))
   where
-    at : (wellFormed m list ≡ true) ⊎ (wellFormed m list ≡ false) → (leb (length w) longest ≡ true) ⊎ (leb (length w) longest ≡ false)
-        → (wellFormed m list ≡ true) × (length w ≤ longest)
-    at (inr f) l = absurd (let d = second {r = 16} _ f refl ∙ e in omega arith)
-    at (inl t) (inr f) = absurd (let d = first {r = 9} _ t (second _ f refl) ∙ e in omega arith)
-    at (inl t) (inl l) = (t, leb-true (length w) longest l)
+    at : (leb (length w) longest ≡ true) ⊎ (leb (length w) longest ≡ false) → (goodLetters letters w ≡ true) ⊎ (goodLetters letters w ≡ false)
+        → (length w ≤ longest) × ((i : ℕ) → i < length w → getD w i 0 ≤ letters)
+    at (inr f) g = absurd (let d = second {r = 9} _ f refl ∙ e in omega arith)
+    at (inl l) (inr f) = absurd (let d = first {r = 8} _ l (second _ f refl) ∙ e in omega arith)
+    at (inl l) (inl g) = (
+      leb-true (length w) longest l,
+      λ i lt. leb-true (getD w i 0) letters (and-true (leb 1 (getD w i 0)) (leb (getD w i 0) letters) (allIn-at (goodLetter letters) w g i 0 lt) .1),
+    )
+
+-- a table and a word that no test refuses
+pub table-good : (longest : ℕ) (m : Machine) (list w : List ℕ) → tableAndWord longest m list w ≡ 0
+    → (wellFormed m list ≡ true) × (length w ≤ longest) × ((i : ℕ) → i < length w → getD w i 0 ≤ m .letters)
+unfolding tableAndWord
+table-good longest m list w e = at (true-or-false (wellFormed m list))
+  where
+    at : (wellFormed m list ≡ true) ⊎ (wellFormed m list ≡ false) → (wellFormed m list ≡ true) × (length w ≤ longest) × ((i : ℕ) → i < length w → getD w i 0 ≤ m .letters)
+    at (inr f) = absurd (let d = second {r = 16} _ f refl ∙ e in omega arith)
+    at (inl t) = let (l, g) = word-good longest (m .letters) w (first _ t refl ∙ e) in (t, l, g)

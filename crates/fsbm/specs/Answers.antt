@@ -1,6 +1,7 @@
 -- The answers of the public calls: document 01's numbers, in its order.
 --
 -- goodLetters letters w       == every letter of w is one of the machine's
+-- wordFault longest letters w == the first refusal of a word: 9, 8; 0 where there is none
 -- tableAndWord longest m list w == the first refusal of a table and a word: 16, 9, 8; 0 where there is none
 -- noMachine                   == the machine in the answer of a call that refuses
 -- stepAnswer m list w c e     == what Config::step answers
@@ -28,6 +29,10 @@ use Rattle.fsbm.specs.declared.answer.Checked.the-variants as checked
 abbrev pub longestChecked : ℕ
 longestChecked = 1048576
 
+-- the longest word that is recognized
+abbrev pub longestRecognized : ℕ
+longestRecognized = 255
+
 -- letters are numbered from 1
 abbrev pub goodLetter : ℕ → ℕ → Bool
 goodLetter letters x = leb 1 x && leb x letters
@@ -35,9 +40,13 @@ goodLetter letters x = leb 1 x && leb x letters
 abbrev pub goodLetters : ℕ → List ℕ → Bool
 goodLetters letters w = allIn (goodLetter letters) w
 
--- 16 the table breaks the rules, 9 the word is too long, 8 it has a letter that is not there
+-- 9 the word is too long, 8 it has a letter that is not there
+abbrev pub wordFault : ℕ → ℕ → List ℕ → ℕ
+wordFault longest letters w = cond (leb (length w) longest) (cond (goodLetters letters w) 0 8) 9
+
+-- 16 the table breaks the rules; then those of the word
 unfoldable pub tableAndWord : ℕ → Machine → List ℕ → List ℕ → ℕ
-tableAndWord longest m list w = cond (wellFormed m list) (cond (leb (length w) longest) (cond (goodLetters (m .letters) w) 0 8) 9) 16
+tableAndWord longest m list w = cond (wellFormed m list) (wordFault longest (m .letters) w) 16
 
 -- the machine in the answer of a call that makes one and refuses
 abbrev pub noMachine : Machine

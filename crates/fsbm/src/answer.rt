@@ -1,6 +1,6 @@
 // What a call answers when it turns its input down, and the tests that come before every answer on a table and a word.
 ghost use mathlib.Core.Path.{_≡_};
-ghost use Rattle.fsbm.specs.Answers.{goodLetter, goodLetters, tableAndWord};
+ghost use Rattle.fsbm.specs.Answers.{goodLetter, goodLetters, wordFault, tableAndWord};
 use crate::config::Config;
 use crate::machine;
 use crate::machine::Machine;
@@ -49,8 +49,23 @@ fn good_letters(letters: usize, word: &[u8]) -> bool
     true
 }
 
-// The first refusal of a table and a word of at most longest letters, or 0: 16 the record and its list break the rules of a table,
-// 9 the word is too long, 8 it has a letter that is not there.
+// The first refusal of a word of at most longest letters on a machine with this many letters, or 0: 9 the word is too long, 8 it has a
+// letter that is not there.
+// Time: the word once.
+pub fn word_fault(longest: usize, letters: usize, word: &[u8]) -> u8
+    ensures { λ r. ⌜ r ≡ wordFault longest letters (now (word .entry)) ⌝ }
+{
+    if longest < word.len() {
+        return 9;
+    }
+    if !good_letters(letters, word) {
+        return 8;
+    }
+    0
+}
+
+// The first refusal of a table and a word of at most longest letters, or 0: 16 the record and its list break the rules of a table, then
+// 9 and 8, those of the word.
 // Time: the table and the word, each once.
 pub fn table_and_word(longest: usize, m: Machine, list: &[u16], word: &[u8]) -> u8
     ensures { λ r. ⌜ r ≡ tableAndWord longest m (now (list .entry)) (now (word .entry)) ⌝ }
@@ -58,11 +73,5 @@ pub fn table_and_word(longest: usize, m: Machine, list: &[u16], word: &[u8]) -> 
     if !machine::is_well_formed(m, list) {
         return 16;
     }
-    if longest < word.len() {
-        return 9;
-    }
-    if !good_letters(m.letters, word) {
-        return 8;
-    }
-    0
+    word_fault(longest, m.letters, word)
 }

@@ -1,4 +1,5 @@
--- The lines of the listing (document 01, "Written words and the listing").
+-- The lines of the listing (document 01, "Written words and the listing"; their length by document 02, change 6). The laws stand in
+-- specs/Line/Laws.antt.
 --
 -- letterColumn line k      == column number k of a line, five bytes
 -- letterAt line k          == the number in it
@@ -6,27 +7,22 @@
 -- lineRefusal letters line == the refusal of a word's line, or 0
 -- lineAnswer m list line   == what is printed for a word: 1 yes, 0 no, 2 turned down, and the refusal
 -- answerLine n a r         == the printed line of word number n
--- Ready m list targets kinds == a table that obeys the rules, prepared for every word of its letters, and its kinds of states
 use Prim.Native.Nat.{ℕ, zero, suc, _+_, _*_, _/_, _%_}
-use mathlib.Core.Path.{_≡_}
 use mathlib.Core.List.{List, [], _∷_, _++_}
-use mathlib.Core.Bool.{Bool, true, cond, not, _&&_}
-use lib.ListN.{length, take, drop, set}
+use mathlib.Core.Bool.{Bool, cond, not, _&&_}
+use lib.ListN.{length, take, drop}
 use lib.Dec.{leb, eqb}
 use Rattle.basics.specs.Search.{allBelow}
 use Rattle.columns.specs.Column.{columnNumber, noNumber, columnOf}
-use Rattle.fsbm.specs.Machine.{wellFormed}
 use Rattle.fsbm.specs.Answers.{goodLetter}
 use Rattle.fsbm.specs.Accepted.{accepted}
 use Rattle.fsbm.specs.declared.machine.Machine.{Machine}
-use Rattle.targets.specs.Prepared.{Whole}
-use Rattle.images.specs.Graph.{KindsOf}
-use Rattle.images.specs.declared.Kinds.{Kinds}
 use Rattle.lines.specs.declared.Answer.{Answer}
+pub mod Laws
 
--- the most bytes of a line
+-- the most bytes of a line: 255 letters in columns of five
 abbrev pub longestLine : ℕ
-longestLine = 800
+longestLine = 1275
 
 abbrev pub letterColumn : List ℕ → ℕ → List ℕ
 letterColumn line k = take 5 (drop (k * 5) line)
@@ -67,20 +63,3 @@ lineAnswer m list line =
 -- three columns of five and byte 10
 unfoldable pub answerLine : ℕ → ℕ → ℕ → List ℕ
 answerLine n a r = columnOf 5 n ++ columnOf 5 a ++ columnOf 5 r ++ (10 ∷ [])
-
--- what read_word leaves: the refusal, and where there is none the letters at the front of the buffer
-pub record WordRead (letters : ℕ) (line : List ℕ) (r : ℕ) (word : List ℕ) : Type 0 where
-  pub refusal : r ≡ lineRefusal letters line
-  pub word-read : r ≡ 0 → take (length line / 5) word ≡ wordOf line
-
--- what store_letter leaves: the number as letter k where it is one
-pub record LetterStored (letters v k : ℕ) (r : Bool) (before after : List ℕ) : Type 0 where
-  pub is-letter : r ≡ goodLetter letters v
-  pub stored : r ≡ true → after ≡ set before k v
-  pub kept : length after ≡ length before
-
--- what a table is made ready for once, before its words are answered
-pub record Ready (m : Machine) (list targets : List ℕ) (kinds : Kinds) : Type 0 where
-  pub good : wellFormed m list ≡ true
-  pub prepared : Whole m list targets
-  pub sets : KindsOf (m .marks) (m .states) kinds

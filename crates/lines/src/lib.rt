@@ -1,24 +1,23 @@
 // The lines of the listing: from the bytes of a word's line to the three numbers that are printed for it, and their line.
 //
-// read_word    the letters of a word's line, or the refusal of it
 // answer_line  what is printed for a word's line
 // write_line   the printed line
-ghost use Prim.Native.Nat.{_+_, _*_, _≤_, _<_};
+ghost use Prim.Native.Nat.{_+_, _≤_};
 ghost use mathlib.Core.Path.{_≡_};
-ghost use mathlib.Core.Bool.{true, _&&_};
 ghost use lib.ListN.{length};
 ghost use Rattle.basics.specs.Lists.{put};
-ghost use Rattle.lines.specs.Line.{WordRead, LetterStored, lineAnswer, answerLine, Ready};
-use decide::positions;
+ghost use Rattle.accepts.specs.Ready.{Ready};
+ghost use Rattle.lines.specs.Line.{lineAnswer, answerLine};
+ghost use Rattle.lines.specs.Steps.{asByte, answerOf, WordRead};
+use accepts::prepared;
+use accepts::prepared::Decided;
+use fsbm::limits::LONGEST_WORD;
 use fsbm::machine::Machine;
 use images::Kinds;
 use stateset::StateSet;
 
-// The most bytes of a word's line: 160 letters in columns of five.
-pub const LONGEST: usize = 800;
-
-// The letters of such a line.
-const LETTERS: usize = 160;
+// The most bytes of a word's line: 255 letters in columns of five.
+pub const LONGEST: usize = 1275;
 
 // What is printed for a word: 1 yes, 0 no, 2 turned down; and the refusal's number or 0.
 pub struct Answer {
@@ -26,26 +25,21 @@ pub struct Answer {
     pub refusal: u8,
 }
 
-// Stores the number v as letter k of a word, where a machine of this many letters has it; answers whether it does.
-fn store_letter(letters: usize, v: usize, k: usize, word: &mut [u8]) -> bool
-    requires { ⌜ (letters ≤ 250) × (k < length (now word)) ⌝ }
-    ensures { λ r. ⌜ LetterStored letters v k r (now (word .entry)) (now (word .exit)) ⌝ }
+// A column's number as a byte of a word: itself, or where no byte holds it 0, which is no letter.
+fn byte(v: usize) -> u8
+    ensures { λ r. ⌜ r ≡ asByte v ⌝ }
 {
-    if v < 1 {
-        return false;
+    if 255 < v {
+        return 0;
     }
-    if letters < v {
-        return false;
-    }
-    word[k] = v as u8;
-    true
+    v as u8
 }
 
-// The refusal of a word's line, or 0 and its letters at the front of word: 9 more than 800 bytes, 2 a column that holds no number or
-// a part of one, 8 a number that is no letter.
-fn read_word(letters: usize, line: &[u8], word: &mut [u8]) -> u8
-    requires { ⌜ (letters ≤ 250) × (160 ≤ length (now word)) ⌝ }
-    ensures { λ r. ⌜ WordRead letters (now (line .entry)) r (now (word .exit)) ⌝ }
+// The refusal of a word's line before its letters are looked at, or 0 and its numbers at the front of word: 9 more than 1,275 bytes, 2 a
+// column that holds no number or a part of one.
+fn read_word(line: &[u8], word: &mut [u8]) -> u8
+    requires { ⌜ 255 ≤ length (now word) ⌝ }
+    ensures { λ r. ⌜ WordRead (now (line .entry)) r (now (word .exit)) ⌝ }
 {
     if LONGEST < line.len() {
         return 9;
@@ -54,28 +48,16 @@ fn read_word(letters: usize, line: &[u8], word: &mut [u8]) -> u8
         return 2;
     }
     let n = line.len() / 5;
-    let mut good = true;
     let mut k: usize = 0;
     while k < n {
         let v = columns::number(line, k * 5, 5);
         if v == columns::NO_NUMBER {
             return 2;
         }
-        let stored = store_letter(letters, v, k, word);
-        good = both(good, stored);
+        word[k] = byte(v);
         k += 1;
     }
-    if !good {
-        return 8;
-    }
     0
-}
-
-// Whether both hold.
-fn both(a: bool, b: bool) -> bool
-    ensures { λ r. ⌜ r ≡ (a && b) ⌝ }
-{
-    a && b
 }
 
 // Writes the line of a word's number and answer, 16 bytes, from byte at on.
@@ -89,9 +71,29 @@ pub fn write_line(out: &mut [u8], at: usize, number: usize, a: Answer)
     out[at + 15] = 10;
 }
 
-// What is printed for a word's line, on a table that obeys the rules (the sheet reader answers no other) and was prepared for all its
-// words: 2 and the refusal's number, in the order 9, 2, 8, or 1 or 0 for a word that the table accepts or not.
-// Time: the line once, and the time of the decision. Memory: 160 bytes, and that of the decision.
+// What is printed for the answer to a word.
+fn answer_of(d: Decided) -> Answer
+    ensures { λ r. ⌜ r ≡ answerOf d ⌝ }
+{
+    match d {
+        Decided::Refused(refusal) => Answer {
+            answer: 2,
+            refusal: refusal.number,
+        },
+        Decided::No => Answer {
+            answer: 0,
+            refusal: 0,
+        },
+        Decided::Yes => Answer {
+            answer: 1,
+            refusal: 0,
+        },
+    }
+}
+
+// What is printed for a word's line, on a table that obeys the rules (the sheet reader answers no other) and was made ready for all its
+// words: 2 and the refusal's number, in the order 9, 2, 8, or 1 or 0 for a word that the table accepts or not, as accepts answers it.
+// Time: the line once, and the time of the answer. Memory: 255 bytes, and that of the answer.
 pub fn answer_line(
     m: Machine,
     list: &[u16],
@@ -102,21 +104,11 @@ pub fn answer_line(
     requires { ⌜ Ready m (now list) (now targets) kinds ⌝ }
     ensures { λ r. ⌜ r ≡ lineAnswer m (now (list .entry)) (now (line .entry)) ⌝ }
 {
-    let mut word = [0u8; LETTERS];
-    let refusal = read_word(m.letters, line, &mut word);
+    let mut word = [0u8; LONGEST_WORD];
+    let refusal = read_word(line, &mut word);
     if refusal != 0 {
         return Answer { answer: 2, refusal };
     }
     let n = line.len() / 5;
-    let reached = positions::decide(m, list, targets, kinds, &word[..n]);
-    if reached.accepted {
-        return Answer {
-            answer: 1,
-            refusal: 0,
-        };
-    }
-    Answer {
-        answer: 0,
-        refusal: 0,
-    }
+    answer_of(prepared::accepts_prepared(m, list, targets, kinds, &word[..n]))
 }

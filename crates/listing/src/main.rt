@@ -12,9 +12,10 @@ ghost use mathlib.Core.Path.{_≡_};
 ghost use mathlib.Core.Bool.{true, false};
 ghost use lib.ListN.{length, getD};
 ghost use Rattle.fsbm.specs.Machine.{wellFormed};
-ghost use Rattle.lines.specs.Line.{Ready};
+ghost use Rattle.accepts.specs.Ready.{Ready};
 ghost use Rattle.stream.specs.Pieces.{mostKept, opening};
 ghost use Rattle.listing.specs.Output.{ReadFrom, HeldAfter, NextBytes, LastBytes, Buffers, PieceListed, done};
+use accepts::prepared;
 use fsbm::limits::LIST_LENGTH;
 use fsbm::machine::Machine;
 use images::Kinds;
@@ -25,7 +26,7 @@ use stream::Held;
 use targets::MOST_SETS;
 
 // The bytes of a line that are kept: one more than a word's line may have, which shows that it is too long.
-const LINE: usize = 801;
+const LINE: usize = 1276;
 
 // What a piece leaves: what is held, how many bytes of input came, and whether the output is closed, since a write has failed.
 pub struct Turn {
@@ -184,7 +185,7 @@ fn list_words(
 
 // Room for a line and one byte more.
 fn line_buffer() -> [u8; LINE]
-    ensures { λ r. ⌜ 801 ≡ length r ⌝ }
+    ensures { λ r. ⌜ 1276 ≡ length r ⌝ }
 {
     [0; LINE]
 }
@@ -210,8 +211,7 @@ fn list_prepared(sheet: &[u8], m: Machine, list: &[u16], out: &mut [u8])
     requires { ⌜ 65536 ≤ length (now out) ⌝ }
 {
     let mut targets = target_buffer();
-    let kinds = images::kinds_of(&m.marks, m.states);
-    targets::prepare(m, list, kinds, &mut targets);
+    let kinds = prepared::prepare(m, list, &mut targets);
     list_words(sheet, m, list, &targets, kinds, out);
 }
 

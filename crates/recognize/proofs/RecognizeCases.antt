@@ -1,32 +1,27 @@
 -- The ways through recognize, over plain variables.
 --
 -- needed-fits   == the length needed is a small number
--- lettered      == the letters of a word that is not refused are the machine's
 -- refused-table, refused-slice, says-no, says-yes == what each answer comes with
 -- fewest-front  == a run with the fewest entries is within the bound
-use Prim.Native.Nat.{ℕ, zero, suc, _+_, _*_, _≤_, _<_}
+use Prim.Native.Nat.{ℕ, _+_, _*_, _≤_, _<_}
 use mathlib.Core.Path.{_≡_, refl, sym, _∙_, ap}
 use mathlib.Core.Bool.{Bool, true, false, cond}
-use mathlib.Core.Logic.{_⊎_, inl, inr}
-use mathlib.Core.List.{List, [], _∷_, _++_}
+use mathlib.Core.List.{List, _++_}
 use native.Mathlib.Omega.{arith}
 use native.Mathlib.Nat.{mul-le-mul}
-use lib.ListN.{length, getD, take, drop}
+use lib.ListN.{length, take, drop}
 use lib.Dec.{leb, eqb}
-use borrow.Author.Tests.{le-leb, lt-leb, leb-true, eq-eqb, ne-eqb}
-use Rattle.basics.specs.Search.{allIn}
-use Rattle.basics.specs.Search.Laws.{and-true, true-or-false}
+use borrow.Author.Tests.{le-leb, lt-leb, eq-eqb, ne-eqb}
 use Rattle.basics.specs.Search.Loops.{first, second}
 use Rattle.fsbm.specs.Machine.{wellFormed}
 use Rattle.fsbm.specs.Moves.{accepting}
 use Rattle.fsbm.specs.Accepted.{runBound, accepted}
 use Rattle.fsbm.specs.Accepted.Laws.{accepted-true}
 use Rattle.runs.specs.Walk.{Written}
-use Rattle.targets.specs.Prepared.{Lettered}
-use Rattle.fsbm.specs.Answers.{goodLetter, goodLetters, tableAndWord, refusal}
+use Rattle.fsbm.specs.Answers.{longestRecognized, tableAndWord, refusal}
 use Rattle.fsbm.specs.declared.machine.Machine.{Machine}
 use Rattle.fsbm.specs.Rules.{rules}
-use Rattle.recognize.specs.Recognition.{longestRecognized, recognition, recognizedValues, recognitionValues, AtFront, Recognition}
+use Rattle.recognize.specs.Recognition.{recognition, recognizedValues, recognitionValues, AtFront, Recognition}
 use Rattle.recognize.specs.declared.Recognized.{Recognized}
 use Rattle.recognize.specs.declared.Recognized.the-variants.{Refused, No, Yes}
 
@@ -35,24 +30,6 @@ needed-fits m list w h l =
     let a : 3 * m .states ≤ 192 = omega (arith, rules m list h .states-fit) in
     let b : length w + 1 ≤ 256 = omega arith in
     mul-le-mul a b
-
--- what holds of all elements of a list holds of each
-all-at : (p : ℕ → Bool) (l : List ℕ) → allIn p l ≡ true → (i : ℕ) → i < length l → p (getD l i 0) ≡ true
-unfolding allIn
-all-at p [] h i lt = absurd (omega arith)
-all-at p (x ∷ l) h zero lt = and-true (p x) (allIn p l) h .0
-all-at p (x ∷ l) h (suc i) lt = all-at p l (and-true (p x) (allIn p l) h .1) i (omega arith)
-
-pub lettered : (longest : ℕ) (m : Machine) (list w : List ℕ) → tableAndWord longest m list w ≡ 0 → Lettered (m .letters) w
-unfolding tableAndWord
-lettered longest m list w e = at (true-or-false (wellFormed m list)) (true-or-false (leb (length w) longest)) (true-or-false (goodLetters (m .letters) w))
-  where
-    at : (wellFormed m list ≡ true) ⊎ (wellFormed m list ≡ false) → (leb (length w) longest ≡ true) ⊎ (leb (length w) longest ≡ false)
-        → (goodLetters (m .letters) w ≡ true) ⊎ (goodLetters (m .letters) w ≡ false) → Lettered (m .letters) w
-    at (inr f) l g = absurd (let d = second {r = 16} _ f refl ∙ e in omega arith)
-    at (inl t) (inr f) g = absurd (let d = first {r = 9} _ t (second _ f refl) ∙ e in omega arith)
-    at (inl t) (inl l) (inr f) = absurd (let d = first {r = 8} _ t (first _ l (second _ f refl)) ∙ e in omega arith)
-    at (inl t) (inl l) (inl g) = λ i lt. leb-true (getD w i 0) (m .letters) (and-true (leb 1 (getD w i 0)) (leb (getD w i 0) (m .letters)) (all-at (goodLetter (m .letters)) w g i lt) .1)
 
 module _ (m : Machine) (list w before : List ℕ) where
   -- an answer that is right has the right number and values

@@ -13,14 +13,10 @@ use lib.ListN.{length, take, drop}
 use lib.Dec.{leb, eqb}
 use Rattle.fsbm.specs.Moves.{accepting}
 use Rattle.fsbm.specs.Accepted.{runBound, accepted}
-use Rattle.fsbm.specs.Answers.{tableAndWord, refusal}
+use Rattle.fsbm.specs.Answers.{longestRecognized, tableAndWord, refusal}
 use Rattle.fsbm.specs.declared.machine.Machine.{Machine}
 use Rattle.recognize.specs.declared.Recognized.{Recognized}
 use Rattle.recognize.specs.declared.Recognized.the-variants.{Refused, No, Yes}
-
--- the longest word that is recognized
-abbrev pub longestRecognized : ℕ
-longestRecognized = 255
 
 -- 16, 9, 8, then 17 with the length needed, then yes or no
 unfoldable pub recognition : Machine → List ℕ → List ℕ → ℕ → ℕ → Recognized

@@ -3,45 +3,27 @@ ghost use Prim.Native.Nat.{ℕ, _+_, _*_, _≤_, _<_};
 ghost use mathlib.Core.Path.{_≡_};
 ghost use mathlib.Core.Bool.{true, false};
 ghost use lib.ListN.{length, getD};
-ghost use Rattle.fsbm.specs.Accepted.{accepted, runBound};
-ghost use Rattle.fsbm.specs.Answers.{tableAndWord};
-ghost use Rattle.images.specs.Graph.{setOf, KindsOf};
-ghost use Rattle.targets.specs.Prepared.{Prepared};
-ghost use Rattle.decide.specs.Covers.{Covers};
-ghost use Rattle.recognize.specs.Recognition.{longestRecognized, Recognition};
-use decide::positions;
+ghost use Rattle.fsbm.specs.Accepted.{runBound};
+ghost use Rattle.fsbm.specs.Answers.{longestRecognized, tableAndWord};
+ghost use Rattle.images.specs.Graph.{setOf};
+ghost use Rattle.recognize.specs.Recognition.{Recognition};
+use accepts::prepared;
 use decide::positions::Reached;
 use fsbm::answer;
 use fsbm::answer::Refusal;
 use fsbm::limits::LONGEST_WORD;
 use fsbm::machine::Machine;
-use images::Kinds;
 use runs::walk;
 use stateset::StateSet;
+use targets::MEDIUM;
 use targets::MOST_SETS;
-
-// The sets of a small table: what is cleared for a word goes by the smallest size that is enough.
-const SMALL: usize = 160;
-
-// The sets of a medium table.
-const MEDIUM: usize = 2048;
+use targets::SMALL;
 
 // The answer of recognize: turned down, no, or yes with the number of entries of the run.
 pub enum Recognized {
     Refused(Refusal),
     No,
     Yes(usize),
-}
-
-// The states that runs reach, and whether the word is accepted, with a table of zeros lent that is prepared for the word.
-fn reach(m: Machine, list: &[u16], targets: &mut [StateSet], kinds: Kinds, word: &[u8]) -> Reached
-    requires { ⌜ (tableAndWord longestRecognized m (now list) (now word) ≡ 0) × (setOf (m .states) (m .letters) (m .states) ≤ length (now targets))
-        × ((i : ℕ) → getD (now targets) i 0 ≡ 0) × KindsOf (m .marks) (m .states) kinds ⌝ }
-    ensures { λ r. ⌜ (r .accepted ≡ accepted m (now (list .entry)) (now (word .entry))) × Covers m (now (list .entry)) (now (word .entry)) (r .sets)
-        × Prepared m (now (list .entry)) (now (word .entry)) (now (targets .exit)) ⌝ }
-{
-    targets::prepare_for(m, list, word, targets);
-    positions::decide(m, list, &*targets, kinds, word)
 }
 
 // The answer to input that is not refused, with a table of zeros lent.
@@ -58,7 +40,7 @@ fn answer_with(
     ensures { λ r. ⌜ Recognition m (now (list .entry)) (now (word .entry)) (now (run .entry)) (now (run .exit)) r ⌝ }
 {
     let kinds = images::kinds_of(&m.marks, m.states);
-    let reached = reach(m, list, targets, kinds, word);
+    let reached: Reached = prepared::reach(m, list, targets, kinds, word);
     if !reached.accepted {
         return Recognized::No;
     }
@@ -76,7 +58,7 @@ fn answer_small(m: Machine, list: &[u16], word: &[u8], needed: usize, run: &mut 
 {
     let mut targets: [StateSet; SMALL] = [0; SMALL];
     let kinds = images::kinds_of(&m.marks, m.states);
-    let reached = reach(m, list, &mut targets, kinds, word);
+    let reached: Reached = prepared::reach(m, list, &mut targets, kinds, word);
     if !reached.accepted {
         return Recognized::No;
     }

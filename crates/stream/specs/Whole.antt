@@ -26,6 +26,7 @@ use Rattle.sheet.specs.Series.Laws.{each-length}
 use Rattle.sheet.specs.Format.{transitionStart}
 use Rattle.sheet.specs.Reading.{columnAt, firstFault, numbersIn, machineOf, transitionsOf, readRefusal, readAnswer, readList}
 use Rattle.sheet.specs.Reading.Laws.{no-fault}
+use Rattle.lines.specs.Line.{longestLine}
 use Rattle.stream.specs.Listing.{longer, linesOf, wordLine, wordLines, header, refusedSheet, mostWords, listing}
 use Rattle.stream.specs.Pieces.{Pending, nothingYet, mostKept, afterByte, afterPiece, bytePrints, piecePrints, endPrints, opening}
 use Rattle.stream.specs.Past.{prints-past, end-past}
@@ -81,7 +82,7 @@ module _ (m : Machine) (list : List ℕ) where
   at-end [] w h = end-none m list (kept [] w) h refl ∙ ap (wordLines m list (w + 1)) (sym (take-nil (mostWords - w)))
   at-end (x ∷ k) w h =
       let e = take-first (mostWords - w) (mostWords - w - 1) (x ∷ k) [] (omega arith) ∙ ap {B = List (List ℕ)} (λ r. (x ∷ k) ∷ r) (take-nil (mostWords - w - 1)) in
-      end-line m list (kept (x ∷ k) w) h (λ (z : suc (length (take 800 k)) ≡ 0). absurd (omega arith))
+      end-line m list (kept (x ∷ k) w) h (λ (z : suc (length (take longestLine k)) ≡ 0). absurd (omega arith))
       ∙ (same-line m list (w + 1) (x ∷ k)
       ∙ (sym (append-nil (wordLine m list (w + 1) (x ∷ k)))
       ∙ (ap (wordLines m list (w + 1)) (sym e) ∙ ap (λ (z : List (List ℕ)). wordLines m list (w + 1) (take (mostWords - w) z)) (sym (glue-none x k)))))

@@ -12,7 +12,7 @@ ghost use mathlib.Core.Bool.{true};
 ghost use lib.Dec.{leb};
 ghost use lib.ListN.{length, take};
 ghost use Rattle.basics.specs.Lists.{put};
-ghost use Rattle.lines.specs.Line.{Ready};
+ghost use Rattle.accepts.specs.Ready.{Ready};
 ghost use Rattle.sheet.specs.Reading.{readList};
 ghost use Rattle.stream.specs.Listing.{wordLine, header, refusedSheet, mostWords};
 ghost use Rattle.stream.specs.Pieces.{mostKept, opening, endPrints};
@@ -182,7 +182,7 @@ fn take_byte(
 }
 
 // Takes a piece of the input: prints its words from the front of out on, 16 bytes each, and keeps in the line buffer what has come
-// of the last line. A line's refusals are those of lines::answer_line. The line buffer has 801 bytes, the output 16 for each byte of
+// of the last line. A line's refusals are those of lines::answer_line. The line buffer has 1,276 bytes, the output 16 for each byte of
 // the piece; what the line buffer holds past the bytes kept is left open.
 // Time: the piece once, and the time of the words' decisions. Memory: none but what is lent.
 pub fn take_piece(

@@ -23,6 +23,12 @@ use stateset::StateSet;
 // The sets of the largest machine's table.
 pub const MOST_SETS: usize = 16130;
 
+// The sets of a small table: what is cleared for one word goes by the smallest size that is enough.
+pub const SMALL: usize = 160;
+
+// The sets of a medium table.
+pub const MEDIUM: usize = 2048;
+
 // How many numbers a byte can hold.
 const BYTES: usize = 256;
 

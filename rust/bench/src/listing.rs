@@ -2,7 +2,8 @@
 
 use crate::measure::{best_of_both, least_within, REPETITIONS};
 use crate::plain_listing::{self, MOST_WORDS};
-use crate::recognize::{dense, in_turn, kinds, rate, repeated, table_t, words, zones, Table};
+use crate::recognize::{rate, words, Table};
+use crate::words::{rows, tables};
 use std::fs::{self, File, OpenOptions};
 use std::path::{Path, PathBuf};
 use std::process::Command;
@@ -147,23 +148,14 @@ pub fn section() {
     println!();
     println!("| table | letters | words | yes | listed | proved | plain Rust | ratio |");
     println!("|---|---|---|---|---|---|---|---|");
-    let tables = [
-        table_t(),
-        repeated(),
-        zones(),
-        dense(),
-        in_turn("zones in turn, 9 states", 1),
-    ];
     let mut empties = Vec::new();
-    for table in &tables {
+    for table in &tables() {
         let place = Place::new(program.clone(), table);
         place.put(b"");
         let empty = place.times();
         empties.push((table.name, empty));
-        for length in [8, 32, 160] {
-            for kind in kinds(table.letters) {
-                row(&place, table, length, kind, empty);
-            }
+        for (length, kind) in rows(table) {
+            row(&place, table, length, kind, empty);
         }
     }
     println!();

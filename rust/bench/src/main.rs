@@ -1,8 +1,8 @@
 //! Times of the proved calls beside plain Rust, on the same input in the same run.
 //!
 //! Each section prints its own table. With names after `--`, only the sections named run: `checking`, `sheet`,
-//! `recognize` (with a run, one call a word), `listing` (yes or no for many words over a table that is prepared once, the
-//! listing program as a process), `survey`, `common`. A further call is measured by a function like
+//! `recognize` (with a run, one call a word), `words` (yes or no for a list of words in one call), `listing` (the same by
+//! the listing program, as a process), `survey`, `common`. A further call is measured by a function like
 //! [`checking::section`] and one more line in `main`.
 
 mod checking;
@@ -16,15 +16,18 @@ mod plain_listing;
 mod plain_moves;
 mod plain_recognize;
 mod plain_sheet;
+mod plain_words;
 mod recognize;
 mod sheet;
 mod survey;
+mod words;
 
 fn main() {
-    let sections: [(&str, fn()); 6] = [
+    let sections: [(&str, fn()); 7] = [
         ("checking", checking::section),
         ("sheet", sheet::section),
         ("recognize", recognize::section),
+        ("words", words::section),
         ("listing", listing::section),
         ("survey", survey::section),
         ("common", common::section),

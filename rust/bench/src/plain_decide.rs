@@ -8,7 +8,7 @@ use crate::plain_moves::{Moves, EMPTYING, NORMAL, STORING};
 use zagvirk::Machine;
 
 /// The most letters of a word.
-pub const LONGEST: usize = 160;
+pub const LONGEST: usize = 255;
 /// What letters are compared by: so many at once.
 const BLOCK: usize = 8;
 /// A step that was not asked for so far.
@@ -18,7 +18,7 @@ const FIRST_PLACES: usize = 64;
 /// With more steps than so many in the rows of a mode they are all given up before the next word; in tests soon.
 const MOST_STEPS: usize = if cfg!(test) { 1 << 9 } else { 1 << 21 };
 
-/// The letters of a word, and whatever bytes behind them.
+/// The letters of a word, and whatever bytes behind them. A place of a word and its length fit into a byte.
 pub struct Word {
     pub letters: [u8; LONGEST + BLOCK],
     pub length: usize,

@@ -242,12 +242,14 @@ pub fn section() {
         "Recognition with a run, one call a word: each call checks the machine and the word and prepares the machine anew."
     );
     println!(
-        "(Yes or no for many words over a table that is prepared once: section listing.) Words per second, best of up to"
+        "(Yes or no for many words over a table that is prepared once: sections words and listing.) Words per second, best of"
     );
     println!(
-        "{REPETITIONS} samples after a first pass, as many as fit into {BUDGET} s for the row. Yes: of the words of the row, as many as"
+        "up to {REPETITIONS} samples after a first pass, as many as fit into {BUDGET} s for the row. Yes: of the words of the row, as"
     );
-    println!("the first pass came to. Ratio: time of the proved call / time of plain Rust.");
+    println!(
+        "many as the first pass came to. Ratio: time of the proved call / time of plain Rust."
+    );
     println!();
     println!("| table | letters | words | yes | proved | plain Rust | ratio |");
     println!("|---|---|---|---|---|---|---|");

@@ -3,6 +3,7 @@
 //! that the result says are written. [`crate::Case`] does the same for many calls on one machine and word.
 
 use crate::kept::Kept;
+use zagvirk::accepts::{DecidedRecord, WordsAnsweredRecord};
 use zagvirk::common::{CommonRecord, CommonWord, Lengths};
 use zagvirk::copies::{Copies, CopiesRecord};
 use zagvirk::product::JoinedRecord;
@@ -75,6 +76,115 @@ pub fn recognize(
         |run| zagvirk::recognize::recognize(Table::new(machine, list), word, run),
         |found| found.ok().flatten().unwrap_or(0),
     )
+}
+
+/// Makes a call that reads a list and a word.
+fn deciding<R>((list, word): (&[u16], &[u8]), call: impl FnOnce() -> R) -> R {
+    let kept_list = Kept::new("list", list);
+    let kept_word = Kept::new("word", word);
+    let found = call();
+    kept_list.same("accepts", list);
+    kept_word.same("accepts", word);
+    found
+}
+
+/// `zagvirk::accepts::accepts_record`.
+pub fn accepts_record(machine: &Machine, list: &[u16], word: &[u8]) -> DecidedRecord {
+    deciding((list, word), || {
+        zagvirk::accepts::accepts_record(Table::new(machine, list), word)
+    })
+}
+
+/// `zagvirk::accepts::accepts`.
+pub fn accepts(machine: &Machine, list: &[u16], word: &[u8]) -> Result<bool, Refusal> {
+    deciding((list, word), || {
+        zagvirk::accepts::accepts(Table::new(machine, list), word)
+    })
+}
+
+/// The words of a list as they are lent: the letters of all, and where each word ends.
+#[derive(Clone, Default, PartialEq, Eq, Debug)]
+pub struct Words {
+    pub letters: Vec<u8>,
+    pub ends: Vec<usize>,
+}
+
+impl Words {
+    /// Adds a word.
+    pub fn push(&mut self, word: &[u8]) {
+        self.letters.extend_from_slice(word);
+        self.ends.push(self.letters.len());
+    }
+
+    /// The list of these words.
+    pub fn of<W: AsRef<[u8]>>(words: &[W]) -> Words {
+        let mut list = Words::default();
+        words.iter().for_each(|word| list.push(word.as_ref()));
+        list
+    }
+}
+
+/// Makes a call that reads a list, letters and ends and writes answers.
+fn answering<R>(
+    (list, words, answers): (&[u16], &Words, &mut [u8]),
+    call: impl FnOnce(&mut [u8]) -> R,
+    written: impl FnOnce(&R) -> usize,
+) -> R {
+    let kept_list = Kept::new("list", list);
+    let kept_letters = Kept::new("letters", &words.letters);
+    let kept_ends = Kept::new("ends", &words.ends);
+    let kept_answers = Kept::new("slice for answers", answers);
+    let found = call(answers);
+    kept_list.same("accept_words", list);
+    kept_letters.same("accept_words", &words.letters);
+    kept_ends.same("accept_words", &words.ends);
+    kept_answers.same_past("accept_words", written(&found), answers);
+    found
+}
+
+/// `zagvirk::accepts::accept_words_record`.
+pub fn accept_words_record(
+    machine: &Machine,
+    list: &[u16],
+    words: &Words,
+    answers: &mut [u8],
+) -> WordsAnsweredRecord {
+    let table = Table::new(machine, list);
+    answering(
+        (list, words, answers),
+        |answers| {
+            zagvirk::accepts::accept_words_record(table, &words.letters, &words.ends, answers)
+        },
+        |found| found.words,
+    )
+}
+
+/// `zagvirk::accepts::accept_words`.
+pub fn accept_words(
+    machine: &Machine,
+    list: &[u16],
+    words: &Words,
+    answers: &mut [u8],
+) -> Result<usize, Refusal> {
+    let table = Table::new(machine, list);
+    answering(
+        (list, words, answers),
+        |answers| zagvirk::accepts::accept_words(table, &words.letters, &words.ends, answers),
+        |found| found.unwrap_or(0),
+    )
+}
+
+/// All answers of `zagvirk::accepts::answers`.
+pub fn answers<W: AsRef<[u8]>>(
+    machine: &Machine,
+    list: &[u16],
+    words: impl IntoIterator<Item = W>,
+) -> Result<Vec<Result<bool, Refusal>>, Refusal> {
+    let kept_list = Kept::new("list", list);
+    let answers = zagvirk::accepts::answers(Table::new(machine, list), words);
+    let found = answers.map(|answers| answers.collect());
+    kept_list.same("answers", list);
+    found
 }
 
 /// Makes a call that reads a list, a word and a run and writes copies.

@@ -179,9 +179,9 @@ fn random_input(rng: &mut Rng, letters: usize) -> Vec<u8> {
             0 => input.extend((0..rng.below(12)).map(|_| rng.bits() as u8)),
             1 => input.extend(vec![
                 rng.pick(b" 1x\0");
-                rng.pick(&[799, 800, 801, 805, 2000])
+                rng.pick(&[800, 801, 1274, 1275, 1276, 1280, 2000])
             ]),
-            2 => input.extend(b"    1".repeat(rng.pick(&[20, 159, 160, 161]))),
+            2 => input.extend(b"    1".repeat(rng.pick(&[20, 161, 254, 255, 256]))),
             _ => {
                 for _ in 0..rng.below(7) {
                     let number = match rng.below(40) {
@@ -327,7 +327,7 @@ fn limits() {
     for _ in 0..6 {
         let mut input = Vec::new();
         while input.len() < 300_000 {
-            let length = rng.pick(&[0, 1, 5, 10, 20, 799, 800, 801, 4096]);
+            let length = rng.pick(&[0, 1, 5, 10, 20, 801, 1270, 1274, 1275, 1276, 4096]);
             input.extend(b"    1".repeat(length / 5));
             input.extend(vec![b' '; length % 5]);
             input.push(b'\n');

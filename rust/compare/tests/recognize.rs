@@ -1,18 +1,24 @@
 //! Recognition: the answer, the refusal and the whole run slice of each call are compared with the reference. Every run
-//! goes through the proved checker and through the reference's own.
+//! goes through the proved checker and through the reference's own. Each word is asked for without a run too, alone and in
+//! a list of all words that were compared on its machine.
 
-use compare::calls::{check_run, recognize, recognize_record};
+use compare::calls::Words;
+use compare::calls::{accept_words_record, accepts_record, check_run, recognize, recognize_record};
 use compare::many_copies::{long_word, repetitive_word, zone_circle, zones};
-use compare::{break_a_rule, filled, in_threads, random_machine, random_word, record_of, Rng};
+use compare::{break_a_rule, filled, filled_bytes, in_threads, random_machine, random_word};
+use compare::{record_of, Rng};
+use reference::accepts::accepts;
 use reference::common::next_word;
 use reference::families::small_machines;
 use reference::{folder, moves, published, shortest, Machine, Record};
+use zagvirk::accepts::{DecidedRecord, WordsAnsweredRecord};
 use zagvirk::recognize::{run_length, RecognizedRecord};
 
 /// What was compared.
 #[derive(Default)]
 struct Counts {
     words: u64,
+    lists: u64,
     yes: u64,
     with_copies: u64,
     longer: u64,
@@ -25,6 +31,7 @@ impl Counts {
     /// Adds what was compared elsewhere.
     fn add(&mut self, other: Counts) {
         self.words += other.words;
+        self.lists += other.lists;
         self.yes += other.yes;
         self.with_copies += other.with_copies;
         self.longer += other.longer;
@@ -35,10 +42,11 @@ impl Counts {
 
     fn report(&self, name: &str) {
         println!(
-            "recognize, {name}: {} words, {} accepted, {} of them with copies; \
+            "recognize, {name}: {} words, in {} lists, {} accepted, {} of them with copies; \
              longest accepted word {} letters, longest run {} entries; \
              runs not shortest: {}, not the first of the shortest: {}",
             self.words,
+            self.lists,
             self.yes,
             self.with_copies,
             self.longest_word,
@@ -49,12 +57,15 @@ impl Counts {
     }
 }
 
-/// A machine ready for many words.
+/// A machine ready for many words. After the last of them comes [`Ready::finish`].
 struct Ready<'a> {
     machine: &'a Machine,
     record: Record,
     list: Vec<u16>,
     proved: zagvirk::Machine,
+    /// The words so far and their answers.
+    words: Words,
+    answers: Vec<u8>,
 }
 
 impl<'a> Ready<'a> {
@@ -66,6 +77,8 @@ impl<'a> Ready<'a> {
             record,
             list,
             proved,
+            words: Words::default(),
+            answers: Vec::new(),
         }
     }
 
@@ -73,9 +86,9 @@ impl<'a> Ready<'a> {
         format!("{:?}\nword {word:?}", self.machine)
     }
 
-    /// Compares the answer for a word that meets no refusal, with a run slice that has `more` elements than it needs.
-    /// Returns the answer.
-    fn word(&self, word: &[u8], more: usize, c: &mut Counts) -> bool {
+    /// Compares the answer for a word that meets no refusal, with a run slice that has so many elements more than it
+    /// needs, and without a run. Returns the answer.
+    fn word(&mut self, word: &[u8], more: usize, c: &mut Counts) -> bool {
         let expected = shortest::find_run(self.machine, word);
         let needed = 3 * self.record.states * (word.len() + 1);
         assert_eq!(run_length(&self.proved, word.len()), needed);
@@ -93,6 +106,18 @@ impl<'a> Ready<'a> {
             "recognize differs\n{}\nreference {expected:?}\nproved {found:?}",
             self.input(word)
         );
+        let found_alone = accepts_record(&self.proved, &self.list, word);
+        let alone = DecidedRecord {
+            refusal: 0,
+            accepted: answer.accepted,
+        };
+        assert!(
+            found_alone == alone,
+            "accepts differs\n{}\nreference {alone:?}\nproved {found_alone:?}",
+            self.input(word)
+        );
+        self.words.push(word);
+        self.answers.push(answer.accepted);
         c.words += 1;
         let Some(first) = expected else {
             assert!(
@@ -130,8 +155,30 @@ impl<'a> Ready<'a> {
         true
     }
 
+    /// Compares the answers for all words so far in one call.
+    fn finish(&mut self, c: &mut Counts) {
+        let (words, expected) = (
+            std::mem::take(&mut self.words),
+            std::mem::take(&mut self.answers),
+        );
+        let count = expected.len();
+        let mut answers = filled_bytes(count + 1);
+        let found = accept_words_record(&self.proved, &self.list, &words, &mut answers);
+        let answered = WordsAnsweredRecord {
+            refusal: 0,
+            needed: 0,
+            words: count,
+        };
+        assert!(
+            found == answered && answers[..count] == expected,
+            "accept_words differs: {found:?}\n{:?}\n{words:?}\nreference {expected:?}\nproved {answers:?}",
+            self.machine
+        );
+        c.lists += 1;
+    }
+
     /// Compares every word of at most `longest` letters.
-    fn every_word(&self, longest: usize, c: &mut Counts) {
+    fn every_word(&mut self, longest: usize, c: &mut Counts) {
         for length in 0..=longest {
             if length > 0 && self.machine.letters == 0 {
                 return;
@@ -147,11 +194,25 @@ impl<'a> Ready<'a> {
     }
 }
 
-/// Compares the answer for each machine and word, with a run slice of so many elements more than it needs.
-fn compare_all(inputs: &[(Machine, Vec<u8>, usize)]) -> Counts {
-    let each = in_threads(inputs, |(machine, word, more)| {
+impl Drop for Ready<'_> {
+    fn drop(&mut self) {
+        let finished = self.answers.is_empty();
+        assert!(finished || std::thread::panicking(), "not finished");
+    }
+}
+
+/// A machine and its words, each with the number of elements that its run slice has more than it needs.
+type Input = (Machine, Vec<(Vec<u8>, usize)>);
+
+/// Compares the answers for each machine and its words.
+fn compare_all(inputs: &[Input]) -> Counts {
+    let each = in_threads(inputs, |(machine, words)| {
         let mut counts = Counts::default();
-        Ready::new(machine).word(word, *more, &mut counts);
+        let mut ready = Ready::new(machine);
+        for (word, more) in words {
+            ready.word(word, *more, &mut counts);
+        }
+        ready.finish(&mut counts);
         counts
     });
     let mut counts = Counts::default();
@@ -183,7 +244,40 @@ fn refused(record: &Record, list: &[u16], word: &[u8], length: usize) -> (u8, us
         (typed.number(), typed.needed()),
         (refusal.number, refusal.needed)
     );
+    without_run(record, list, word, refusal.number);
     (refusal.number, refusal.needed)
+}
+
+/// Compares the answer without a run, alone and in a list of one word, of a word that recognition refuses: it has the same
+/// refusal, unless only the run slice is too short. In a list 9 and 8 are answers.
+fn without_run(record: &Record, list: &[u16], word: &[u8], refusal: u8) {
+    let (refusal, accepted) = match accepts(record, list, word) {
+        Ok(accepted) => {
+            assert_eq!(refusal, 17);
+            (0, u8::from(accepted))
+        }
+        Err(other) => {
+            assert_eq!(refusal, other.number);
+            (refusal, 0)
+        }
+    };
+    let proved = record_of(record);
+    let input = || format!("{record:?}\nlist {list:?}\nword {word:?}");
+    let found = accepts_record(&proved, list, word);
+    assert_eq!(found, DecidedRecord { refusal, accepted }, "{}", input());
+    let mut answers = filled_bytes(2);
+    let mut expected = answers.clone();
+    let broken = refusal == 16;
+    if !broken {
+        expected[0] = refusal + accepted;
+    }
+    let answered = WordsAnsweredRecord {
+        refusal: if broken { 16 } else { 0 },
+        needed: 0,
+        words: usize::from(!broken),
+    };
+    let found = accept_words_record(&proved, list, &Words::of(&[word]), &mut answers);
+    assert_eq!((found, answers), (answered, expected), "{}", input());
 }
 
 #[test]
@@ -192,7 +286,9 @@ fn one_and_two_states() {
         let mut counts = Counts::default();
         let machines = small_machines(states, 0..1 << (2 * states * states));
         for machine in &machines {
-            Ready::new(machine).every_word(4, &mut counts);
+            let mut ready = Ready::new(machine);
+            ready.every_word(4, &mut counts);
+            ready.finish(&mut counts);
         }
         let machines = machines.len();
         counts.report(&format!(
@@ -209,7 +305,7 @@ fn random_machines_every_word() {
     for number in 0..machines {
         let letters = if number % 12 == 0 { 3 } else { 2 };
         let machine = random_machine(&mut rng, 5, letters);
-        let ready = Ready::new(&machine);
+        let mut ready = Ready::new(&machine);
         ready.every_word(6, &mut counts);
         // The definition itself on some words.
         for _ in 0..3 {
@@ -217,6 +313,7 @@ fn random_machines_every_word() {
             let brute = published::find_run(&machine, &word).is_some();
             assert_eq!(ready.word(&word, 0, &mut counts), brute);
         }
+        ready.finish(&mut counts);
     }
     counts.report(&format!(
         "{machines} random machines, all words to 6 letters"
@@ -229,11 +326,12 @@ fn folders() {
     let mut counts = Counts::default();
     let mut machines = 0;
     for folder in folder::all() {
-        let ready = Ready::new(&folder.machine);
+        let mut ready = Ready::new(&folder.machine);
         for (word, expected) in &folder.words {
             let answer = ready.word(word, 2, &mut counts);
             assert_eq!(answer, *expected, "{} {word:?}", folder.name);
         }
+        ready.finish(&mut counts);
         machines += 1;
     }
     counts.report(&format!("{machines} machines of data/machines"));
@@ -270,7 +368,7 @@ fn zones_in_turn() -> Machine {
 fn many_copies_tried() {
     let mut counts = Counts::default();
     let machine = zones_in_turn();
-    let ready = Ready::new(&machine);
+    let mut ready = Ready::new(&machine);
     for length in 0..=255 {
         // Six letters for both zones, and two more where the first stands alone at the end.
         let expected = length > 0 && (length % 6 == 0 || length % 6 == 2);
@@ -279,6 +377,7 @@ fn many_copies_tried() {
             expected
         );
     }
+    ready.finish(&mut counts);
     counts.report("two copy zones in turn, one letter");
 }
 
@@ -290,10 +389,12 @@ fn zone_circles() {
     for _ in 0..machines {
         let letters = rng.pick(&[1, 2, 3, 20, 40]);
         let machine = zone_circle(&mut rng, letters);
-        for length in [rng.below(40), rng.below(130), 240 + rng.below(16)] {
+        let lengths = [rng.below(40), rng.below(130), 240 + rng.below(16)];
+        let words = lengths.map(|length| {
             let word = repetitive_word(&mut rng, letters, length);
-            inputs.push((machine.clone(), word, rng.below(3)));
-        }
+            (word, rng.below(3))
+        });
+        inputs.push((machine, words.to_vec()));
     }
     let counts = compare_all(&inputs);
     counts.report(&format!(
@@ -307,10 +408,11 @@ fn long_runs() {
     let mut counts = Counts::default();
     for states in [2, 17, 64] {
         let machine = circle(states);
-        let ready = Ready::new(&machine);
+        let mut ready = Ready::new(&machine);
         for length in [0, 1, 15, 16, 63, 64, 255] {
             assert!(ready.word(&vec![1; length], length % 3, &mut counts));
         }
+        ready.finish(&mut counts);
     }
     counts.report("circles of 2, 17 and 64 states, one letter");
     assert_eq!(counts.most_entries, 64 * 256);
@@ -325,10 +427,12 @@ fn long_words() {
         let states = [4, 7, 12, 30, 63, 64][number % 6];
         let letters = 1 + rng.below(4);
         let machine = zones(&mut rng, states, letters);
-        for length in [rng.below(256), rng.below(120), 254, 255] {
+        let lengths = [rng.below(256), rng.below(120), 254, 255];
+        let words = lengths.map(|length| {
             let word = long_word(&mut rng, letters, length);
-            inputs.push((machine.clone(), word, rng.below(3)));
-        }
+            (word, rng.below(3))
+        });
+        inputs.push((machine, words.to_vec()));
     }
     let counts = compare_all(&inputs);
     counts.report(&format!(
@@ -359,12 +463,13 @@ fn long_words_random_machines() {
         }
         transitions.truncate(4000);
         let machine = Machine::new(letters, &marks, &transitions);
-        let ready = Ready::new(&machine);
+        let mut ready = Ready::new(&machine);
         for longest in [12, 40, 100] {
             let length = rng.below(longest);
             let word = long_word(&mut rng, letters, length);
             ready.word(&word, 1, &mut counts);
         }
+        ready.finish(&mut counts);
     }
     counts.report(&format!("{machines} random machines to 64 states"));
 }
@@ -381,10 +486,11 @@ fn largest() {
         let all: Vec<u8> = (0..64).map(|state| marks[state % 4]).collect();
         let machine = Machine::new(1, &all, &transitions);
         assert_eq!(machine.transitions.len(), 4000);
-        let ready = Ready::new(&machine);
+        let mut ready = Ready::new(&machine);
         for length in [0, 1, 30, 60] {
             ready.word(&vec![1; length], 0, &mut counts);
         }
+        ready.finish(&mut counts);
     }
     // No epsilon moves and no way out: the search goes to the end.
     let mut chain: Vec<(usize, usize, usize)> =
@@ -392,16 +498,20 @@ fn largest() {
     chain.push((63, 1, 0));
     let marks: Vec<u8> = (0..64).map(|state| [5, 0, 8, 8][state % 4]).collect();
     let machine = Machine::new(1, &marks, &chain);
-    Ready::new(&machine).word(&[1; 255], 0, &mut counts);
+    let mut ready = Ready::new(&machine);
+    ready.word(&[1; 255], 0, &mut counts);
+    ready.finish(&mut counts);
     // Words of 255 letters that pass, and the counts of letters at their limit.
     let machine = Machine::new(250, &[3], &[(0, 250, 0)]);
-    assert!(Ready::new(&machine).word(&[250; 255], 0, &mut counts));
+    let mut ready = Ready::new(&machine);
+    assert!(ready.word(&[250; 255], 0, &mut counts));
+    ready.finish(&mut counts);
     let mut repeated = vec![(0, 0, 1), (1, 0, 2), (2, 0, 0)];
     for letter in 1..3 {
         repeated.extend([(1, letter, 1), (2, letter, 2)]);
     }
     let machine = Machine::new(2, &[5, 0, 10], &repeated);
-    let ready = Ready::new(&machine);
+    let mut ready = Ready::new(&machine);
     for length in [253, 254, 255] {
         assert_eq!(
             ready.word(&vec![1; length], 0, &mut counts),
@@ -415,6 +525,7 @@ fn largest() {
         near[200] ^= 3;
         ready.word(&near, 0, &mut counts);
     }
+    ready.finish(&mut counts);
     counts.report("the largest machines and words");
 }
 
@@ -496,6 +607,7 @@ fn rubbish_past_the_count() {
         for (word, expected) in folder.words.iter().take(20) {
             assert_eq!(ready.word(word, 1, &mut counts), *expected);
         }
+        ready.finish(&mut counts);
     }
     counts.report("rubbish past the count");
 }
@@ -524,10 +636,12 @@ fn where_writers_slip() {
         let shifted: Vec<usize> = (0..states).map(|state| (state + 1) % states).collect();
         for to in [(0..states).collect(), turned, shifted] {
             let other = renumbered(machine, &to);
+            let mut ready = Ready::new(&other);
             for (word, expected) in answers {
-                let answer = Ready::new(&other).word(word, 1, &mut counts);
+                let answer = ready.word(word, 1, &mut counts);
                 assert_eq!(answer, *expected, "{other:?} {word:?}");
             }
+            ready.finish(&mut counts);
         }
     };
     // A normal run does not use a transition between two matching states.

@@ -9,6 +9,7 @@
 //! - [`moves`]: the one-entry move with the buffer as a stretch of the word, and the run checker.
 //! - [`published`]: configurations with strings, the relation "yields", recognition by breadth-first search.
 //! - [`shortest`]: recognition of long words, with the shortest run that comes first in order of its entries.
+//! - [`accepts`]: yes or no without a run, for a word and for a list of words.
 //! - [`sheet`]: reader and writer of sheets.
 //! - [`spelling`]: written words to letters.
 //! - [`product`]: the joined machine.
@@ -34,6 +35,7 @@
 //! assert!(published::find_run(&machine, &[1, 2, 2, 1]).is_none());
 //! ```
 
+pub mod accepts;
 pub mod common;
 pub mod copies;
 pub mod families;

@@ -1,6 +1,6 @@
 //! The listing program as a function.
 
-use crate::{check_word, published, sheet, shortest, Machine, Refusal, LONGEST_RECOGNIZED};
+use crate::{accepts::accepted, check_word, sheet, Machine, Refusal, LONGEST_RECOGNIZED};
 
 /// The first line of a listing.
 pub const HEADER: &str = "  NO.  ANS  REF\n";
@@ -9,7 +9,7 @@ pub const HEADER: &str = "  NO.  ANS  REF\n";
 pub const MOST_WORDS: usize = 99_999;
 
 /// The most bytes of a word's line, its line end not counted.
-pub const LONGEST_LINE: usize = 800;
+pub const LONGEST_LINE: usize = 1_275;
 
 /// The output for the bytes of table.txt (nothing if the file is missing) and of standard input.
 pub fn listing(table: Option<&[u8]>, input: &[u8]) -> Vec<u8> {
@@ -41,7 +41,7 @@ pub fn lines(input: &[u8]) -> Vec<&[u8]> {
     lines
 }
 
-/// The numbers in the columns of a line: refusal 9 over 800 bytes, then 2.
+/// The numbers in the columns of a line: refusal 9 over 1,275 bytes, then 2.
 pub fn columns(line: &[u8]) -> Result<Vec<usize>, Refusal> {
     if line.len() > LONGEST_LINE {
         return Err(Refusal::of(9));
@@ -61,10 +61,5 @@ fn judge(machine: &Machine, line: &[u8]) -> Result<bool, Refusal> {
     }
     let word: Vec<u8> = numbers.iter().map(|&number| number as u8).collect();
     check_word(machine, &word, LONGEST_RECOGNIZED)?;
-    // The search by the definition is too slow for long words.
-    let run = match word.len() {
-        0..=12 => published::find_run(machine, &word),
-        _ => shortest::find_run(machine, &word),
-    };
-    Ok(run.is_some())
+    Ok(accepted(machine, &word))
 }

@@ -1,5 +1,6 @@
 //! The examples of document 01 and the refusals of every call.
 
+use reference::accepts::{accept_words, accepts};
 use reference::common::{self, Common};
 use reference::copies::{copies, Copies};
 use reference::listing::listing;
@@ -444,6 +445,50 @@ fn common_words() {
 }
 
 #[test]
+fn yes_or_no() {
+    let (record, list) = table_t().record();
+    assert_eq!(accepts(&record, &list, &[]), Ok(true));
+    assert_eq!(accepts(&record, &list, &[1, 2, 1, 2]), Ok(true));
+    assert_eq!(accepts(&record, &list, &[1, 2, 2, 1]), Ok(false));
+    assert_eq!(accepts(&record, &list, &[1; 254]), Ok(true));
+    assert_eq!(accepts(&record, &list, &[1; 255]), Ok(false));
+    refused(accepts(&record, &list, &[1; 256]), 9, 0);
+    refused(accepts(&record, &list, &[0; 256]), 9, 0);
+    refused(accepts(&record, &list, &[1, 0]), 8, 0);
+    refused(accepts(&record, &list, &[3; 255]), 8, 0);
+    refused(accepts(&record, &list[..17], &[0; 256]), 16, 0);
+    // 1 2 1 2, the empty word, 1 2 2 1, 3, 256 letters 0, 1 1; a letter behind the last end.
+    let letters = [&[1, 2, 1, 2, 1, 2, 2, 1, 3][..], &[0; 256], &[1, 1, 9]].concat();
+    let ends = [4, 4, 8, 9, 265, 267];
+    let mut answers = [7; 8];
+    let words = accept_words(&record, &list, &letters, &ends, &mut answers);
+    assert_eq!(words, Ok(6));
+    assert_eq!(answers, [1, 1, 0, 8, 9, 1, 7, 7]);
+    assert_eq!(accept_words(&record, &list, &[], &[], &mut []), Ok(0));
+    // 16, then 34, then 35.
+    let refuses = |list: &[u16], ends: &[usize], length: usize, number, needed| {
+        let mut answers = vec![7; length];
+        let answered = accept_words(&record, list, &letters, ends, &mut answers);
+        refused(answered, number, needed);
+        assert_eq!(answers, vec![7; length]);
+    };
+    refuses(&list, &ends, 5, 35, 6);
+    refuses(&list, &[0], 0, 35, 1);
+    for ends in [
+        &[4, 3][..],
+        &[269],
+        &[0, 268, 269],
+        &[usize::MAX],
+        &[268, 0, 268],
+    ] {
+        for length in [0, 10] {
+            refuses(&list, ends, length, 34, 0);
+            refuses(&list[..17], ends, length, 16, 0);
+        }
+    }
+}
+
+#[test]
 fn listings() {
     let list = |input: &[u8]| {
         let output = listing(Some(SHEET.as_bytes()), input);
@@ -466,12 +511,18 @@ fn listings() {
         let text = list(line.as_bytes());
         text.strip_prefix(header).unwrap().to_string()
     };
-    let ones = "    1".repeat(160);
+    let ones = "    1".repeat(254);
     assert_eq!(one(&ones), "    1    1    0\n");
     assert_eq!(one(&(ones.clone() + "\n")), "    1    1    0\n");
-    assert_eq!(one(&(ones + " ")), "    1    2    9\n");
-    assert_eq!(one(&"?".repeat(801)), "    1    2    9\n");
-    assert_eq!(one(&"?".repeat(800)), "    1    2    2\n");
+    let ones = ones + "    1";
+    assert_eq!(ones.len(), 1_275);
+    assert_eq!(one(&ones), "    1    0    0\n");
+    assert_eq!(one(&(ones.clone() + "\n")), "    1    0    0\n");
+    assert_eq!(one(&(ones.clone() + " ")), "    1    2    9\n");
+    assert_eq!(one(&(ones + "    1")), "    1    2    9\n");
+    assert_eq!(one(&"?".repeat(1_276)), "    1    2    9\n");
+    assert_eq!(one(&"?".repeat(1_275)), "    1    2    2\n");
+    assert_eq!(one(&"?".repeat(801)), "    1    2    2\n");
     assert_eq!(one("    3    x"), "    1    2    2\n");
     assert_eq!(one("    3    "), "    1    2    2\n");
     assert_eq!(one("    1\r\n"), "    1    2    2\n");

@@ -11,6 +11,7 @@
 //! - [`product`]: the product of a machine with a plain machine.
 //! - [`copies`]: the copy list of an accepting run.
 //! - [`recognize`]: whether a machine accepts a word, with a run.
+//! - [`accepts`]: yes or no without a run, for a word or for each word of a list.
 //! - [`common`]: a shortest word that a machine and a plain machine both accept, with a run of each.
 //! - [`Refusal`]: why a call turned its input down.
 //! - [`records`]: `step` and `check_run` with the records as they cross the boundary, for any mode byte.
@@ -32,14 +33,19 @@
 //! # Trade-offs
 //!
 //! Each call checks its machine and its word again before it moves, so a loop over [`step`] costs a pass over both for
-//! each entry; [`check_run`] does so once for a whole run. No call allocates but [`common::find`]. A call that writes
-//! does so only to the slices it takes as `&mut`: on success at their fronts, on a refusal nowhere.
+//! each entry; [`check_run`] does so once for a whole run. Recognition also prepares its machine at each call:
+//! [`accepts::accept_words`] does so once for a whole list of words, and [`accepts::answers`] once for 65,536 words of an
+//! iterator. [`recognize::recognize`] writes a run of a word that is accepted, which takes longer than the answer.
+//!
+//! No call allocates but [`common::find`] and [`accepts::answers`]. A call that writes does so only to the slices it
+//! takes as `&mut`: on success at their fronts, on a refusal nowhere.
 //!
 //! The stack that a thread needs for a call stands in `include/zagvirk.h`, measured: 480 KB at most, for [`recognize`].
 //!
 //! [`Refusal`], [`Config`] and what the calls hand back may get more cases and fields with later versions, so they are
 //! `#[non_exhaustive]`: a match on a refusal has a last arm for the others.
 
+pub mod accepts;
 pub mod common;
 pub mod copies;
 pub mod product;

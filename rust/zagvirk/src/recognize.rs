@@ -1,8 +1,8 @@
-//! Recognition: whether a machine accepts a word, with an accepting run.
+//! Recognition: whether a machine accepts a word, with an accepting run. Without one: [`crate::accepts`].
 
 use crate::{Machine, Refusal, Table};
 
-/// The most letters of a word to recognize.
+/// The most letters of a word to recognize, with a run or without.
 pub const LONGEST_RECOGNIZED: usize = 255;
 
 /// The result of [`recognize_record`]: `refusal` is 0, 16, 9, 8 or 17; `needed` is 0 but for refusal 17; `accepted` is 1

@@ -45,10 +45,14 @@ pub enum Refusal {
     SheetTooShort { needed: usize },
     /// 20: the slice for copies is too short.
     CopiesTooShort { needed: usize },
+    /// 34: the ends of the words of a list fall, or lie past the letters.
+    EndsBroken,
+    /// 35: the slice for answers is too short.
+    AnswersTooShort { needed: usize },
 }
 
 impl Refusal {
-    /// The number of the refusal in document 01.
+    /// The number of the refusal: up to 20 that of document 01, 34 and 35 are this library's own.
     pub fn number(self) -> u8 {
         match self {
             Refusal::LineCutShort => 1,
@@ -71,6 +75,8 @@ impl Refusal {
             Refusal::WordTooShort { .. } => 18,
             Refusal::SheetTooShort { .. } => 19,
             Refusal::CopiesTooShort { .. } => 20,
+            Refusal::EndsBroken => 34,
+            Refusal::AnswersTooShort { .. } => 35,
         }
     }
 
@@ -81,7 +87,8 @@ impl Refusal {
             | Refusal::RunTooShort { needed }
             | Refusal::WordTooShort { needed }
             | Refusal::SheetTooShort { needed }
-            | Refusal::CopiesTooShort { needed } => needed,
+            | Refusal::CopiesTooShort { needed }
+            | Refusal::AnswersTooShort { needed } => needed,
             _ => 0,
         }
     }
@@ -110,7 +117,9 @@ impl Refusal {
             18 => Refusal::WordTooShort { needed },
             19 => Refusal::SheetTooShort { needed },
             20 => Refusal::CopiesTooShort { needed },
-            _ => unreachable!("refusals are numbered 1 to 20"),
+            34 => Refusal::EndsBroken,
+            35 => Refusal::AnswersTooShort { needed },
+            _ => unreachable!("refusals are numbered 1 to 20, 34 and 35"),
         })
     }
 }
@@ -140,6 +149,8 @@ impl std::fmt::Display for Refusal {
             Refusal::WordTooShort { .. } => "the slice for a word is too short",
             Refusal::SheetTooShort { .. } => "the slice for a sheet is too short",
             Refusal::CopiesTooShort { .. } => "the slice for copies is too short",
+            Refusal::EndsBroken => "the ends of the words fall, or lie past the letters",
+            Refusal::AnswersTooShort { .. } => "the slice for answers is too short",
         };
         write!(f, "refusal {}: {text}", self.number())?;
         match self.needed() {

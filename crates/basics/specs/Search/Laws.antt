@@ -8,6 +8,7 @@
 -- anyBelow-true, anyBelow-false                   == some k < n has p; every k < n fails p
 -- allBelow-true, allBelow-false                   == every k < n has p; some k < n fails p
 -- anyIn-true, anyIn-false, allIn-true, allIn-false == the same for the elements of a list (List·Memᴰ)
+-- allIn-at                                        == every element that has an index has p
 -- AllBelow-head, AllBelow-tail                    == the parts of AllBelow
 -- existsList-true                                 == some such list has p
 use mathlib.Core.Path.{_≡_, refl, sym, _∙_}
@@ -17,7 +18,7 @@ use mathlib.Core.List.{List, [], _∷_, List·Memᴰ, List·Memᴰ·head, List·
 use Prim.Native.Nat.{ℕ, zero, suc, _<_, _≤_}
 use native.Mathlib.Omega.{arith}
 use native.Mathlib.Decide.{ℕ-discrete}
-use lib.ListN.{length}
+use lib.ListN.{length, getD}
 use Rattle.basics.specs.Search.{anyBelow, allBelow, anyIn, allIn, AllBelow, none, more, existsList}
 
 -- Bools
@@ -175,6 +176,12 @@ module _ {A : Type 0} (p : A → Bool) where
   unfolding allIn
   allIn-of [] h = refl
   allIn-of (y ∷ l) h = and-both-true (p y) (allIn p l) (h y (List·Memᴰ·head refl)) (allIn-of l (λ x m. h x (List·Memᴰ·tail m)))
+
+  pub allIn-at : (l : List A) → allIn p l ≡ true → (i : ℕ) (d : A) → i < length l → p (getD l i d) ≡ true
+  unfolding allIn
+  allIn-at [] e i d h = absurd (omega arith)
+  allIn-at (y ∷ l) e zero d h = and-true (p y) (allIn p l) e .0
+  allIn-at (y ∷ l) e (suc i) d h = allIn-at l (and-true (p y) (allIn p l) e .1) i d (omega arith)
 
   anyIn-none : (l : List A) → ((x : A) → List·Memᴰ x l → p x ≡ false) → anyIn p l ≡ false
   unfolding anyIn

@@ -1,28 +1,27 @@
-use Rattle.lines.specs.Line.{letterAt}
 use Prim.Native.Nat.{_-_, _/_}
 use mathlib.Core.Path.{_≡_, refl, _∙_}
 use native.Mathlib.Omega.{arith}
+use lib.ListN.{length, length-set}
+use Rattle.lines.specs.Line.{letterAt}
+use Rattle.lines.proofs.LineCases.{Read, read-none, read-stops, read-more, word-refused, word-taken, fault-long, fault-part, fault-column}
 use borrow.Author.Needs.{needs}
-use borrow.Author.Tests.{not-true, not-false}
-use lib.ListN.{length}
-use Rattle.lines.proofs.LineCases.{Read, read-none, read-stops, read-more, word-refused, word-taken, refused, refused-long, refused-part, refused-column}
 use Rattle.lines.proofs.read_word.Statement.{statement}
 use Rattle.lines.proofs.read_word.Tie as tie
 
 abbrev Inv-loop : tie.InvT-loop
-Inv-loop letters line word₀ n good₀ k₀ word good k = Read letters line n word good k × (length word ≡ length word₀)
+Inv-loop line word₀ n k₀ word k = Read line n word k × (length word ≡ length word₀)
 
 abbrev μ-loop : tie.MeasureT-loop
-μ-loop letters line word₀ n good₀ k₀ word good k = n - k
+μ-loop line word₀ n k₀ word k = n - k
 
 returns : tie.Need-returns Inv-loop μ-loop
-returns c = refused (c .before .before .before .args .letters) ((c .before .before .before .args .line) .now) 9 ((c .before .before .before .args .word) .now) (omega arith) (refused-long (c .before .before .before .args .letters) ((c .before .before .before .args .line) .now) (c .if1 .taken))
+returns c = word-refused (((c .before .before .before) .args .line) .now) 9 (((c .before .before .before) .args .word) .now) (omega arith) (fault-long (((c .before .before .before) .args .line) .now) (c .if1 .taken))
 
 returns-2 : tie.Need-returns-2 Inv-loop μ-loop
-returns-2 c = refused (c .before .before .before .before .args .letters) ((c .before .before .before .before .args .line) .now) 2 ((c .before .before .before .before .args .word) .now) (omega arith) (refused-part (c .before .before .before .before .args .letters) ((c .before .before .before .before .args .line) .now) (c .before .if1 .left) (c .if2 .taken))
+returns-2 c = word-refused (((c .before .before .before .before) .args .line) .now) 2 (((c .before .before .before .before) .args .word) .now) (omega arith) (fault-part (((c .before .before .before .before) .args .line) .now) ((c .before) .if1 .left) (c .if2 .taken))
 
 loop-holds : tie.Need-loop-holds Inv-loop μ-loop
-loop-holds c = (read-none (c .before .before .before .before .args .letters) ((c .before .before .before .before .args .line) .now) (length ((c .before .before .before .before .args .line) .now) / 5) ((c .before .before .before .before .args .word) .now) ((c .before .before .before .before .pre) .1), refl)
+loop-holds c = (read-none (((c .before .before .before .before) .args .line) .now) (length (((c .before .before .before .before) .args .line) .now) / 5) (((c .before .before .before .before) .args .word) .now) ((c .before .before .before .before) .pre), refl)
 
 mul-number : tie.Need-mul-number Inv-loop μ-loop
 mul-number c = omega arith
@@ -31,17 +30,17 @@ number-requires : tie.Need-number-requires Inv-loop μ-loop
 number-requires c κs = omega arith
 
 same-length : tie.Need-same-length Inv-loop μ-loop
-same-length c = (c .before .before .before .loop .inv) .1
+same-length c = (c .before .before .before) .loop .inv .1
 
 returns-3 : tie.Need-returns-3 Inv-loop μ-loop
 unfolding letterAt
-returns-3 c = refused (c .before .before .before .before .before .before .before .before .args .letters) ((c .before .before .before .before .before .before .before .before .args .line) .now) 2 (c .before .before .before .loop .word) (omega arith) (refused-column (c .before .before .before .before .before .before .before .before .args .letters) ((c .before .before .before .before .before .before .before .before .args .line) .now) (c .before .before .before .before .before .if1 .left) (c .before .before .before .before .if2 .left) (read-stops (c .before .before .before .before .before .before .before .before .args .letters) ((c .before .before .before .before .before .before .before .before .args .line) .now) _ (c .before .before .before .loop .word) (c .before .before .before .loop .good) (c .before .before .before .loop .k) ((c .before .before .before .loop .inv) .0) (c .before .before .loop-test .taken) (c .before .number .result) (c .before .number .ensures) (c .if3 .taken)))
+returns-3 c = word-refused (((c .before .before .before .before .before .before .before .before) .args .line) .now) 2 ((c .before .before .before) .loop .word) (omega arith) (fault-column (((c .before .before .before .before .before .before .before .before) .args .line) .now) ((c .before .before .before .before .before) .if1 .left) ((c .before .before .before .before) .if2 .left) (read-stops (((c .before .before .before .before .before .before .before .before) .args .line) .now) _ ((c .before .before .before) .loop .word) ((c .before .before .before) .loop .k) ((c .before .before .before) .loop .inv .0) ((c .before .before) .loop-test .taken) ((c .before) .number .result) ((c .before) .number .ensures) (c .if3 .taken)))
 
-store-letter-requires : tie.Need-store-letter-requires Inv-loop μ-loop
-store-letter-requires c κs = ((c .before .before .before .before .before .before .before .before .before .pre) .0, omega (arith, (c .before .before .before .before .loop .inv) .0 .room))
+byte-requires : tie.Need-byte-requires Inv-loop μ-loop
+byte-requires c κs = search needs
 
-both-requires : tie.Need-both-requires Inv-loop μ-loop
-both-requires c κs = search needs
+slice-write-word : tie.Need-slice-write-word Inv-loop μ-loop
+slice-write-word c = omega (arith, (c .before .before .before .before) .loop .inv .0 .room, (c .before .before .before) .loop-test .taken, (c .before .before .before .before .before .before) .if1 .left)
 
 add-k : tie.Need-add-k Inv-loop μ-loop
 add-k c = omega arith
@@ -51,19 +50,13 @@ loop-less c = omega arith
 
 loop-again : tie.Need-loop-again Inv-loop μ-loop
 unfolding letterAt
-loop-again c = (read-more (c .before .before .before .before .before .before .before .before .before .before .before .before .before .args .letters) ((c .before .before .before .before .before .before .before .before .before .before .before .before .before .args .line) .now) (length ((c .before .before .before .before .before .before .before .before .before .before .before .before .before .args .line) .now) / 5) (c .before .before .before .before .before .before .before .before .loop .word) (c .before .before .before .before .before .before .before .before .loop .good) (c .before .before .before .before .before .before .before .before .loop .k) ((c .before .before .before .before .before .before .before .before .loop .inv) .0) (c .before .before .before .before .before .before .before .loop-test .taken) (c .before .before .before .before .before .before .number .result) (c .before .before .before .before .before .before .number .ensures) (c .before .before .before .before .before .if3 .left) (c .before .before .before .store-letter .result) (c .both .result) ((c .before .before .before .store-letter .last) .1 .1 .1 .0) (omega arith) (c .before .before .before .store-letter .ensures) (c .both .ensures), (c .before .before .before .store-letter .ensures .kept) ∙ (c .before .before .before .before .before .before .before .before .loop .inv) .1)
+loop-again c = (read-more (((c .before .before .before .before .before .before .before .before .before) .args .line) .now) (length (((c .before .before .before .before .before .before .before .before .before) .args .line) .now) / 5) ((c .before .before .before .before) .loop .word) ((c .before .before .before .before) .loop .k) ((c .before .before .before .before) .loop .inv .0) ((c .before .before .before) .loop-test .taken) ((c .before .before) .number .result) ((c .before .before) .number .ensures) ((c .before) .if3 .left) (omega (arith, (c .before .before .before .before .before .before) .if1 .left)) (c .byte .result) (c .byte .ensures), length-set ((c .before .before .before .before) .loop .word) ((c .before .before .before .before) .loop .k) (c .byte .result) ∙ (c .before .before .before .before) .loop .inv .1)
 
 same-length-2 : tie.Need-same-length-2 Inv-loop μ-loop
-same-length-2 c = (c .before .before .loop .inv) .1
+same-length-2 c = (c .before) .loop .inv .1
 
 returns-4 : tie.Need-returns-4 Inv-loop μ-loop
-returns-4 c = word-refused (c .before .before .before .before .before .before .before .args .letters) ((c .before .before .before .before .before .before .before .args .line) .now) (c .before .before .loop .word) (c .before .before .loop .good) (c .before .before .loop .k) ((c .before .before .loop .inv) .0) (c .before .loop-test .left) (c .before .before .before .before .if1 .left) (c .before .before .before .if2 .left) (not-true _ (c .if4 .taken))
-
-same-length-3 : tie.Need-same-length-3 Inv-loop μ-loop
-same-length-3 c = (c .before .before .loop .inv) .1
-
-returns-5 : tie.Need-returns-5 Inv-loop μ-loop
-returns-5 c = word-taken (c .before .before .before .before .before .before .before .args .letters) ((c .before .before .before .before .before .before .before .args .line) .now) (c .before .before .loop .word) (c .before .before .loop .good) (c .before .before .loop .k) ((c .before .before .loop .inv) .0) (c .before .loop-test .left) (c .before .before .before .before .if1 .left) (c .before .before .before .if2 .left) (not-false _ (c .if4 .left))
+returns-4 c = word-taken (((c .before .before .before .before .before .before) .args .line) .now) ((c .before) .loop .word) ((c .before) .loop .k) ((c .before) .loop .inv .0) (c .loop-test .left) ((c .before .before .before) .if1 .left) ((c .before .before) .if2 .left)
 
 pub read-word-spec : {M : Type 1} → statement M
 read-word-spec =
@@ -78,12 +71,10 @@ read-word-spec =
     number-requires
     same-length
     returns-3
-    store-letter-requires
-    both-requires
+    byte-requires
+    slice-write-word
     add-k
     loop-less
     loop-again
     same-length-2
-    returns-4
-    same-length-3
-    returns-5)
+    returns-4)

@@ -8,14 +8,11 @@ use Rattle.listing.proofs.list_prepared.Tie as tie
 target-buffer-requires : tie.Need-target-buffer-requires
 target-buffer-requires c κs = search needs
 
-kinds-of-requires : tie.Need-kinds-of-requires
-kinds-of-requires c κs = rules ((c .before .before .before .before .before .before) .args .t2) (((c .before .before .before .before .before .before) .args .list) .now) (((c .before .before .before .before .before .before) .pre) .0) .states-fit
-
 slice-aggregate-prepare : tie.Need-slice-aggregate-prepare
 slice-aggregate-prepare c = search needs
 
 prepare-requires : tie.Need-prepare-requires
-prepare-requires c κs = (((c .before .before .before .before .before .before .before .before) .pre) .0, omega (arith, ((c .before .before .before .before) .target-buffer .ensures) .0, rules ((c .before .before .before .before .before .before .before .before) .args .t2) (((c .before .before .before .before .before .before .before .before) .args .list) .now) (((c .before .before .before .before .before .before .before .before) .pre) .0) .states-fit, product-small ((c .before .before .before .before .before .before .before .before) .args .t2 .states) ((c .before .before .before .before .before .before .before .before) .args .t2 .letters) (rules ((c .before .before .before .before .before .before .before .before) .args .t2) (((c .before .before .before .before .before .before .before .before) .args .list) .now) (((c .before .before .before .before .before .before .before .before) .pre) .0) .states-fit) (rules ((c .before .before .before .before .before .before .before .before) .args .t2) (((c .before .before .before .before .before .before .before .before) .args .list) .now) (((c .before .before .before .before .before .before .before .before) .pre) .0) .letters-fit)), ((c .before .before .before .before) .target-buffer .ensures) .1, ((c .before) .kinds-of .ensures))
+prepare-requires c κs = let r = rules ((c .before .before .before .before .before) .args .m) (((c .before .before .before .before .before) .args .list) .now) ((c .before .before .before .before .before) .pre .0) in ((c .before .before .before .before .before) .pre .0, omega (arith, (c .before) .target-buffer .ensures .0, r .states-fit, product-small ((c .before .before .before .before .before) .args .m .states) ((c .before .before .before .before .before) .args .m .letters) (r .states-fit) (r .letters-fit)), (c .before) .target-buffer .ensures .1)
 
 slice-aggregate-list-words : tie.Need-slice-aggregate-list-words
 slice-aggregate-list-words c = search needs
@@ -34,7 +31,6 @@ list-prepared-spec =
     tie.close
     (tie.spec
     target-buffer-requires
-    kinds-of-requires
     slice-aggregate-prepare
     prepare-requires
     slice-aggregate-list-words

@@ -27,7 +27,7 @@ use Rattle.basics.specs.Search.Loops.{first, second}
 use Rattle.fsbm.specs.Accepted.{accepted}
 use Rattle.fsbm.specs.declared.machine.Machine.{Machine}
 use Rattle.lines.specs.declared.Answer.{Answer}
-use Rattle.lines.specs.Line.{lineAnswer, answerLine, wordOf}
+use Rattle.lines.specs.Line.{longestLine, lineAnswer, answerLine, wordOf}
 use Rattle.lines.proofs.LineCases.{refused-long, line-length}
 use Rattle.columns.specs.Column.{columnOf}
 use Rattle.columns.specs.Column.Laws.{column-length}
@@ -186,7 +186,7 @@ opening-length s = at (ℕ-discrete (firstFault s) 0)
 -- what is kept of a long line is as good as the line
 
 module _ (m : Machine) (list : List ℕ) where
-  answer-nine : (line : List ℕ) → 800 < length line → lineAnswer m list line ≡ record { answer = 2; refusal = 9 }
+  answer-nine : (line : List ℕ) → longestLine < length line → lineAnswer m list line ≡ record { answer = 2; refusal = 9 }
   unfolding lineAnswer
   answer-nine line h =
       ap {B = Answer} (λ (r : ℕ). cond (eqb r 0) (record { answer = cond (accepted m list (wordOf line)) 1 0; refusal = 0 }) (record { answer = 2; refusal = r }))

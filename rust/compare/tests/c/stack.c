@@ -5,9 +5,12 @@
 
 #include <pthread.h>
 #include <stdio.h>
+#include <stdlib.h>
 #include <string.h>
 
 #define LONGEST 1048576
+#define WORDS 100000
+#define LONG_PAIRS 200
 
 static const uint16_t t_list[18] = {0, 0, 1, 1, 0, 2, 1, 1, 1, 1, 2, 1, 2, 1, 2, 2, 2, 2};
 static zagvirk_machine t = {3, 2, 6, {5, 0, 10}};
@@ -15,7 +18,8 @@ static zagvirk_machine largest, doubled, plain;
 static uint16_t largest_list[12000], doubled_list[42], plain_list[5937], list[12000];
 static uint8_t word[LONGEST], sheet[64720], written[255];
 static uint16_t run[LONGEST + 8], first_run[200000], second_run[1000], copies[2];
-static size_t sheet_bytes;
+static uint8_t letters[LONG_PAIRS * 509], answers[WORDS];
+static size_t sheet_bytes, ends[WORDS];
 
 static void add(zagvirk_machine *m, uint16_t *to, unsigned from, unsigned letter, unsigned end) {
   to[m->transitions * 3] = (uint16_t)from;
@@ -63,6 +67,30 @@ static void *recognize(void *wrong) {
   return NULL;
 }
 
+/* One word, and a list of words of 254 and 255 letters in turn with empty words behind them. */
+static void *accepts(void *wrong) {
+  size_t i;
+  zagvirk_words_answered answered;
+  zagvirk_decided answer = zagvirk_accepts(largest, largest_list, 12000, word, 254);
+  if (answer.refusal != 0 || answer.accepted != 1) *(int *)wrong = 12;
+  answer = zagvirk_accepts(t, t_list, 18, word, 254);
+  if (answer.refusal != 0 || answer.accepted != 1) *(int *)wrong = 12;
+  answer = zagvirk_accepts(largest, largest_list, 12000, word, 255);
+  if (answer.refusal != 0 || answer.accepted != 0) *(int *)wrong = 13;
+  for (i = 0; i < LONG_PAIRS; i++) {
+    memcpy(letters + 509 * i, word, 254);
+    memcpy(letters + 509 * i + 254, word, 255);
+    ends[2 * i] = 509 * i + 254;
+    ends[2 * i + 1] = 509 * i + 509;
+  }
+  for (i = 2 * LONG_PAIRS; i < WORDS; i++) ends[i] = sizeof letters;
+  answered = zagvirk_accept_words(largest, largest_list, 12000, letters, sizeof letters, ends, WORDS, answers, WORDS);
+  if (answered.refusal != 0 || answered.words != WORDS) *(int *)wrong = 14;
+  for (i = 0; i < WORDS; i++)
+    if (answers[i] != (i >= 2 * LONG_PAIRS || i % 2 == 0)) *(int *)wrong = 15;
+  return NULL;
+}
+
 static void *common_word(void *wrong) {
   zagvirk_common common = zagvirk_common_word(doubled, doubled_list, 42, plain, plain_list, 5937, word, 1000, first_run,
                                               200000, second_run, 1000);
@@ -97,13 +125,35 @@ static int in_thread(void *(*call)(void *), size_t stack) {
   pthread_attr_t attributes;
   pthread_t thread;
   int wrong = 0;
-  if (pthread_attr_init(&attributes) != 0 || pthread_attr_setstacksize(&attributes, stack) != 0) return 12;
-  if (pthread_create(&thread, &attributes, call, &wrong) != 0 || pthread_join(thread, NULL) != 0) return 13;
+  if (pthread_attr_init(&attributes) != 0 || pthread_attr_setstacksize(&attributes, stack) != 0) return 16;
+  if (pthread_create(&thread, &attributes, call, &wrong) != 0 || pthread_join(thread, NULL) != 0) return 17;
   return wrong;
+}
+
+/* What runs in a thread: calls, the stack, and the letters of the word that they have. */
+typedef struct {
+  void *(*calls)(void *);
+  size_t stack;
+  size_t letters;
+} part;
+
+static part parts[6] = {
+    {small, ZAGVIRK_STACK_SMALL, LONGEST},
+    {list_copies, ZAGVIRK_STACK_SMALL, 254},
+    {join, ZAGVIRK_STACK_JOIN, 254},
+    {accepts, ZAGVIRK_STACK_ACCEPTS, 254},
+    {common_word, ZAGVIRK_STACK_COMMON_WORD, 254},
+    {recognize, ZAGVIRK_STACK_RECOGNIZE, 254},
+};
+
+static int by_stack(const void *first, const void *second) {
+  size_t a = ((const part *)first)->stack, b = ((const part *)second)->stack;
+  return (a > b) - (a < b);
 }
 
 int main(void) {
   unsigned p, x, q;
+  size_t i;
   int wrong;
   make_doubled(&largest, largest_list, 64, 250, 4000);
   make_doubled(&doubled, doubled_list, 3, 6, 14);
@@ -118,19 +168,12 @@ int main(void) {
   memset(written, 'z', sizeof written);
 
   /* From the least stack to the largest: a thread may be given the stack of one that has ended, if that is larger. */
-  make_word(LONGEST);
-  wrong = in_thread(small, ZAGVIRK_STACK_SMALL);
-  if (wrong != 0) return wrong;
-  make_word(254);
-  wrong = in_thread(list_copies, ZAGVIRK_STACK_SMALL);
-  if (wrong != 0) return wrong;
-  wrong = in_thread(join, ZAGVIRK_STACK_JOIN);
-  if (wrong != 0) return wrong;
-  wrong = in_thread(common_word, ZAGVIRK_STACK_COMMON_WORD);
-  if (wrong != 0) return wrong;
-  make_word(254);
-  wrong = in_thread(recognize, ZAGVIRK_STACK_RECOGNIZE);
-  if (wrong != 0) return wrong;
+  qsort(parts, 6, sizeof parts[0], by_stack);
+  for (i = 0; i < 6; i++) {
+    make_word(parts[i].letters);
+    wrong = in_thread(parts[i].calls, parts[i].stack);
+    if (wrong != 0) return wrong;
+  }
 
   puts("every call runs in a thread with the stack that the header says");
   return 0;

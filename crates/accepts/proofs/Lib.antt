@@ -1,0 +1,2 @@
+pub mod DecisionCases
+pub mod WordsCases
