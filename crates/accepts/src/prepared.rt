@@ -11,12 +11,13 @@ ghost use Rattle.images.specs.Graph.{setOf, KindsOf};
 ghost use Rattle.targets.specs.Prepared.{Prepared};
 ghost use Rattle.decide.specs.Covers.{Covers};
 ghost use Rattle.accepts.specs.Decision.{decision};
-ghost use Rattle.accepts.specs.Ready.{Ready};
+ghost use Rattle.accepts.specs.Ready.{Ready, Working};
 use decide::positions;
 use decide::positions::Reached;
 use fsbm::answer;
 use fsbm::answer::Refusal;
 use fsbm::limits::LONGEST_WORD;
+use fsbm::limits::POSITIONS;
 use fsbm::machine::Machine;
 use images::Kinds;
 use stateset::StateSet;
@@ -75,6 +76,31 @@ pub fn accepts_prepared(
     }
     let reached = positions::decide(m, list, targets, kinds, word);
     if reached.accepted {
+        return Decided::Yes;
+    }
+    Decided::No
+}
+
+// The same for one word of many: what the subset construction has found is kept in rows and steps for the next (crate subsets), and the
+// sets that are lent are empty before and after.
+pub fn accepts_next(
+    m: Machine,
+    list: &[u16],
+    targets: &[StateSet],
+    kinds: Kinds,
+    rows: &mut [StateSet],
+    steps: &mut [u16],
+    sets: &mut [StateSet; POSITIONS],
+    word: &[u8],
+) -> Decided
+    requires { ⌜ Ready m (now list) (now targets) kinds × Working m (now targets) kinds (now rows) (now steps) (now sets) ⌝ }
+    ensures { λ r. ⌜ (r ≡ decision m (now (list .entry)) (now (word .entry))) × Working m (now (targets .entry)) kinds (now (rows .exit)) (now (steps .exit)) (now (sets .exit)) ⌝ }
+{
+    let number = answer::word_fault(LONGEST_WORD, m.letters, word);
+    if number != 0 {
+        return Decided::Refused(Refusal { number, needed: 0 });
+    }
+    if positions::decide_next(m, list, targets, kinds, rows, steps, sets, word) {
         return Decided::Yes;
     }
     Decided::No

@@ -6,16 +6,23 @@ ghost use mathlib.Core.Bool.{true};
 ghost use lib.ListN.{length};
 ghost use Rattle.basics.specs.Lists.{put};
 ghost use Rattle.fsbm.specs.Machine.{wellFormed};
-ghost use Rattle.accepts.specs.Ready.{Ready};
+ghost use Rattle.accepts.specs.Ready.{Ready, Working};
 ghost use Rattle.accepts.specs.Words.{answerByte, answersFrom, goodEnds, wordsAnswer, wordsAfter, answeredValues, wordsValues};
 use crate::prepared;
 use crate::prepared::Decided;
 use fsbm::answer::Refusal;
+use fsbm::limits::POSITIONS;
 use fsbm::machine;
 use fsbm::machine::Machine;
 use images::Kinds;
 use stateset::StateSet;
 use targets::MOST_SETS;
+
+// The rows that are kept of the subset construction.
+const ROWS: usize = 1024;
+
+// The numbers that their steps are kept in.
+const STEPS: usize = 32768;
 
 // The refusal of ends that fall or pass the letters.
 const ENDS: u8 = 34;
@@ -66,6 +73,35 @@ fn answer_each(
     list: &[u16],
     targets: &[StateSet],
     kinds: Kinds,
+    rows: &mut [StateSet],
+    steps: &mut [u16],
+    sets: &mut [StateSet; POSITIONS],
+    letters: &[u8],
+    ends: &[usize],
+    answers: &mut [u8],
+)
+    requires { ⌜ Ready m (now list) (now targets) kinds × Working m (now targets) kinds (now rows) (now steps) (now sets)
+        × (goodEnds (length (now letters)) 0 (now ends) ≡ true) × (length (now ends) ≤ length (now answers)) ⌝ }
+    ensures { λ r. ⌜ now (answers .exit) ≡ put 0 (now (answers .entry)) (answersFrom m (now (list .entry)) (now (letters .entry)) 0 (now (ends .entry))) ⌝ }
+{
+    let mut from: usize = 0;
+    let mut k: usize = 0;
+    while k < ends.len() {
+        let end = ends[k];
+        let word = &letters[from..end];
+        let decided = prepared::accepts_next(m, list, targets, kinds, rows, steps, sets, word);
+        answers[k] = byte_of(decided);
+        from = end;
+        k += 1;
+    }
+}
+
+// The same, with nothing kept so far.
+fn answer_prepared(
+    m: Machine,
+    list: &[u16],
+    targets: &[StateSet],
+    kinds: Kinds,
     letters: &[u8],
     ends: &[usize],
     answers: &mut [u8],
@@ -73,15 +109,22 @@ fn answer_each(
     requires { ⌜ Ready m (now list) (now targets) kinds × (goodEnds (length (now letters)) 0 (now ends) ≡ true) × (length (now ends) ≤ length (now answers)) ⌝ }
     ensures { λ r. ⌜ now (answers .exit) ≡ put 0 (now (answers .entry)) (answersFrom m (now (list .entry)) (now (letters .entry)) 0 (now (ends .entry))) ⌝ }
 {
-    let mut from: usize = 0;
-    let mut k: usize = 0;
-    while k < ends.len() {
-        let end = ends[k];
-        let decided = prepared::accepts_prepared(m, list, targets, kinds, &letters[from..end]);
-        answers[k] = byte_of(decided);
-        from = end;
-        k += 1;
-    }
+    let mut rows: [StateSet; ROWS] = [0; ROWS];
+    rows[0] = 1;
+    let mut steps: [u16; STEPS] = [0; STEPS];
+    let mut sets: [StateSet; POSITIONS] = [0; POSITIONS];
+    answer_each(
+        m,
+        list,
+        targets,
+        kinds,
+        &mut rows,
+        &mut steps,
+        &mut sets,
+        letters,
+        ends,
+        answers,
+    );
 }
 
 // Makes the table ready once, and writes the answer to each word to the front of answers.
@@ -91,7 +134,7 @@ fn answer_all(m: Machine, list: &[u16], letters: &[u8], ends: &[usize], answers:
 {
     let mut targets: [StateSet; MOST_SETS] = [0; MOST_SETS];
     let kinds = prepared::prepare(m, list, &mut targets);
-    answer_each(m, list, &targets, kinds, letters, ends, answers);
+    answer_prepared(m, list, &targets, kinds, letters, ends, answers);
 }
 
 // Whether the machine accepts each word of a list. On success a byte for each word stands at the front of answers: 1 yes, 0 no, or the

@@ -9,23 +9,28 @@
 --                        and where no state is left
 -- tailed-start, tailed-on, tailed-anew == the tail before any walk, after a walk that goes on, and after one that begins anew
 -- tailed-at           == what a tail has reached, of an equal set and an equal position
+-- turning-all         == states that turn to matching are all of a set's that are matching
+-- shared              == the members that a set shares with another
 -- Copying             == the invariant of copies_from; copying-start, copying-turn, copying-pass, copying-dead, copying-end: it begins, one
 --                        turn, one where no state turns to matching, its two ends
 use Prim.Native.Nat.{ℕ, _+_, _-_, _^_, _≤_, _<_}
-use mathlib.Core.Path.{_≡_, refl, ap, _∙_, subst}
+use mathlib.Core.Path.{_≡_, refl, sym, ap, _∙_, subst}
 use mathlib.Core.Logic.{_↔_, _⊎_, inl, inr}
 use mathlib.Core.List.{List}
 use native.Mathlib.Omega.{arith}
 use native.Mathlib.Decide.{decLe}
 use lib.ListN.{length, getD, set, length-set}
+use lib.Bits.{bitAnd, and-le-l}
 use Rattle.stateset.specs.Set.{width, In}
+use Rattle.stateset.specs.Set.Laws.{in-and}
 use Rattle.fsbm.specs.declared.config.Mode.{Mode}
 use Rattle.fsbm.specs.declared.config.Mode.the-variants.{Buffering, Emptying}
+use Rattle.subsets.specs.declared.Subset.{Subset}
 use Rattle.decide.specs.declared.walks.Tail.{Tail}
 use Rattle.images.specs.Graph.{Members, Fitting, From, here, more, Graph, Free, Advance}
 use Rattle.decide.specs.Reach.{Walk, still, reads, Tailed, Square, LastSquare, CopyTo, Copied}
 use Rattle.basics.specs.Lists.Laws.{set-cases}
-use Rattle.images.proofs.SetCases.{members-as, members-none, none-in}
+use Rattle.images.proofs.SetCases.{members-as, members-none, none-in, some-member}
 
 module _ {G : Graph} {w : List ℕ} {T : Mode} {i p : ℕ} where
   pub walk-forward : {j q : ℕ} → Walk G w T i p j q → i ≤ j
@@ -73,20 +78,33 @@ module _ (G : Graph) (w : List ℕ) (T : Mode) (i : ℕ) where
   walks-to starts s j k e m = subst (λ (n : ℕ). Members s (From starts (λ p q. Walk G w T i p n q))) e m
 
   -- no state is left: no walk goes on
-  pub walks-dead : (starts s j k : ℕ) → i ≤ j → j ≤ k → s ≡ 0 → Members s (From starts (λ p q. Walk G w T i p j q)) → Members 0 (From starts (λ p q. Walk G w T i p k q))
-  walks-dead starts s j k le ge e so-far = members-none (λ q z. let (r, v) = walk-before j (z .2) le ge in none-in e r (so-far .members r .1 (z .0, z .1, v)))
+  pub walks-dead : (starts s j k : ℕ) → i ≤ j → j ≤ k → s ≡ 0 → Members s (From starts (λ p q. Walk G w T i p j q)) → Members s (From starts (λ p q. Walk G w T i p k q))
+  walks-dead starts s j k le ge e so-far =
+      subst (λ (x : ℕ). Members x (From starts (λ p q. Walk G w T i p k q))) (sym e)
+      (members-none (λ q z. let (r, v) = walk-before j (z .2) le ge in none-in e r (so-far .members r .1 (z .0, z .1, v))))
+
+-- a set that turns to matching is not empty, so there is a square
+pub turning-all : (w : List ℕ) (i j s h r : ℕ) → Members r (λ q. Square w i j × (In s q × In h q)) → (r ≡ 0 → ⊥) → Members r (λ q. In s q × In h q)
+turning-all w i j s h r m n =
+    let (q, i) = some-member r (m .fits) n in
+    let square = m .members q .0 i .0 in
+    members-as m (λ q z. z .1) (λ q z. (square, z))
+
+-- the members that a set shares with another
+pub shared : (a b : ℕ) → a < 2 ^ width → Members (bitAnd a b) (λ q. In a q × In b q)
+shared a b f = record { fits = let l = and-le-l a b in omega arith; members = in-and a b }
 
 module _ (G : Graph) (w : List ℕ) (i : ℕ) where
-  pub tailed-start : Tailed G w i (record { ready = 0; position = i; reached = 0 })
+  pub tailed-start : Tailed G w i (record { ready = 0; position = i; reached = record { set = 0; row = 0 } })
   tailed-start = record { from = omega arith; walked = members-none (λ q z. none-in refl (z .0) (z .1)) }
 
-  pub tailed-at : (tail : Tail) (ready j : ℕ) → Tailed G w i tail → tail .ready ≡ ready → tail .position ≡ j → Members (tail .reached) (From ready (λ p q. Walk G w Emptying i p j q))
+  pub tailed-at : (tail : Tail) (ready j : ℕ) → Tailed G w i tail → tail .ready ≡ ready → tail .position ≡ j → Members (tail .reached .set) (From ready (λ p q. Walk G w Emptying i p j q))
   tailed-at tail ready j so-far e at =
-      walks-to G w Emptying i ready (tail .reached) (tail .position) j at
-      (subst (λ (x : ℕ). Members (tail .reached) (From x (λ p q. Walk G w Emptying i p (tail .position) q))) e (so-far .walked))
+      walks-to G w Emptying i ready (tail .reached .set) (tail .position) j at
+      (subst (λ (x : ℕ). Members (tail .reached .set) (From x (λ p q. Walk G w Emptying i p (tail .position) q))) e (so-far .walked))
 
-  pub tailed-on : (tail : Tail) (ready j r : ℕ) → Tailed G w i tail → tail .ready ≡ ready → tail .position ≤ j
-      → ((o set : ℕ) → o ≤ tail .position → Members (tail .reached) (From set (λ p q. Walk G w Emptying o p (tail .position) q)) → Members r (From set (λ p q. Walk G w Emptying o p j q)))
+  pub tailed-on : (tail : Tail) (ready j : ℕ) (r : Subset) → Tailed G w i tail → tail .ready ≡ ready → tail .position ≤ j
+      → ((o set : ℕ) → o ≤ tail .position → Members (tail .reached .set) (From set (λ p q. Walk G w Emptying o p (tail .position) q)) → Members (r .set) (From set (λ p q. Walk G w Emptying o p j q)))
       → Tailed G w i (record { ready = ready; position = j; reached = r })
   tailed-on tail ready j r so-far e le on =
       record {
@@ -94,8 +112,8 @@ module _ (G : Graph) (w : List ℕ) (i : ℕ) where
         walked = on i ready (so-far .from) (tailed-at tail ready (tail .position) so-far e refl);
       }
 
-  pub tailed-anew : (ready near j r : ℕ) → i ≤ j → Members near (From ready (Free G Emptying))
-      → ((o set : ℕ) → o ≤ i → Members near (From set (λ p q. Walk G w Emptying o p i q)) → Members r (From set (λ p q. Walk G w Emptying o p j q)))
+  pub tailed-anew : (ready near j : ℕ) (r : Subset) → i ≤ j → Members near (From ready (Free G Emptying))
+      → ((o set : ℕ) → o ≤ i → Members near (From set (λ p q. Walk G w Emptying o p i q)) → Members (r .set) (From set (λ p q. Walk G w Emptying o p j q)))
       → Tailed G w i (record { ready = ready; position = j; reached = r })
   tailed-anew ready near j r le m on = record { from = le; walked = on i ready (omega arith) (walks-start G w Emptying i ready near m) }
 

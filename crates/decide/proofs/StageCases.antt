@@ -5,24 +5,25 @@
 -- stage-start     == the sets at the start of a word
 -- stage-turn      == one position more
 -- stage-to        == the same at an equal position
+-- cleared         == at the end no set is left once those of the word's positions are emptied
 -- stage-reach     == at the end the sets are those of the reached states; stage-end: that of the last position
 use Prim.Native.Nat.{ℕ, suc, _+_, _-_, _^_, _≤_, _<_}
 use mathlib.Core.Path.{_≡_, refl, sym, ap, _∙_, subst}
 use mathlib.Core.Logic.{_↔_, _⊎_, inl, inr}
 use mathlib.Core.List.{List}
 use native.Mathlib.Omega.{arith}
-use native.Mathlib.Decide.{ℕ-discrete}
-use lib.ListN.{length, getD, set, length-set, replicate}
+use native.Mathlib.Decide.{ℕ-discrete, decLe}
+use lib.ListN.{length, getD, set, length-set}
 use lib.Seq.{getD-set-same, getD-set-other}
 use lib.Bits.{bitAnd}
 use Rattle.stateset.specs.Set.{width, In}
 use Rattle.stateset.specs.Set.Laws.{in-and}
 use Rattle.fsbm.specs.declared.config.Mode.the-variants.{Normal, Buffering, Emptying}
-use Rattle.basics.specs.Lists.Laws.{zeros-at}
 use Rattle.images.specs.Graph.{Members, Fitting, From, Star, here, more, Graph, Edge, Turn}
+use Rattle.decide.specs.Covers.{Empty}
 use Rattle.decide.specs.Reach.{Walk, still, Square, Reach, begins, passes, moves, copies, CopyTo, Copied, ReadTo, Passed, Stage}
 use Rattle.basics.specs.Lists.Laws.{set-cases}
-use Rattle.images.proofs.SetCases.{none-in}
+use Rattle.images.proofs.SetCases.{none-in, some-member}
 use Rattle.decide.proofs.CopyCases.{walk-free}
 
 -- a set at one position changes
@@ -128,16 +129,19 @@ module _ (G : Graph) (w : List ℕ) (a : List ℕ) (i near : ℕ) (fit : Fitting
 
 -- The stages
 
-pub stage-start : (G : Graph) (w : List ℕ) (start : ℕ) → start < 2 ^ width → Stage G w start (set (replicate 256 0) 0 start) 0
-stage-start G w start fits =
+pub stage-start : (G : Graph) (w : List ℕ) (start : ℕ) (sets : List ℕ) → Empty sets → start < 2 ^ width → Stage G w start (set sets 0 start) 0
+stage-start G w start sets empty fits =
     record {
-      fitting = fitting-set (replicate 256 0) 0 start (record { size = refl; each = λ k. let z = zeros-at 256 k in omega arith }) (omega arith) fits;
-      sound = λ k q. set-cases (replicate 256 0) 0 start 0 (omega arith) (λ k y. In y q → Reach G w start k q) (λ h. begins refl h) (λ k n h. absurd (none-in (zeros-at 256 k) q h)) k;
-      begun = λ q h. h;
+      fitting = fitting-set sets 0 start (record { size = empty .size; each = λ k. let z = empty .each k in omega arith }) (omega arith) fits;
+      sound = λ k q. set-cases sets 0 start 0 first (λ k y. In y q → Reach G w start k q) (λ h. begins refl h) (λ k n h. absurd (none-in (empty .each k) q h)) k;
+      begun = λ q h. subst (λ (y : ℕ). In y q) (sym (getD-set-same sets 0 start 0 first)) h;
       passed = λ k p q (lt : k < 0). absurd (omega arith);
       read = λ k p q (lt : k < 0). absurd (omega arith);
       copied = λ i j k p s q (lt : i < 0). absurd (omega arith);
     }
+  where
+    first : 0 < length sets
+    first = let z = empty .size in omega arith
 
 module _ (G : Graph) (w : List ℕ) (start : ℕ) where
   -- what is reached at a position in epsilon moves and empty copies is reached there
@@ -292,3 +296,15 @@ stage-to G w start sets t u e s = subst (λ (n : ℕ). Stage G w start sets n) e
 
 pub stage-end : (G : Graph) (w : List ℕ) (start : ℕ) (sets : List ℕ) → Stage G w start sets (length w + 1) → Members (getD sets (length w) 0) (Reach G w start (length w))
 stage-end G w start sets st = record { fits = st .fitting .each (length w); members = λ q. (st .sound (length w) q, λ r. stage-reach G w start sets (length w + 1) st (omega arith) r) }
+
+-- past the end of a word no set has a member, so nothing is left once the others are emptied
+pub cleared : (G : Graph) (w : List ℕ) (start : ℕ) (sets after : List ℕ) (t : ℕ) → Stage G w start sets t → length after ≡ 256 → ((k : ℕ) → k ≤ length w → getD after k 0 ≡ 0)
+    → ((k : ℕ) → length w < k → getD after k 0 ≡ getD sets k 0) → Empty after
+cleared G w start sets after t stage size front rest = record { size = size; each = λ k. at k (decLe k (length w)) (ℕ-discrete (getD sets k 0) 0) }
+  where
+    at : (k : ℕ) → Dec (k ≤ length w) → Dec (getD sets k 0 ≡ 0) → getD after k 0 ≡ 0
+    at k (yes le) z = front k le
+    at k (no n) (yes e) = rest k (omega arith) ∙ e
+    at k (no n) (no some) =
+        let (q, i) = some-member (getD sets k 0) (stage .fitting .each k) some in
+        absurd (n (reach-inside G w start (stage .sound k q i)))

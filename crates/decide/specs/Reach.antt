@@ -32,7 +32,7 @@ pub data Walk (G : Graph) (w : List ℕ) (T : Mode) (i p : ℕ) : ℕ → ℕ �
 
 pub record Tailed (G : Graph) (w : List ℕ) (i : ℕ) (tail : Tail) : Type 0 where
   pub from : i ≤ tail .position
-  pub walked : Members (tail .reached) (From (tail .ready) (λ p q. Walk G w Emptying i p (tail .position) q))
+  pub walked : Members (tail .reached .set) (From (tail .ready) (λ p q. Walk G w Emptying i p (tail .position) q))
 
 abbrev pub Square : List ℕ → ℕ → ℕ → Type 0
 Square w i j = (t : ℕ) → t < j - i → getD w (i + t) 0 ≡ getD w (j + t) 0

@@ -12,11 +12,11 @@ slice-aggregate-prepare c = search needs
 prepare-requires : tie.Need-prepare-requires
 prepare-requires c κs = let r = rules ((c .before .before .before .before .before) .args .m) (((c .before .before .before .before .before) .args .list) .now) ((c .before .before .before .before .before) .pre .0) in ((c .before .before .before .before .before) .pre .0, omega (arith, r .states-fit, product-small ((c .before .before .before .before .before) .args .m .states) ((c .before .before .before .before .before) .args .m .letters) (r .states-fit) (r .letters-fit)), zeros-at 16130)
 
-slice-aggregate-answer-each : tie.Need-slice-aggregate-answer-each
-slice-aggregate-answer-each c = search needs
+slice-aggregate-answer-prepared : tie.Need-slice-aggregate-answer-prepared
+slice-aggregate-answer-prepared c = search needs
 
-answer-each-requires : tie.Need-answer-each-requires
-answer-each-requires c κs = ((c .before .before .before) .prepare .ensures, (c .before .before .before .before .before .before .before .before .before) .pre .1, (c .before .before .before .before .before .before .before .before .before) .pre .2)
+answer-prepared-requires : tie.Need-answer-prepared-requires
+answer-prepared-requires c κs = ((c .before .before .before) .prepare .ensures, (c .before .before .before .before .before .before .before .before .before) .pre .1, (c .before .before .before .before .before .before .before .before .before) .pre .2)
 
 same-length : tie.Need-same-length
 same-length c = search needs
@@ -30,7 +30,7 @@ answer-all-spec =
     (tie.spec
     slice-aggregate-prepare
     prepare-requires
-    slice-aggregate-answer-each
-    answer-each-requires
+    slice-aggregate-answer-prepared
+    answer-prepared-requires
     same-length
     returns)

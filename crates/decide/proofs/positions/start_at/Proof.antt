@@ -1,3 +1,6 @@
+use mathlib.Core.Path.{refl}
+use lib.ListN.{replicate}
+use Rattle.basics.specs.Lists.Laws.{zeros-at}
 use Rattle.decide.proofs.StageCases.{stage-start}
 use native.Mathlib.Omega.{arith}
 use borrow.Author.Needs.{needs}
@@ -8,7 +11,7 @@ array-write-sets : tie.Need-array-write-sets
 array-write-sets c = search needs
 
 returns : tie.Need-returns
-returns c = λ G w. stage-start G w _ (omega arith)
+returns c = λ G w. stage-start G w _ (replicate 256 0) (record { size = refl; each = zeros-at 256 }) (omega arith)
 
 pub start-at-spec : {M : Type 1} → statement M
 start-at-spec = tie.close (tie.spec array-write-sets returns)
