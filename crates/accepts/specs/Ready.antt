@@ -1,4 +1,4 @@
--- What a table is made ready for once, before its words are answered.
+-- What a table is made ready for once, before its words are answered. The law stands in specs/Ready/Laws.antt.
 --
 -- Ready m list targets kinds == a table that obeys the rules, prepared for every word of its letters, and its kinds of states
 -- Working m targets kinds rows steps sets == what is lent between two words: what is kept of the subset construction is right, and the sets are empty
@@ -13,6 +13,7 @@ use Rattle.images.specs.Graph.{graph, KindsOf}
 use Rattle.images.specs.declared.Kinds.{Kinds}
 use Rattle.subsets.specs.Rows.{Kept}
 use Rattle.decide.specs.Covers.{Empty}
+pub mod Laws
 
 pub record Ready (m : Machine) (list targets : List ℕ) (kinds : Kinds) : Type 0 where
   pub good : wellFormed m list ≡ true

@@ -22,6 +22,12 @@ use fsbm::machine::Machine;
 use images::Kinds;
 use stateset::StateSet;
 
+// The numbers that are lent for rows of the subset construction, where words are many.
+pub const ROWS: usize = 1024;
+
+// The numbers that the steps of the rows are kept in.
+pub const STEPS: usize = 32768;
+
 // The answer to a word: turned down, no, or yes.
 pub enum Decided {
     Refused(Refusal),
@@ -58,31 +64,9 @@ pub fn prepare(m: Machine, list: &[u16], targets: &mut [StateSet]) -> Kinds
 }
 
 // Whether the machine accepts the word, over a table that was made ready for all its words: what accepts answers, without a test of
-// the table. It refuses 9 (more than 255 letters) and 8 (a letter that is not there), in this order.
-// Time: the word once, and the time of the decision. Memory: that of the decision.
-pub fn accepts_prepared(
-    m: Machine,
-    list: &[u16],
-    targets: &[StateSet],
-    kinds: Kinds,
-    word: &[u8],
-) -> Decided
-    requires { ⌜ Ready m (now list) (now targets) kinds ⌝ }
-    ensures { λ r. ⌜ r ≡ decision m (now (list .entry)) (now (word .entry)) ⌝ }
-{
-    let number = answer::word_fault(LONGEST_WORD, m.letters, word);
-    if number != 0 {
-        return Decided::Refused(Refusal { number, needed: 0 });
-    }
-    let reached = positions::decide(m, list, targets, kinds, word);
-    if reached.accepted {
-        return Decided::Yes;
-    }
-    Decided::No
-}
-
-// The same for one word of many: what the subset construction has found is kept in rows and steps for the next (crate subsets), and the
-// sets that are lent are empty before and after.
+// the table. It refuses 9 (more than 255 letters) and 8 (a letter that is not there), in this order. What the subset construction has
+// found is kept in rows and steps for the next word (crate subsets), and the sets that are lent are empty before and after.
+// Time: the word once, and the time of the decision. Memory: what is lent, and that of the decision.
 pub fn accepts_next(
     m: Machine,
     list: &[u16],

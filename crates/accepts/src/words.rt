@@ -10,6 +10,8 @@ ghost use Rattle.accepts.specs.Ready.{Ready, Working};
 ghost use Rattle.accepts.specs.Words.{answerByte, answersFrom, goodEnds, wordsAnswer, wordsAfter, answeredValues, wordsValues};
 use crate::prepared;
 use crate::prepared::Decided;
+use crate::prepared::ROWS;
+use crate::prepared::STEPS;
 use fsbm::answer::Refusal;
 use fsbm::limits::POSITIONS;
 use fsbm::machine;
@@ -17,12 +19,6 @@ use fsbm::machine::Machine;
 use images::Kinds;
 use stateset::StateSet;
 use targets::MOST_SETS;
-
-// The rows that are kept of the subset construction.
-const ROWS: usize = 1024;
-
-// The numbers that their steps are kept in.
-const STEPS: usize = 32768;
 
 // The refusal of ends that fall or pass the letters.
 const ENDS: u8 = 34;

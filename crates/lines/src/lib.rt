@@ -6,12 +6,13 @@ ghost use Prim.Native.Nat.{_+_, _≤_};
 ghost use mathlib.Core.Path.{_≡_};
 ghost use lib.ListN.{length};
 ghost use Rattle.basics.specs.Lists.{put};
-ghost use Rattle.accepts.specs.Ready.{Ready};
+ghost use Rattle.accepts.specs.Ready.{Ready, Working};
 ghost use Rattle.lines.specs.Line.{lineAnswer, answerLine};
 ghost use Rattle.lines.specs.Steps.{asByte, answerOf, WordRead};
 use accepts::prepared;
 use accepts::prepared::Decided;
 use fsbm::limits::LONGEST_WORD;
+use fsbm::limits::POSITIONS;
 use fsbm::machine::Machine;
 use images::Kinds;
 use stateset::StateSet;
@@ -93,6 +94,7 @@ fn answer_of(d: Decided) -> Answer
 
 // What is printed for a word's line, on a table that obeys the rules (the sheet reader answers no other) and was made ready for all its
 // words: 2 and the refusal's number, in the order 9, 2, 8, or 1 or 0 for a word that the table accepts or not, as accepts answers it.
+// What is lent beside the line is handed from word to word (accepts::prepared::accepts_next).
 // Time: the line once, and the time of the answer. Memory: 255 bytes, and that of the answer.
 pub fn answer_line(
     m: Machine,
@@ -100,9 +102,12 @@ pub fn answer_line(
     targets: &[StateSet],
     kinds: Kinds,
     line: &[u8],
+    rows: &mut [StateSet],
+    steps: &mut [u16],
+    sets: &mut [StateSet; POSITIONS],
 ) -> Answer
-    requires { ⌜ Ready m (now list) (now targets) kinds ⌝ }
-    ensures { λ r. ⌜ r ≡ lineAnswer m (now (list .entry)) (now (line .entry)) ⌝ }
+    requires { ⌜ Ready m (now list) (now targets) kinds × Working m (now targets) kinds (now rows) (now steps) (now sets) ⌝ }
+    ensures { λ r. ⌜ (r ≡ lineAnswer m (now (list .entry)) (now (line .entry))) × Working m (now (targets .entry)) kinds (now (rows .exit)) (now (steps .exit)) (now (sets .exit)) ⌝ }
 {
     let mut word = [0u8; LONGEST_WORD];
     let refusal = read_word(line, &mut word);
@@ -110,5 +115,6 @@ pub fn answer_line(
         return Answer { answer: 2, refusal };
     }
     let n = line.len() / 5;
-    answer_of(prepared::accepts_prepared(m, list, targets, kinds, &word[..n]))
+    let decided = prepared::accepts_next(m, list, targets, kinds, rows, steps, sets, &word[..n]);
+    answer_of(decided)
 }

@@ -6,17 +6,21 @@
 // What is printed is decided in crate stream; here a piece of the input is read, handed on, and its output written. Each write goes by
 // a function that asks for the bytes of the definition, and takes what these are defined from beside them.
 //
-// Memory: two buffers of 64 KB, one of 4 KB, a line, the table and what it is prepared to (128 KB), whatever comes in.
+// Memory: two buffers of 64 KB, one of 4 KB, a line, the table, what it is prepared to (128 KB) and what is kept from word to word (74 KB),
+// whatever comes in.
 ghost use Prim.Native.Nat.{ℕ, _≤_};
 ghost use mathlib.Core.Path.{_≡_};
 ghost use mathlib.Core.Bool.{true, false};
 ghost use lib.ListN.{length, getD};
 ghost use Rattle.fsbm.specs.Machine.{wellFormed};
-ghost use Rattle.accepts.specs.Ready.{Ready};
+ghost use Rattle.accepts.specs.Ready.{Ready, Working};
 ghost use Rattle.stream.specs.Pieces.{mostKept, opening};
 ghost use Rattle.listing.specs.Output.{ReadFrom, HeldAfter, NextBytes, LastBytes, Buffers, PieceListed, done};
 use accepts::prepared;
+use accepts::prepared::ROWS;
+use accepts::prepared::STEPS;
 use fsbm::limits::LIST_LENGTH;
+use fsbm::limits::POSITIONS;
 use fsbm::machine::Machine;
 use images::Kinds;
 use libc::STDIN_FILENO;
@@ -67,18 +71,34 @@ fn list_piece(
     line: &mut [u8],
     out: &mut [u8],
     t: Turn,
+    rows: &mut [StateSet],
+    steps: &mut [u16],
+    sets: &mut [StateSet; POSITIONS],
 ) -> Turn
-    requires { ⌜ Ready m (now list) (now targets) kinds ⌝ }
+    requires { ⌜ Ready m (now list) (now targets) kinds × Working m (now targets) kinds (now rows) (now steps) (now sets) ⌝ }
     requires { ⌜ ReadFrom (now sheet) m (now list) ⌝ }
     requires { ⌜ Buffers (now input) (now line) (now out) (t .held) ⌝ }
     requires { ⌜ HeldAfter (now line) (t .held) ⌝ }
     requires { ⌜ t .closed ≡ false ⌝ }
     ensures { λ r. ⌜ PieceListed m (now (list .entry)) (t .held) (now (line .entry)) (now (out .entry)) r (now (input .exit)) (now (line .exit)) (now (out .exit)) ⌝ }
+    ensures { λ r. ⌜ Working m (now (targets .entry)) kinds (now (rows .exit)) (now (steps .exit)) (now (sets .exit)) ⌝ }
 {
     let held = t.held;
     let got = libc::read(STDIN_FILENO, input);
     let count = io::count(got, input);
-    let taken = stream::take_piece(m, list, targets, kinds, &input[..count], line, out, held);
+    let taken = stream::take_piece(
+        m,
+        list,
+        targets,
+        kinds,
+        &input[..count],
+        line,
+        out,
+        held,
+        rows,
+        steps,
+        sets,
+    );
     let used = taken.used;
     let after = taken.held;
     let written = write_piece(sheet, &input[..count], &out[..used]);
@@ -114,11 +134,15 @@ fn take_input(
     input: &mut [u8],
     line: &mut [u8],
     out: &mut [u8],
+    rows: &mut [StateSet],
+    steps: &mut [u16],
+    sets: &mut [StateSet; POSITIONS],
 ) -> Turn
-    requires { ⌜ Ready m (now list) (now targets) kinds ⌝ }
+    requires { ⌜ Ready m (now list) (now targets) kinds × Working m (now targets) kinds (now rows) (now steps) (now sets) ⌝ }
     requires { ⌜ ReadFrom (now sheet) m (now list) ⌝ }
     requires { ⌜ Buffers (now input) (now line) (now out) (record { kept = 0; words = 0 }) ⌝ }
     ensures { λ r. ⌜ HeldAfter (now (line .exit)) (r .held) × (r .held .kept ≤ mostKept) × (done r ≡ true) ⌝ }
+    ensures { λ r. ⌜ Working m (now (targets .entry)) kinds (now (rows .exit)) (now (steps .exit)) (now (sets .exit)) ⌝ }
 {
     let mut t = Turn {
         held: stream::begin(),
@@ -127,7 +151,20 @@ fn take_input(
     };
     let mut turns = u64::MAX;
     while 0 < turns {
-        t = list_piece(sheet, m, list, targets, kinds, input, line, out, t);
+        t = list_piece(
+            sheet,
+            m,
+            list,
+            targets,
+            kinds,
+            input,
+            line,
+            out,
+            t,
+            rows,
+            steps,
+            sets,
+        );
         if is_done(t) {
             return t;
         }
@@ -151,8 +188,11 @@ fn end_input(
     line: &[u8],
     out: &mut [u8],
     t: Turn,
+    rows: &mut [StateSet],
+    steps: &mut [u16],
+    sets: &mut [StateSet; POSITIONS],
 )
-    requires { ⌜ Ready m (now list) (now targets) kinds ⌝ }
+    requires { ⌜ Ready m (now list) (now targets) kinds × Working m (now targets) kinds (now rows) (now steps) (now sets) ⌝ }
     requires { ⌜ ReadFrom (now sheet) m (now list) ⌝ }
     requires { ⌜ HeldAfter (now line) (t .held) × (t .held .kept ≤ length (now line)) × (16 ≤ length (now out)) × (done t ≡ true) ⌝ }
 {
@@ -160,7 +200,7 @@ fn end_input(
         return;
     }
     let held = t.held;
-    let used = stream::finish(m, list, targets, kinds, line, out, held);
+    let used = stream::finish(m, list, targets, kinds, line, out, held, rows, steps, sets);
     write_end(sheet, line, t, &out[..used]);
 }
 
@@ -179,8 +219,35 @@ fn list_words(
 {
     let mut input = io::buffer();
     let mut line = line_buffer();
-    let t = take_input(sheet, m, list, targets, kinds, &mut input, &mut line, out);
-    end_input(sheet, m, list, targets, kinds, &line, out, t);
+    let mut rows = row_buffer();
+    let mut steps = step_buffer();
+    let mut sets = set_buffer();
+    let t = take_input(
+        sheet,
+        m,
+        list,
+        targets,
+        kinds,
+        &mut input,
+        &mut line,
+        out,
+        &mut rows,
+        &mut steps,
+        &mut sets,
+    );
+    end_input(
+        sheet,
+        m,
+        list,
+        targets,
+        kinds,
+        &line,
+        out,
+        t,
+        &mut rows,
+        &mut steps,
+        &mut sets,
+    );
 }
 
 // Room for a line and one byte more.
@@ -202,6 +269,29 @@ fn target_buffer() -> [StateSet; MOST_SETS]
     ensures { λ r. ⌜ (16130 ≡ length r) × ((i : ℕ) → getD r i 0 ≡ 0) ⌝ }
 {
     [0; MOST_SETS]
+}
+
+// Room for rows of the subset construction, of which none is taken.
+fn row_buffer() -> [StateSet; ROWS]
+    ensures { λ r. ⌜ (1024 ≡ length r) × (getD r 0 0 ≡ 1) ⌝ }
+{
+    let mut rows: [StateSet; ROWS] = [0; ROWS];
+    rows[0] = 1;
+    rows
+}
+
+// Room for the steps of these rows, of which none is kept.
+fn step_buffer() -> [u16; STEPS]
+    ensures { λ r. ⌜ (32768 ≡ length r) × ((i : ℕ) → getD r i 0 ≡ 0) ⌝ }
+{
+    [0; STEPS]
+}
+
+// Room for the set of each position of a word.
+fn set_buffer() -> [StateSet; POSITIONS]
+    ensures { λ r. ⌜ (256 ≡ length r) × ((i : ℕ) → getD r i 0 ≡ 0) ⌝ }
+{
+    [0; POSITIONS]
 }
 
 // Prepares the table once, and lists the words of standard input over it.

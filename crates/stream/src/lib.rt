@@ -12,11 +12,12 @@ ghost use mathlib.Core.Bool.{true};
 ghost use lib.Dec.{leb};
 ghost use lib.ListN.{length, take};
 ghost use Rattle.basics.specs.Lists.{put};
-ghost use Rattle.accepts.specs.Ready.{Ready};
+ghost use Rattle.accepts.specs.Ready.{Ready, Working};
 ghost use Rattle.sheet.specs.Reading.{readList};
 ghost use Rattle.stream.specs.Listing.{wordLine, header, refusedSheet, mostWords};
 ghost use Rattle.stream.specs.Pieces.{mostKept, opening, endPrints};
 ghost use Rattle.stream.specs.Calls.{pendingOf, ended, openAnswer, Lent, ByteKept, ByteTaken, PieceTaken};
+use fsbm::limits::POSITIONS;
 use fsbm::machine::Machine;
 use images::Kinds;
 use stateset::StateSet;
@@ -124,15 +125,19 @@ fn end_line(
     line: &[u8],
     out: &mut [u8],
     p: Taken,
+    rows: &mut [StateSet],
+    steps: &mut [u16],
+    sets: &mut [StateSet; POSITIONS],
 ) -> Taken
-    requires { ⌜ Ready m (now list) (now targets) kinds ⌝ }
+    requires { ⌜ Ready m (now list) (now targets) kinds × Working m (now targets) kinds (now rows) (now steps) (now sets) ⌝ }
     requires { ⌜ (p .held .kept ≤ length (now line)) × (p .held .words < mostWords) × (p .used + 16 ≤ length (now out)) ⌝ }
     ensures { λ r. ⌜ (r ≡ ended p) × (now (out .exit) ≡ put (p .used) (now (out .entry)) (wordLine m (now (list .entry)) (p .held .words + 1) (take (p .held .kept) (now (line .entry))))) ⌝ }
+    ensures { λ r. ⌜ Working m (now (targets .entry)) kinds (now (rows .exit)) (now (steps .exit)) (now (sets .exit)) ⌝ }
 {
     let kept = p.held.kept;
     let words = p.held.words + 1;
     let used = p.used;
-    let answer = lines::answer_line(m, list, targets, kinds, &line[..kept]);
+    let answer = lines::answer_line(m, list, targets, kinds, &line[..kept], rows, steps, sets);
     lines::write_line(out, used, words, answer);
     Taken {
         held: Held { kept: 0, words },
@@ -162,16 +167,20 @@ fn take_byte(
     line: &mut [u8],
     out: &mut [u8],
     p: Taken,
+    rows: &mut [StateSet],
+    steps: &mut [u16],
+    sets: &mut [StateSet; POSITIONS],
 ) -> Taken
-    requires { ⌜ Ready m (now list) (now targets) kinds ⌝ }
+    requires { ⌜ Ready m (now list) (now targets) kinds × Working m (now targets) kinds (now rows) (now steps) (now sets) ⌝ }
     requires { ⌜ Lent (now line) (now out) p ⌝ }
     ensures { λ r. ⌜ ByteTaken m (now (list .entry)) b p (now (line .entry)) (now (out .entry)) r (now (line .exit)) (now (out .exit)) ⌝ }
+    ensures { λ r. ⌜ Working m (now (targets .entry)) kinds (now (rows .exit)) (now (steps .exit)) (now (sets .exit)) ⌝ }
 {
     if MOST_WORDS <= p.held.words {
         return p;
     }
     if b == 10 {
-        return end_line(m, list, targets, kinds, line, out, p);
+        return end_line(m, list, targets, kinds, line, out, p, rows, steps, sets);
     }
     let kept = keep(line, p.held.kept, b);
     let words = p.held.words;
@@ -183,7 +192,8 @@ fn take_byte(
 
 // Takes a piece of the input: prints its words from the front of out on, 16 bytes each, and keeps in the line buffer what has come
 // of the last line. A line's refusals are those of lines::answer_line. The line buffer has 1,276 bytes, the output 16 for each byte of
-// the piece; what the line buffer holds past the bytes kept is left open.
+// the piece; what the line buffer holds past the bytes kept is left open. The other three are what is lent from word to word
+// (accepts::prepared::accepts_next).
 // Time: the piece once, and the time of the words' decisions. Memory: none but what is lent.
 pub fn take_piece(
     m: Machine,
@@ -194,15 +204,31 @@ pub fn take_piece(
     line: &mut [u8],
     out: &mut [u8],
     held: Held,
+    rows: &mut [StateSet],
+    steps: &mut [u16],
+    sets: &mut [StateSet; POSITIONS],
 ) -> Taken
-    requires { ⌜ Ready m (now list) (now targets) kinds ⌝ }
+    requires { ⌜ Ready m (now list) (now targets) kinds × Working m (now targets) kinds (now rows) (now steps) (now sets) ⌝ }
     requires { ⌜ (length (now line) ≡ mostKept) × (held .kept ≤ mostKept) × (16 * length (now piece) ≤ length (now out)) ⌝ }
     ensures { λ r. ⌜ PieceTaken m (now (list .entry)) (now (piece .entry)) held (now (line .entry)) (now (out .entry)) r (now (line .exit)) (now (out .exit)) ⌝ }
+    ensures { λ r. ⌜ Working m (now (targets .entry)) kinds (now (rows .exit)) (now (steps .exit)) (now (sets .exit)) ⌝ }
 {
     let mut p = Taken { held, used: 0 };
     let mut i: usize = 0;
     while i < piece.len() {
-        p = take_byte(m, list, targets, kinds, piece[i], line, out, p);
+        p = take_byte(
+            m,
+            list,
+            targets,
+            kinds,
+            piece[i],
+            line,
+            out,
+            p,
+            rows,
+            steps,
+            sets,
+        );
         i += 1;
     }
     p
@@ -218,8 +244,11 @@ pub fn finish(
     line: &[u8],
     out: &mut [u8],
     held: Held,
+    rows: &mut [StateSet],
+    steps: &mut [u16],
+    sets: &mut [StateSet; POSITIONS],
 ) -> usize
-    requires { ⌜ Ready m (now list) (now targets) kinds ⌝ }
+    requires { ⌜ Ready m (now list) (now targets) kinds × Working m (now targets) kinds (now rows) (now steps) (now sets) ⌝ }
     requires { ⌜ (held .kept ≤ length (now line)) × (16 ≤ length (now out)) ⌝ }
     ensures { λ r. ⌜ (r ≡ length (endPrints m (now (list .entry)) (pendingOf (now (line .entry)) held))) × (now (out .exit) ≡ put 0 (now (out .entry)) (endPrints m (now (list .entry)) (pendingOf (now (line .entry)) held))) ⌝ }
 {
@@ -229,6 +258,7 @@ pub fn finish(
     if held.kept == 0 {
         return 0;
     }
-    let last = end_line(m, list, targets, kinds, line, out, Taken { held, used: 0 });
+    let p = Taken { held, used: 0 };
+    let last = end_line(m, list, targets, kinds, line, out, p, rows, steps, sets);
     last.used
 }

@@ -8,53 +8,37 @@ use Rattle.subsets.specs.Rows.Laws.{begun-from}
 use borrow.Author.Needs.{needs}
 use Rattle.subsets.proofs.begun.Statement.{statement}
 use Rattle.subsets.proofs.begun.Tie as tie
-use Rattle.subsets.proofs.begun.Reads as reads
-use Rattle.subsets.proofs.begun.Lts as lts
-use Rattle.images.proofs.close_position.Reads as close-position-reads
-use Rattle.images.proofs.close_set.Reads as close-set-reads
-use Rattle.stateset.proofs.intersection.Reads as intersection-reads
 
--- src/lib.rt:209:25
 enum-told : tie.Need-enum-told
 enum-told c = search needs
 
--- src/lib.rt:209:25
 close-position-requires : tie.Need-close-position-requires
 close-position-requires c κs = search needs
 
--- src/lib.rt:215:13
 enum-told-2 : tie.Need-enum-told-2
 enum-told-2 c = search needs
 
--- src/lib.rt:216:13
 intersection-requires : tie.Need-intersection-requires
 intersection-requires c κs = search needs
 
--- src/lib.rt:210:28
 close-set-requires : tie.Need-close-set-requires
 close-set-requires c κs = search needs
 
--- src/lib.rt:223:13
 enum-told-3 : tie.Need-enum-told-3
 enum-told-3 c = search needs
 
--- src/lib.rt:224:13
 intersection-requires-2 : tie.Need-intersection-requires-2
 intersection-requires-2 c κs = search needs
 
--- src/lib.rt:218:27
 close-set-requires-2 : tie.Need-close-set-requires-2
 close-set-requires-2 c κs = search needs
 
--- src/lib.rt:204:1
 returns : tie.Need-returns
 returns c = subst (λ (T : Mode). Members ((c) .close-position .result) (From ((c .before .before .before .before) .args .set) (Begun (graph (((c .before .before .before .before) .args .targets) .now) ((c .before .before .before .before) .args .t .states) ((c .before .before .before .before) .args .t .g) ((c .before .before .before .before) .args .t .h)) T))) (sym ((c .before) .enum-told .given .1)) ((c) .close-position .ensures)
 
--- src/lib.rt:204:1
 returns-2 : tie.Need-returns-2
 returns-2 c = subst (λ (T : Mode). Members ((c) .close-set .result) (From ((c .before .before .before .before .before) .args .set) (Begun (graph (((c .before .before .before .before .before) .args .targets) .now) ((c .before .before .before .before .before) .args .t .states) ((c .before .before .before .before .before) .args .t .g) ((c .before .before .before .before .before) .args .t .h)) T))) (sym ((c .before .before) .enum-told2 .given .1)) (begun-from ((c .before .before .before .before .before) .args .set) ((c .before .before .before .before .before) .args .t .g) _ ((c) .close-set .result) (Free (graph (((c .before .before .before .before .before) .args .targets) .now) ((c .before .before .before .before .before) .args .t .states) ((c .before .before .before .before .before) .args .t .g) ((c .before .before .before .before .before) .args .t .h)) Buffering) (members-is ((c .before) .intersection .ensures)) ((c) .close-set .ensures))
 
--- src/lib.rt:204:1
 returns-3 : tie.Need-returns-3
 returns-3 c = subst (λ (T : Mode). Members ((c) .close-set2 .result) (From ((c .before .before .before .before .before) .args .set) (Begun (graph (((c .before .before .before .before .before) .args .targets) .now) ((c .before .before .before .before .before) .args .t .states) ((c .before .before .before .before .before) .args .t .g) ((c .before .before .before .before .before) .args .t .h)) T))) (sym ((c .before .before) .enum-told3 .given .1)) (begun-from ((c .before .before .before .before .before) .args .set) ((c .before .before .before .before .before) .args .t .h) _ ((c) .close-set2 .result) (Free (graph (((c .before .before .before .before .before) .args .targets) .now) ((c .before .before .before .before .before) .args .t .states) ((c .before .before .before .before .before) .args .t .g) ((c .before .before .before .before .before) .args .t .h)) Emptying) (members-is ((c .before) .intersection2 .ensures)) ((c) .close-set2 .ensures))
 

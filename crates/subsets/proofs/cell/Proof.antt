@@ -5,35 +5,25 @@ use Rattle.subsets.specs.Rows.Laws.{cell-small}
 use borrow.Author.Needs.{needs}
 use Rattle.subsets.proofs.cell.Statement.{statement}
 use Rattle.subsets.proofs.cell.Tie as tie
-use Rattle.subsets.proofs.cell.Reads as reads
-use Rattle.subsets.proofs.cell.Lts as lts
-use Rattle.subsets.proofs.index_of.Reads as index-of-reads
 
--- src/lib.rt:65:14
 mul-result : tie.Need-mul-result
 mul-result c = search needs
 
--- src/lib.rt:65:24
 index-of-requires : tie.Need-index-of-requires
 index-of-requires c κs = search needs
 
--- src/lib.rt:65:14
 add-result : tie.Need-add-result
 add-result c = search needs
 
--- src/lib.rt:65:13
 mul-result-2 : tie.Need-mul-result-2
 mul-result-2 c = record { fits = omega (arith, cell-small ((c .before) .args .row * 3 + (c) .index-of .result) ((c .before) .args .columns) (omega (arith, (c) .index-of .ensures .1, (c .before) .pre .1)) ((c .before) .pre .0)) }
 
--- src/lib.rt:65:5
 add-result-2 : tie.Need-add-result-2
 add-result-2 c = omega (arith, cell-small ((c .before) .args .row * 3 + (c) .index-of .result) ((c .before) .args .columns) (omega (arith, (c) .index-of .ensures .1, (c .before) .pre .1)) ((c .before) .pre .0))
 
--- src/lib.rt:65:5
 add-result-3 : tie.Need-add-result-3
 add-result-3 c = omega (arith, cell-small ((c .before) .args .row * 3 + (c) .index-of .result) ((c .before) .args .columns) (omega (arith, (c) .index-of .ensures .1, (c .before) .pre .1)) ((c .before) .pre .0), (c .before) .pre .2, (c .before) .pre .0)
 
--- src/lib.rt:61:1
 returns : tie.Need-returns
 returns c = ap (λ (z : ℕ). 1021 + ((c .before) .args .row * 3 + z) * (c .before) .args .columns + (c .before) .args .column) ((c) .index-of .ensures .0)
 

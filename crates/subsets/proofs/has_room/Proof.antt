@@ -6,34 +6,25 @@ use Rattle.subsets.specs.Rows.Laws.{cell-small}
 use borrow.Author.Needs.{needs}
 use Rattle.subsets.proofs.has_room.Statement.{statement}
 use Rattle.subsets.proofs.has_room.Tie as tie
-use Rattle.subsets.proofs.has_room.Reads as reads
-use Rattle.subsets.proofs.has_room.Lts as lts
 
--- src/lib.rt:110:9
 returns : tie.Need-returns
 returns c = λ (e : false ≡ true). absurd (false≢true e)
 
--- src/lib.rt:113:9
 returns-2 : tie.Need-returns-2
 returns-2 c = λ (e : false ≡ true). absurd (false≢true e)
 
--- src/lib.rt:115:14
 mul-result : tie.Need-mul-result
 mul-result c = search needs
 
--- src/lib.rt:115:14
 add-result : tie.Need-add-result
 add-result c = search needs
 
--- src/lib.rt:115:13
 mul-result-2 : tie.Need-mul-result-2
 mul-result-2 c = record { fits = omega (arith, cell-small ((c .before .before) .args .taken * 3 + 3) ((c .before .before) .args .columns) (omega (arith, (c) .if2 .left)) ((c .before .before) .pre .0)) }
 
--- src/lib.rt:115:5
 add-result-2 : tie.Need-add-result-2
 add-result-2 c = omega (arith, cell-small ((c .before .before) .args .taken * 3 + 3) ((c .before .before) .args .columns) (omega (arith, (c) .if2 .left)) ((c .before .before) .pre .0))
 
--- src/lib.rt:105:1
 returns-3 : tie.Need-returns-3
 returns-3 c = search needs
 

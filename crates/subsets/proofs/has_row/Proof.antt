@@ -5,30 +5,22 @@ use borrow.Author.Tests.{eqb-true}
 use borrow.Author.Needs.{needs}
 use Rattle.subsets.proofs.has_row.Statement.{statement}
 use Rattle.subsets.proofs.has_row.Tie as tie
-use Rattle.subsets.proofs.has_row.Reads as reads
-use Rattle.subsets.proofs.has_row.Lts as lts
 
--- src/lib.rt:75:9
 returns : tie.Need-returns
 returns c = λ (e : false ≡ true). absurd (false≢true e)
 
--- src/lib.rt:77:8
 shared-slice-read-if2 : tie.Need-shared-slice-read-if2
 shared-slice-read-if2 c = search needs
 
--- src/lib.rt:78:9
 returns-2 : tie.Need-returns-2
 returns-2 c = λ (e : false ≡ true). absurd (false≢true e)
 
--- src/lib.rt:80:5
 mul-result : tie.Need-mul-result
 mul-result c = search needs
 
--- src/lib.rt:80:5
 shared-slice-read-result : tie.Need-shared-slice-read-result
 shared-slice-read-result c = search needs
 
--- src/lib.rt:69:1
 returns-3 : tie.Need-returns-3
 returns-3 c = λ e. record { some = omega (arith, (c .before .before .before .before) .if1 .left); taken = omega (arith, (c .before .before) .if2 .left); own = eqb-true _ _ e }
 

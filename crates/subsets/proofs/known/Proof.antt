@@ -1,4 +1,4 @@
-use mathlib.Core.Path.{refl, sym, _∙_, ap}
+use mathlib.Core.Path.{refl, ap}
 use mathlib.Core.Logic.{inl}
 use native.Mathlib.Omega.{arith}
 use borrow.Author.Tests.{not-false}
@@ -8,40 +8,28 @@ use Rattle.subsets.specs.Rows.Laws.{cell-inside, found-or}
 use borrow.Author.Needs.{needs}
 use Rattle.subsets.proofs.known.Statement.{statement}
 use Rattle.subsets.proofs.known.Tie as tie
-use Rattle.subsets.proofs.known.Reads as reads
-use Rattle.subsets.proofs.known.Lts as lts
-use Rattle.subsets.proofs.cell.Reads as cell-reads
-use Rattle.subsets.proofs.has_row.Reads as has-row-reads
 
--- src/lib.rt:96:9
 returns : tie.Need-returns
 returns c = inl refl
 
--- src/lib.rt:98:9
 has-row-requires : tie.Need-has-row-requires
 has-row-requires c κs = search needs
 
--- src/lib.rt:99:9
 returns-2 : tie.Need-returns-2
 returns-2 c = inl refl
 
--- src/lib.rt:101:11
 cell-requires : tie.Need-cell-requires
 cell-requires c κs = let own = (c .before) .has-row .ensures (not-false _ ((c) .if2 .left)) in ((c .before .before .before .before .before) .pre .few, omega (arith, own .taken, (c .before .before .before .before .before) .pre .numbered), (c .before .before) .if1 .left)
 
--- src/lib.rt:101:5
 mul-result : tie.Need-mul-result
 mul-result c = let own = (c .before .before) .has-row .ensures (not-false _ ((c .before) .if2 .left)) in record { fits = omega (arith, cell-inside ((c .before .before .before .before .before .before) .args .columns) (((c .before .before .before .before .before .before) .args .rows) .now) (((c .before .before .before .before .before .before) .args .steps) .now) ((c .before .before .before .before .before .before) .args .from .row) ((c .before .before .before .before .before .before) .args .mode) ((c .before .before .before .before .before .before) .args .column) ((c .before .before .before .before .before .before) .pre) ((c .before .before .before) .if1 .left) (own .some) (own .taken), (c) .cell .ensures, (c .before .before .before .before .before .before) .good) }
 
--- src/lib.rt:101:5
 shared-slice-read-result : tie.Need-shared-slice-read-result
 shared-slice-read-result c = let own = (c .before .before .before) .has-row .ensures (not-false _ ((c .before .before) .if2 .left)) in omega (arith, cell-inside ((c .before .before .before .before .before .before .before) .args .columns) (((c .before .before .before .before .before .before .before) .args .rows) .now) (((c .before .before .before .before .before .before .before) .args .steps) .now) ((c .before .before .before .before .before .before .before) .args .from .row) ((c .before .before .before .before .before .before .before) .args .mode) ((c .before .before .before .before .before .before .before) .args .column) ((c .before .before .before .before .before .before .before) .pre) ((c .before .before .before .before) .if1 .left) (own .some) (own .taken), (c .before) .cell .ensures)
 
--- src/lib.rt:101:5
 cast-result : tie.Need-cast-result
 cast-result c = omega (arith, (c) .shared-slice-known3 .given ((c .before) .cell .result))
 
--- src/lib.rt:84:1
 returns-3 : tie.Need-returns-3
 returns-3 c = found-or ((c .before .before .before .before .before .before .before) .args .columns) (((c .before .before .before .before .before .before .before) .args .rows) .now) (((c .before .before .before .before .before .before .before) .args .steps) .now) ((c .before .before .before .before .before .before .before) .args .mode) ((c .before .before .before .before .before .before .before) .args .column) ((c .before .before .before .before .before .before .before) .args .from .set) ((c .before .before .before .before .before .before .before) .args .from .row) _ ((c .before .before .before .before) .if1 .left) ((c .before .before .before) .has-row .ensures (not-false _ ((c .before .before) .if2 .left))) (ap (λ (z : ℕ). getD (((c .before .before .before .before .before .before .before) .args .steps) .now) z 0) ((c .before) .cell .ensures))
 

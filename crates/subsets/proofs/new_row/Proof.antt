@@ -6,63 +6,46 @@ use Rattle.subsets.specs.Rows.Laws.{row-made, row-same}
 use borrow.Author.Needs.{needs}
 use Rattle.subsets.proofs.new_row.Statement.{statement}
 use Rattle.subsets.proofs.new_row.Tie as tie
-use Rattle.subsets.proofs.new_row.Reads as reads
-use Rattle.subsets.proofs.new_row.Lts as lts
-use Rattle.subsets.proofs.has_room.Reads as has-room-reads
 
--- src/lib.rt:129:17
 slice-read-taken : tie.Need-slice-read-taken
 slice-read-taken c = search needs
 
--- src/lib.rt:131:9
 returns : tie.Need-returns
 returns c = row-same ((c .before .before .before .before) .args .columns) (((c .before .before .before .before) .args .rows) .now) (((c .before .before .before .before) .args .steps) .now) ((c .before .before .before .before) .args .set) 0 ((c .before .before .before .before) .pre .0) (inl refl)
 
--- src/lib.rt:133:9
 has-room-requires : tie.Need-has-room-requires
 has-room-requires c κs = search needs
 
--- src/lib.rt:134:9
 returns-2 : tie.Need-returns-2
 returns-2 c = row-same ((c .before .before .before .before .before .before) .args .columns) (((c .before .before .before .before .before .before) .args .rows) .now) (((c .before .before .before .before .before .before) .args .steps) .now) ((c .before .before .before .before .before .before) .args .set) 0 ((c .before .before .before .before .before .before) .pre .0) (inl refl)
 
--- src/lib.rt:136:5
 mul-rows : tie.Need-mul-rows
 mul-rows c = search needs
 
--- src/lib.rt:136:5
 slice-write-rows : tie.Need-slice-write-rows
 slice-write-rows c = omega (arith, (c .before) .has-room .ensures (not-false _ ((c) .if2 .left)) .0)
 
--- src/lib.rt:137:16
 add-rows : tie.Need-add-rows
 add-rows c = search needs
 
--- src/lib.rt:137:5
 slice-write-rows-2 : tie.Need-slice-write-rows-2
 slice-write-rows-2 c = search needs
 
--- src/lib.rt:138:19
 cast-steps : tie.Need-cast-steps
 cast-steps c = search needs
 
--- src/lib.rt:138:5
 mul-steps : tie.Need-mul-steps
 mul-steps c = search needs
 
--- src/lib.rt:138:5
 slice-write-steps : tie.Need-slice-write-steps
 slice-write-steps c = search needs
 
--- src/lib.rt:119:1
 same-length : tie.Need-same-length
 same-length c = search needs
 
--- src/lib.rt:119:1
 same-length-2 : tie.Need-same-length-2
 same-length-2 c = search needs
 
--- src/lib.rt:119:1
 returns-3 : tie.Need-returns-3
 returns-3 c = let (free, few, room) = (c .before) .has-room .ensures (not-false _ ((c) .if2 .left)) in row-made ((c .before .before .before .before .before .before) .args .columns) (((c .before .before .before .before .before .before) .args .rows) .now) (((c .before .before .before .before .before .before) .args .steps) .now) ((c .before .before .before .before .before .before) .args .set) ((c .before .before .before .before .before .before) .args .slot) ((c .before .before .before .before .before .before) .pre .0) ((c .before .before .before .before .before .before) .pre .1) _ refl (omega (arith, (c .before .before) .if1 .left)) free few room
 

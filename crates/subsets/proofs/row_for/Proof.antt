@@ -6,52 +6,37 @@ use Rattle.subsets.specs.Rows.Laws.{row-same}
 use borrow.Author.Needs.{needs}
 use Rattle.subsets.proofs.row_for.Statement.{statement}
 use Rattle.subsets.proofs.row_for.Tie as tie
-use Rattle.subsets.proofs.row_for.Reads as reads
-use Rattle.subsets.proofs.row_for.Lts as lts
-use Rattle.subsets.proofs.has_row.Reads as has-row-reads
-use Rattle.subsets.proofs.new_row.Reads as new-row-reads
 
--- src/lib.rt:149:9
 returns : tie.Need-returns
 returns c = row-same ((c .before .before .before) .args .columns) (((c .before .before .before) .args .rows) .now) (((c .before .before .before) .args .steps) .now) ((c .before .before .before) .args .set) 0 ((c .before .before .before) .pre) (inl refl)
 
--- src/lib.rt:151:15
 mul-row : tie.Need-mul-row
 mul-row c = search needs
 
--- src/lib.rt:151:15
 slice-read-row : tie.Need-slice-read-row
 slice-read-row c = search needs
 
--- src/lib.rt:151:15
 cast-row : tie.Need-cast-row
 cast-row c = omega (arith, (c) .slice-known3 .given ((c .before .before .before .before) .args .set % 1021))
 
--- src/lib.rt:152:8
 has-row-requires : tie.Need-has-row-requires
 has-row-requires c κs = search needs
 
--- src/lib.rt:153:9
 same-length : tie.Need-same-length
 same-length c = search needs
 
--- src/lib.rt:153:9
 returns-2 : tie.Need-returns-2
 returns-2 c = row-same ((c .before .before .before .before .before .before .before) .args .columns) (((c .before .before .before .before .before .before .before) .args .rows) .now) (((c .before .before .before .before .before .before .before) .args .steps) .now) ((c .before .before .before .before .before .before .before) .args .set) _ ((c .before .before .before .before .before .before .before) .pre) (inr ((c .before) .has-row .ensures ((c) .if2 .taken)))
 
--- src/lib.rt:155:5
 new-row-requires : tie.Need-new-row-requires
 new-row-requires c κs = search needs
 
--- src/lib.rt:143:1
 same-length-2 : tie.Need-same-length-2
 same-length-2 c = search needs
 
--- src/lib.rt:143:1
 same-length-3 : tie.Need-same-length-3
 same-length-3 c = search needs
 
--- src/lib.rt:143:1
 returns-3 : tie.Need-returns-3
 returns-3 c = search needs
 

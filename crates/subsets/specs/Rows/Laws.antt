@@ -4,14 +4,14 @@
 -- row-taken        == a step that is found leads to a row that is taken
 -- found-right      == and to the right set
 -- row-made, row-same == one row more, or none
--- step-noted, not-noted == one step more, or none
+-- step-noted       == one step more
 -- kept-start       == nothing is kept
 -- begun-image, reads-image == what columns stand for, and image-begun, image-reads, the way back
 -- begun-from, from-begun == the states where a mode begins, as a set
 -- reads-normal, normal-reads == reading in normal mode
--- found-or         == what known answers
+-- found-or, found-some, has-some == what known answers, and what is there where it is not 0
 -- cell-small       == the products that say where a cell stands are small
-use Prim.Native.Nat.{ℕ, zero, suc, _+_, _*_, _≤_, _<_}
+use Prim.Native.Nat.{ℕ, suc, _+_, _*_, _≤_, _<_}
 use mathlib.Core.Path.{_≡_, refl, sym, _∙_, ap, subst}
 use mathlib.Core.Logic.{_⊎_, inl, inr}
 use mathlib.Core.List.{List}
@@ -24,7 +24,7 @@ use Rattle.basics.specs.Pairs.{pair-below, pair-same}
 use Rattle.stateset.specs.Set.{In}
 use Rattle.fsbm.specs.declared.config.Mode.{Mode}
 use Rattle.fsbm.specs.declared.config.Mode.the-variants.{Normal, Buffering, Emptying}
-use Rattle.images.specs.Graph.{Members, From, Graph, Edge, Free, Advance}
+use Rattle.images.specs.Graph.{Members, From, Graph}
 use Rattle.images.proofs.SetCases.{members-as}
 use Rattle.subsets.specs.Rows.{slots, mostColumns, modeIndex, cellOf, Begun, Reads, Image, begun, reads, HasRow, Leads, Sized, Right, Kept, Found, Rowed, Noted}
 
@@ -213,9 +213,6 @@ module _ (columns : ℕ) (rows steps : List ℕ) (T : Mode) (c s row to torow : 
       rightly G right m r U d ld p (no n) =
           let e = other (cellOf columns r U d) n in
           subst (λ (k : ℕ). Members (getD rows k 0) (From (getD rows r 0) (Image G U d))) (sym e) (right r U d ld (omega arith))
-
-pub not-noted : (columns : ℕ) (rows steps : List ℕ) (T : Mode) (c s to : ℕ) → Sized columns rows steps → Noted columns rows steps steps T c s to
-not-noted columns rows steps T c s to z = record { sized = z; right = λ G right m. right }
 
 -- nothing is kept
 

@@ -1,11 +1,8 @@
-use Prim.Native.Nat.{_+_}
 use mathlib.Core.Path.{refl}
 use native.Mathlib.Omega.{arith}
 use lib.ListN.{replicate, set}
 use Rattle.basics.specs.Lists.Laws.{zeros-at}
-use Rattle.fsbm.specs.Rules.{rules}
-use Rattle.images.specs.Graph.{graph}
-use Rattle.subsets.specs.Rows.Laws.{kept-start}
+use Rattle.accepts.specs.Ready.Laws.{working-start}
 use borrow.Author.Needs.{needs}
 use Rattle.accepts.proofs.words.answer_prepared.Statement.{statement}
 use Rattle.accepts.proofs.words.answer_prepared.Tie as tie
@@ -20,7 +17,7 @@ slice-aggregate-answer-each-2 : tie.Need-slice-aggregate-answer-each-2
 slice-aggregate-answer-each-2 c = search needs
 
 answer-each-requires : tie.Need-answer-each-requires
-answer-each-requires c κs = ((c .before .before .before .before .before .before .before .before .before) .pre .0, record { kept = kept-start (graph (((c .before .before .before .before .before .before .before .before .before) .args .targets) .now) ((c .before .before .before .before .before .before .before .before .before) .args .m .states) ((c .before .before .before .before .before .before .before .before .before) .args .kinds .buffering) ((c .before .before .before .before .before .before .before .before .before) .args .kinds .matching)) ((c .before .before .before .before .before .before .before .before .before) .args .m .letters + 2) (set (replicate 1024 0) 0 1) (replicate 32768 0) (let l = rules ((c .before .before .before .before .before .before .before .before .before) .args .m) (((c .before .before .before .before .before .before .before .before .before) .args .list) .now) ((c .before .before .before .before .before .before .before .before .before) .pre .0 .good) .letters-fit in omega (arith, l)) (omega arith) refl (zeros-at 32768); empty = record { size = refl; each = zeros-at 256 } }, (c .before .before .before .before .before .before .before .before .before) .pre .1, (c .before .before .before .before .before .before .before .before .before) .pre .2)
+answer-each-requires c κs = ((c .before .before .before .before .before .before .before .before .before) .pre .0, working-start ((c .before .before .before .before .before .before .before .before .before) .args .m) (((c .before .before .before .before .before .before .before .before .before) .args .list) .now) (((c .before .before .before .before .before .before .before .before .before) .args .targets) .now) ((c .before .before .before .before .before .before .before .before .before) .args .kinds) (set (replicate 1024 0) 0 1) (replicate 32768 0) (replicate 256 0) ((c .before .before .before .before .before .before .before .before .before) .pre .0 .good) (omega arith) refl (zeros-at 32768) refl (zeros-at 256), (c .before .before .before .before .before .before .before .before .before) .pre .1, (c .before .before .before .before .before .before .before .before .before) .pre .2)
 
 same-length : tie.Need-same-length
 same-length c = search needs

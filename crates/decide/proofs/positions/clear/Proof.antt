@@ -4,7 +4,6 @@ use native.Mathlib.Omega.{arith}
 use lib.ListN.{length, getD, length-set}
 use lib.Seq.{getD-set-other}
 use Rattle.basics.specs.Lists.Laws.{set-next}
-use borrow.Author.Needs.{needs}
 use Rattle.decide.proofs.positions.clear.Statement.{statement}
 use Rattle.decide.proofs.positions.clear.Tie as tie
 

@@ -1,6 +1,5 @@
-use Prim.Native.Nat.{ℕ, _+_, _≤_}
-use mathlib.Core.Path.{_≡_, refl, sym, _∙_, subst}
-use native.Mathlib.Omega.{arith}
+use Prim.Native.Nat.{_+_, _≤_}
+use mathlib.Core.Path.{sym, subst}
 use lib.ListN.{length}
 use Rattle.fsbm.specs.Rules.{rules}
 use Rattle.images.specs.Graph.{graph, Good, Fitting}

@@ -8,7 +8,6 @@ use Rattle.decide.specs.Reach.{Rooms, Stage}
 use Rattle.decide.specs.Squares.{RepeatEnds}
 use Rattle.decide.proofs.StageCases.{stage-turn, stage-to}
 use Rattle.decide.proofs.SquareCases.{ends-start, ends-later}
-use borrow.Author.Needs.{needs}
 use Rattle.decide.proofs.positions.reach_all.Statement.{statement}
 use Rattle.decide.proofs.positions.reach_all.Tie as tie
 

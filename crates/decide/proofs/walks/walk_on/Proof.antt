@@ -7,7 +7,6 @@ use Rattle.images.specs.Graph.{Members, From, graph, Good}
 use Rattle.subsets.specs.Rows.{Kept}
 use Rattle.decide.specs.Reach.{Rooms, Walk}
 use Rattle.decide.proofs.CopyCases.{walks-turn, walks-dead, walks-to}
-use borrow.Author.Needs.{needs}
 use Rattle.decide.proofs.walks.walk_on.Statement.{statement}
 use Rattle.decide.proofs.walks.walk_on.Tie as tie
 
