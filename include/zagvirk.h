@@ -37,13 +37,14 @@
 
 /* The stack, in bytes, of a thread that makes a call; no call uses a heap. Measured on x86-64 Linux and rounded up, not
  * proved: the least threads that ran the calls on the largest inputs had 464 KB (zagvirk_recognize), 220 KB
- * (zagvirk_common_word), 144 KB (zagvirk_accepts), 140 KB (zagvirk_accept_words), 80 KB (zagvirk_join) and for every
+ * (zagvirk_common_word), 208 KB (zagvirk_accept_words), 140 KB (zagvirk_accepts), 80 KB (zagvirk_join) and for every
  * other call 16 KB, the least that a thread may have there; these take below 1 KB themselves. What the caller's own
  * functions need comes on top.
  */
 #define ZAGVIRK_STACK_RECOGNIZE (480 * 1024)
 #define ZAGVIRK_STACK_COMMON_WORD (240 * 1024)
-#define ZAGVIRK_STACK_ACCEPTS (160 * 1024) /* zagvirk_accepts and zagvirk_accept_words */
+#define ZAGVIRK_STACK_ACCEPT_WORDS (224 * 1024)
+#define ZAGVIRK_STACK_ACCEPTS (160 * 1024)
 #define ZAGVIRK_STACK_JOIN (96 * 1024)
 #define ZAGVIRK_STACK_SMALL (16 * 1024) /* every other call */
 
@@ -270,7 +271,7 @@ typedef struct {
  *
  * Time: one pass over the machine and the word, then sets of states, at most word_len^2 / 2 of them for the answer; for
  * a run rows of fewest entries, at most word_len^2 / 2 of them too. Stack: ZAGVIRK_STACK_RECOGNIZE, of which a word
- * that is not accepted takes 144 KB.
+ * that is not accepted takes 140 KB.
  */
 zagvirk_recognized zagvirk_recognize(zagvirk_machine machine, const uint16_t *list, size_t list_len,
                                      const uint8_t *word, size_t word_len, uint16_t *run, size_t run_len);
@@ -311,7 +312,8 @@ zagvirk_decided zagvirk_accepts(zagvirk_machine machine, const uint16_t *list, s
  * than ends_len elements.
  *
  * Time: the machine is tested and prepared once, in proportion to it; then passes over the ends and the letters, and
- * for each word sets of states as in zagvirk_accepts. Stack: ZAGVIRK_STACK_ACCEPTS, whatever the number of words.
+ * for each word sets of states as in zagvirk_accepts; what a set of states leads to is found once and kept from
+ * word to word. Stack: ZAGVIRK_STACK_ACCEPT_WORDS, whatever the number of words.
  */
 zagvirk_words_answered zagvirk_accept_words(zagvirk_machine machine, const uint16_t *list, size_t list_len,
                                             const uint8_t *letters, size_t letters_len, const size_t *ends,

@@ -67,16 +67,20 @@ static void *recognize(void *wrong) {
   return NULL;
 }
 
-/* One word, and a list of words of 254 and 255 letters in turn with empty words behind them. */
 static void *accepts(void *wrong) {
-  size_t i;
-  zagvirk_words_answered answered;
   zagvirk_decided answer = zagvirk_accepts(largest, largest_list, 12000, word, 254);
   if (answer.refusal != 0 || answer.accepted != 1) *(int *)wrong = 12;
   answer = zagvirk_accepts(t, t_list, 18, word, 254);
   if (answer.refusal != 0 || answer.accepted != 1) *(int *)wrong = 12;
   answer = zagvirk_accepts(largest, largest_list, 12000, word, 255);
   if (answer.refusal != 0 || answer.accepted != 0) *(int *)wrong = 13;
+  return NULL;
+}
+
+/* A list of words of 254 and 255 letters in turn with empty words behind them. */
+static void *accept_words(void *wrong) {
+  size_t i;
+  zagvirk_words_answered answered;
   for (i = 0; i < LONG_PAIRS; i++) {
     memcpy(letters + 509 * i, word, 254);
     memcpy(letters + 509 * i + 254, word, 255);
@@ -137,11 +141,12 @@ typedef struct {
   size_t letters;
 } part;
 
-static part parts[6] = {
+static part parts[7] = {
     {small, ZAGVIRK_STACK_SMALL, LONGEST},
     {list_copies, ZAGVIRK_STACK_SMALL, 254},
     {join, ZAGVIRK_STACK_JOIN, 254},
     {accepts, ZAGVIRK_STACK_ACCEPTS, 254},
+    {accept_words, ZAGVIRK_STACK_ACCEPT_WORDS, 254},
     {common_word, ZAGVIRK_STACK_COMMON_WORD, 254},
     {recognize, ZAGVIRK_STACK_RECOGNIZE, 254},
 };
@@ -168,8 +173,8 @@ int main(void) {
   memset(written, 'z', sizeof written);
 
   /* From the least stack to the largest: a thread may be given the stack of one that has ended, if that is larger. */
-  qsort(parts, 6, sizeof parts[0], by_stack);
-  for (i = 0; i < 6; i++) {
+  qsort(parts, 7, sizeof parts[0], by_stack);
+  for (i = 0; i < 7; i++) {
     make_word(parts[i].letters);
     wrong = in_thread(parts[i].calls, parts[i].stack);
     if (wrong != 0) return wrong;
