@@ -7,6 +7,7 @@
 -- Reads G T x p q               == a letter's column: a move that reads x from p to q in normal mode; else with epsilon moves after it
 -- Image G T c p q               == the column c: one of these
 -- HasRow rows set r             == r is the number of a row, and that is the row of the set
+-- Leads rows r to               == r and to are numbers of rows that are taken
 -- Sized columns rows steps      == the rows that are taken have room, their steps lead to such rows, and other rows have no steps
 -- Right G columns rows steps    == each step that is kept leads to the set that its row's set leads to
 -- Kept G columns rows steps     == both

@@ -23,6 +23,9 @@ use stateset::StateSet;
 // The slots.
 const SLOTS: usize = 1021;
 
+// Their number as what a set is divided by: its slot is the remainder.
+const DIVISOR: u64 = 1021;
+
 // The most rows: their numbers have 16 bits.
 const MOST_ROWS: usize = 65535;
 
@@ -146,7 +149,7 @@ fn row_for(rows: &mut [StateSet], steps: &mut [u16], columns: usize, set: StateS
     requires { ⌜ Sized columns (now rows) (now steps) ⌝ }
     ensures { λ r. ⌜ Rowed columns (now (rows .entry)) (now (steps .entry)) (now (rows .exit)) (now (steps .exit)) set r ⌝ }
 {
-    let slot = (set % 1021) as usize;
+    let slot = (set % DIVISOR) as usize;
     if steps.len() <= slot {
         return 0;
     }
