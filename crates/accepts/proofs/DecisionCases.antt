@@ -1,4 +1,4 @@
--- The ways through accepts and accepts_prepared, over plain variables.
+-- The ways through accepts and accepts_next, over plain variables.
 --
 -- refused, decided == the answer to a word that is refused, and to one that is not
 -- says             == an answer that is right has the right number and values
