@@ -2,8 +2,8 @@
 
 use crate::measure::{best_of_both, least_within, REPETITIONS};
 use crate::plain_listing::{self, MOST_WORDS};
-use crate::recognize::{rate, words, Table};
-use crate::words::{rows, tables};
+use crate::recognize::{words, Table};
+use crate::words::{print_row, rows, tables};
 use std::fs::{self, File, OpenOptions};
 use std::path::{Path, PathBuf};
 use std::process::Command;
@@ -175,17 +175,11 @@ fn row(place: &Place, table: &Table, length: usize, kind: &str, empty: (f64, f64
     let count = enough(place, &words, empty);
     place.put(&lines(&words, count));
     let (proved, plain) = place.times();
-    let (proved, plain) = (proved - empty.0, plain - empty.1);
+    let times = (proved - empty.0, plain - empty.1);
     let listed = place.listed();
     assert_eq!(listed.len(), 16 * (count + 1));
     let answers = listed.chunks_exact(16).skip(1).take(words.len());
     let yes = answers.filter(|line| line[9] == b'1').count();
-    println!(
-        "| {} | {length} | {kind} | {yes}/{} | {count} | {} | {} | {:.2} |",
-        table.name,
-        words.len(),
-        rate(count as f64 / proved),
-        rate(count as f64 / plain),
-        proved / plain
-    );
+    let share = format!("{yes}/{}", words.len());
+    print_row(table, length, kind, &share, count, times);
 }

@@ -127,14 +127,27 @@ fn row(table: &Table, length: usize, kind: &str) {
     let words = words(kind, table.letters, length);
     let count = enough(table, &words);
     let mut lists = Lists::new(table, &words, count);
-    let (proved, plain) = lists.times();
+    let times = lists.times();
     assert!(lists.proved == lists.plain, "the answers are not the same");
     let answers = &lists.proved[..words.len()];
     let yes = answers.iter().filter(|&&answer| answer == 1).count();
+    let share = format!("{yes}/{}", words.len());
+    print_row(table, length, kind, &share, count, times);
+}
+
+/// Prints a row of the sections for yes or no: the table, the length and the kind of the words, how many of them are accepted, how many
+/// words were answered, the words a second of the proved call and of plain Rust by their times, and the ratio of these.
+pub fn print_row(
+    table: &Table,
+    length: usize,
+    kind: &str,
+    share: &str,
+    count: usize,
+    (proved, plain): (f64, f64),
+) {
     println!(
-        "| {} | {length} | {kind} | {yes}/{} | {count} | {} | {} | {:.2} |",
+        "| {} | {length} | {kind} | {share} | {count} | {} | {} | {:.2} |",
         table.name,
-        words.len(),
         rate(count as f64 / proved),
         rate(count as f64 / plain),
         proved / plain
