@@ -10,6 +10,7 @@
  *   zagvirk_recognize     whether a machine accepts a word, with a run
  *   zagvirk_accepts       whether a machine accepts a word, without a run
  *   zagvirk_accept_words  the same for each word of a list
+ *   zagvirk_reach         the states that runs reach at each position of a word: why a word is not accepted
  *   zagvirk_common_word   a shortest word that a machine and a plain machine both accept, with a run of each
  *
  * A machine has states numbered from 0 (1 to 64), letters numbered from 1 (0 to 250) and transitions numbered from 0
@@ -31,18 +32,19 @@
  * is 0, records and answers may change with the minor version: compile again then.
  */
 #define ZAGVIRK_VERSION_MAJOR 0
-#define ZAGVIRK_VERSION_MINOR 2
+#define ZAGVIRK_VERSION_MINOR 3
 #define ZAGVIRK_VERSION_PATCH 0
 #define ZAGVIRK_VERSION (10000 * ZAGVIRK_VERSION_MAJOR + 100 * ZAGVIRK_VERSION_MINOR + ZAGVIRK_VERSION_PATCH)
 
 /* The stack, in bytes, of a thread that makes a call; no call uses a heap. Measured on x86-64 Linux and rounded up, not
  * proved: the least threads that ran the calls on the largest inputs had 464 KB (zagvirk_recognize), 220 KB
- * (zagvirk_common_word), 208 KB (zagvirk_accept_words), 140 KB (zagvirk_accepts), 80 KB (zagvirk_join) and for every
- * other call 16 KB, the least that a thread may have there; these take below 1 KB themselves. What the caller's own
- * functions need comes on top.
+ * (zagvirk_common_word), 212 KB (zagvirk_reach), 208 KB (zagvirk_accept_words), 140 KB (zagvirk_accepts), 80 KB
+ * (zagvirk_join) and for every other call 16 KB, the least that a thread may have there; these take below 1 KB
+ * themselves. What the caller's own functions need comes on top.
  */
 #define ZAGVIRK_STACK_RECOGNIZE (480 * 1024)
 #define ZAGVIRK_STACK_COMMON_WORD (240 * 1024)
+#define ZAGVIRK_STACK_REACH (240 * 1024)
 #define ZAGVIRK_STACK_ACCEPT_WORDS (224 * 1024)
 #define ZAGVIRK_STACK_ACCEPTS (160 * 1024)
 #define ZAGVIRK_STACK_JOIN (96 * 1024)
@@ -68,7 +70,7 @@ extern "C" {
 #define ZAGVIRK_BEGIN_EMPTYING 65534
 #define ZAGVIRK_BACK_TO_NORMAL 65535
 
-/* Refusals. With 15, 17 to 20 and 35 a result's field `needed` is the length that the array needs, else it is 0. */
+/* Refusals. With 15, 17 to 20, 35 and 36 a result's field `needed` is the length that the array needs, else it is 0. */
 #define ZAGVIRK_LINE_CUT_SHORT 1        /* fewer bytes are left than the next line takes */
 #define ZAGVIRK_COLUMN_BROKEN 2         /* a column or a line end is not as described */
 #define ZAGVIRK_COUNT_OUT_OF_RANGE 3    /* a count is outside its range */
@@ -91,6 +93,7 @@ extern "C" {
 #define ZAGVIRK_COPIES_TOO_SHORT 20     /* the array for copies is too short */
 #define ZAGVIRK_ENDS_BROKEN 34          /* the ends of words fall, or lie past the letters */
 #define ZAGVIRK_ANSWERS_TOO_SHORT 35    /* the array for answers is too short */
+#define ZAGVIRK_SETS_TOO_SHORT 36       /* the array for sets of states is too short */
 
 /* A machine's record. marks[i] is the mark of state i; marks past the last state are 0.
  *
@@ -318,6 +321,34 @@ zagvirk_decided zagvirk_accepts(zagvirk_machine machine, const uint16_t *list, s
 zagvirk_words_answered zagvirk_accept_words(zagvirk_machine machine, const uint16_t *list, size_t list_len,
                                             const uint8_t *letters, size_t letters_len, const size_t *ends,
                                             size_t ends_len, uint8_t *answers, size_t answers_len);
+
+/* Where runs get to. */
+
+/* The result of zagvirk_reach. sets is the number of elements written, 0 after a refusal. */
+typedef struct {
+  uint8_t refusal; /* 0, 16, 9, 8 or 36 */
+  size_t needed;
+  size_t sets;
+} zagvirk_reached;
+
+/* The states that runs reach at each position of the word, 0 to word_len, in each mode. A set of states is an element:
+ * bit q, the one with the value 2^q, is 1 for state q. The set of position p and mode t (ZAGVIRK_MODE_NORMAL,
+ * ZAGVIRK_MODE_BUFFERING, ZAGVIRK_MODE_EMPTYING) is written to sets[3 * p + t]: the states of the configurations with
+ * this position and mode, whatever is in their buffers, that some entries lead to from where a run starts, position 0,
+ * an initial state, normal mode and an empty buffer. So 3 x (word_len + 1) elements are written.
+ *
+ * The machine accepts the word exactly if a final state is in the last set of normal mode. If the three sets of a
+ * position are empty, so are all behind them.
+ *
+ * Refuses, in this order: 16, 9 over 255 letters, 8, 36 if sets has fewer than 3 x (word_len + 1) elements.
+ *
+ * Time: one pass over the machine and the word, the sets of normal mode as in zagvirk_accepts, then a step of a set for
+ * each start and each end of what may be stored, at most word_len^2 / 2 of them, and for each such end one for each
+ * letter that stands again behind it, at most word_len^3 / 12. What a set leads to is found once and kept, as long as
+ * there is room. Stack: ZAGVIRK_STACK_REACH.
+ */
+zagvirk_reached zagvirk_reach(zagvirk_machine machine, const uint16_t *list, size_t list_len, const uint8_t *word,
+                              size_t word_len, uint64_t *sets, size_t sets_len);
 
 /* Common words. */
 

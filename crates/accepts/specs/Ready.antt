@@ -12,7 +12,7 @@ use Rattle.targets.specs.Prepared.{Whole}
 use Rattle.images.specs.Graph.{graph, KindsOf}
 use Rattle.images.specs.declared.Kinds.{Kinds}
 use Rattle.subsets.specs.Rows.{Kept}
-use Rattle.decide.specs.Covers.{Empty}
+use Rattle.decide.specs.NormalSets.{Empty}
 pub mod Laws
 
 pub record Ready (m : Machine) (list targets : List ℕ) (kinds : Kinds) : Type 0 where

@@ -9,7 +9,7 @@ ghost use Rattle.fsbm.specs.Accepted.{accepted};
 ghost use Rattle.fsbm.specs.Answers.{longestRecognized, tableAndWord};
 ghost use Rattle.images.specs.Graph.{setOf, KindsOf};
 ghost use Rattle.targets.specs.Prepared.{Prepared};
-ghost use Rattle.decide.specs.Covers.{Covers};
+ghost use Rattle.decide.specs.NormalSets.{NormalSets};
 ghost use Rattle.accepts.specs.Decision.{decision};
 ghost use Rattle.accepts.specs.Ready.{Ready, Working};
 use decide::positions;
@@ -21,12 +21,6 @@ use fsbm::limits::POSITIONS;
 use fsbm::machine::Machine;
 use images::Kinds;
 use stateset::StateSet;
-
-// The numbers that are lent for rows of the subset construction, where words are many.
-pub const ROWS: usize = 1024;
-
-// The numbers that the steps of the rows are kept in.
-pub const STEPS: usize = 32768;
 
 // The answer to a word: turned down, no, or yes.
 pub enum Decided {
@@ -45,7 +39,7 @@ pub fn reach(
 ) -> Reached
     requires { ⌜ (tableAndWord longestRecognized m (now list) (now word) ≡ 0) × (setOf (m .states) (m .letters) (m .states) ≤ length (now targets))
         × ((i : ℕ) → getD (now targets) i 0 ≡ 0) × KindsOf (m .marks) (m .states) kinds ⌝ }
-    ensures { λ r. ⌜ (r .accepted ≡ accepted m (now (list .entry)) (now (word .entry))) × Covers m (now (list .entry)) (now (word .entry)) (r .sets)
+    ensures { λ r. ⌜ (r .accepted ≡ accepted m (now (list .entry)) (now (word .entry))) × NormalSets m (now (list .entry)) (now (word .entry)) (r .sets)
         × Prepared m (now (list .entry)) (now (word .entry)) (now (targets .exit)) ⌝ }
 {
     targets::prepare_for(m, list, word, targets);

@@ -10,14 +10,14 @@ ghost use Rattle.accepts.specs.Ready.{Ready, Working};
 ghost use Rattle.accepts.specs.Words.{answerByte, answersFrom, goodEnds, wordsAnswer, wordsAfter, answeredValues, wordsValues};
 use crate::prepared;
 use crate::prepared::Decided;
-use crate::prepared::ROWS;
-use crate::prepared::STEPS;
 use fsbm::answer::Refusal;
 use fsbm::limits::POSITIONS;
 use fsbm::machine;
 use fsbm::machine::Machine;
 use images::Kinds;
 use stateset::StateSet;
+use subsets::ROWS;
+use subsets::STEPS;
 use targets::MOST_SETS;
 
 // The refusal of ends that fall or pass the letters.

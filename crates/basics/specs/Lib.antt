@@ -1,4 +1,5 @@
 pub mod Bools
+pub mod Each
 pub mod Lists
 pub mod Pairs
 pub mod Search

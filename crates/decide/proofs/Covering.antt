@@ -3,7 +3,7 @@
 -- Covered T D      == the configuration D, in mode T, is one that the reached states lead to
 -- covers           == a move from a covered configuration leads to a covered one
 -- run-covers       == so does a run
--- run-reach        == the state at the end of a run that ends in normal mode is reached at its position
+-- run-at           == the state at the end of a run is reached at its position in its mode
 use Prim.Native.Nat.{ℕ, zero, suc, _+_, _-_, _≤_, _<_}
 use mathlib.Core.Path.{_≡_, refl, sym, ap, _∙_, subst}
 use mathlib.Core.Logic.{_⊎_, inl, inr}
@@ -25,7 +25,7 @@ use Rattle.fsbm.specs.declared.config.Mode.the-variants.{Normal, Buffering, Emp
 use Rattle.fsbm.specs.Moves.Laws.{advanced-fits}
 use Rattle.language.specs.Strings.{drop-reads, slice-reads, slice-grows, slice-none}
 use Rattle.images.specs.Graph.{here, more, Graph, graph, Edge}
-use Rattle.decide.specs.Reach.{Walk, still, reads, Reach, begins, passes, moves, copies}
+use Rattle.decide.specs.Reach.{Walk, still, reads, Reach, begins, passes, moves, copies, At}
 use Rattle.decide.proofs.CopyCases.{walk-forward}
 use Rattle.decide.proofs.StageCases.{reach-inside}
 use Rattle.decide.proofs.Runs.{advanced-some}
@@ -252,11 +252,47 @@ module _ {m : Machine} {list targets : List ℕ} {g h : ℕ} (w : List ℕ) (t :
   run-covers done c = c
   run-covers (Run.more y r) c = run-covers r (covers y c)
 
-  pub run-reach : {o q : ℕ} {u : List ℕ} → In start o → Run (fsbmOf m list) (config w o [] Normal) (config u q [] Normal) → Reach (graph targets (m .states) g h) w start (length w - length u) q
-  run-reach {o} {q} {u} i r =
-      let c = run-covers r (record { position = 0; reach = begins refl i; input = refl }) in
-      let inside = reach-inside (graph targets (m .states) g h) w start (c .reach) in
-      let all : length u ≡ length (drop (c .position) w) = ap length (c .input) in
-      let z = length-drop (c .position) w in
-      let e : c .position ≡ length w - length u = omega arith in
-      subst (λ (n : ℕ). Reach (graph targets (m .states) g h) w start n q) e (c .reach)
+  -- the rest of the input tells the position
+  told : (p k : ℕ) → p ≤ length w → k ≤ length w → drop p w ≡ drop k w → p ≡ k
+  told p k le le′ e =
+      let z = length-drop p w in
+      let y = length-drop k w in
+      let l : length (drop p w) ≡ length (drop k w) = ap length e in
+      omega arith
+
+  covered-at : (T : Mode) (p q : ℕ) (v : List ℕ) → p ≤ length w → Covered (graph targets (m .states) g h) w start T (config (drop p w) q v T) → At (graph targets (m .states) g h) w start T p q
+  covered-at Normal p q v le c =
+      subst (λ (n : ℕ). Reach (graph targets (m .states) g h) w start n q)
+      (sym (told p (c .position) le (reach-inside (graph targets (m .states) g h) w start (c .reach)) (c .input))) (c .reach)
+  covered-at Buffering p q v le c =
+      record {
+        from = c .from;
+        first = c .first;
+        reach = c .reach;
+        stores = c .stores;
+        storing = subst (λ (n : ℕ). Walk (graph targets (m .states) g h) w Buffering (c .from) (c .first) n q) (sym (told p (c .position) le (c .inside) (c .input))) (c .walk);
+        inside = le;
+      }
+  covered-at Emptying p q v le c =
+      record {
+        from = c .from;
+        first = c .first;
+        reach = c .reach;
+        stores = c .stores;
+        end = c .end;
+        middle = c .middle;
+        storing = c .storing;
+        matching = record {
+          turns = c .turns;
+          taken = c .position;
+          behind = c .behind;
+          emptying = c .emptying;
+          same = c .same;
+          position = told p (c .end + (c .position - c .from)) le (c .inside) (c .input);
+          inside = le;
+        };
+      }
+
+  pub run-at : {o : ℕ} (T : Mode) (p q : ℕ) (v : List ℕ) → In start o → p ≤ length w → Run (fsbmOf m list) (config w o [] Normal) (config (drop p w) q v T)
+      → At (graph targets (m .states) g h) w start T p q
+  run-at T p q v i le r = covered-at T p q v le (run-covers r (record { position = 0; reach = begins refl i; input = refl }))

@@ -1,9 +1,11 @@
--- Every state that is reached at a position in normal mode is reached there by a run of the published definition.
+-- Every state that is reached at a position in a mode is reached there by a run of the published definition.
 --
 -- run-join          == a run and a run from its end
 -- reads-letter      == a letter of the word passes the test of a letter
--- storing-run, emptying-run == the run of a walk
+-- storing-run, emptying-run == the run of a walk; the letters taken from the buffer are those that are read
+-- turn-run          == the run that stores letters and begins to match
 -- reach-run         == the run to a reached state
+-- at-run            == the run to a state that is reached in a mode
 use Prim.Native.Nat.{ℕ, suc, _+_, _-_, _≤_, _<_}
 use mathlib.Core.Path.{_≡_, refl, sym, ap, _∙_, subst, subst₂}
 use mathlib.Core.Logic.{inl, inr}
@@ -19,10 +21,11 @@ use Rattle.stateset.specs.Set.{In}
 use Rattle.fsbm.specs.Moves.{readsLetter, advanced}
 use Rattle.fsbm.specs.Published.{FSBM, fsbmOf, Configuration, config, symbol, Yields, normal, buffer, empty, begin-buffering, begin-emptying, back-to-normal, Run, done}
 use Rattle.fsbm.specs.declared.machine.Machine.{Machine}
+use Rattle.fsbm.specs.declared.config.Mode.{Mode}
 use Rattle.fsbm.specs.declared.config.Mode.the-variants.{Normal, Buffering, Emptying}
 use Rattle.language.specs.Strings.{reads-drop, reads-slice, slice-grows}
 use Rattle.images.specs.Graph.{here, more, graph, Edge, Free}
-use Rattle.decide.specs.Reach.{Walk, still, reads, Square, Reach, begins, passes, moves, copies}
+use Rattle.decide.specs.Reach.{Walk, still, reads, Square, Reach, begins, passes, moves, copies, At}
 use Rattle.decide.proofs.CopyCases.{walk-forward, walk-matching}
 use Rattle.decide.proofs.Tables.{Read, TableOf, edge-listed}
 
@@ -90,13 +93,14 @@ module _ {m : Machine} {list targets : List ℕ} {g h : ℕ} (w : List ℕ) (t :
       (run-join (run-one (storing-run v) step) (store-free (a .free) (drop (suc k) w) (slice i (suc k) w)))
 
   -- the letters from i up to k are taken from the buffer, and stand in the word from j on
-  emptying-run : (i j : ℕ) → i ≤ j → j + (j - i) ≤ length w → Square w i j → {s k q : ℕ} → Walk (graph targets (m .states) g h) w Emptying i s k q → k ≤ j
+  emptying-run : (i j : ℕ) → i ≤ j → {s k q : ℕ} → Walk (graph targets (m .states) g h) w Emptying i s k q → k ≤ j → j + (k - i) ≤ length w
+      → ((t : ℕ) → t < k - i → getD w (i + t) 0 ≡ getD w (j + t) 0)
       → Run (fsbmOf m list) (config (drop j w) s (slice i j w) Emptying) (config (drop (j + (k - i)) w) q (slice k j w) Emptying)
-  emptying-run i j ij room same {s} {k} {q} (still e f) le =
+  emptying-run i j ij {s} {k} {q} (still e f) le room same =
       let at : j ≡ j + (k - i) = omega arith in
       subst₂ (λ (u v : List ℕ). Run (fsbmOf m list) (config (drop j w) s (slice i j w) Emptying) (config u q v Emptying))
       (ap (λ (n : ℕ). drop n w) at) (ap (λ (n : ℕ). slice n j w) (sym e)) (empty-free f (drop j w) (slice i j w))
-  emptying-run i j ij room same {s} {k} {q} (reads {j = o} {q = r} v lt a e) le =
+  emptying-run i j ij {s} {k} {q} (reads {j = o} {q = r} v lt a e) le room same =
       let x = getD w o 0 in
       let ge = walk-forward v in
       let back : i + (o - i) ≡ o = omega arith in
@@ -108,14 +112,17 @@ module _ {m : Machine} {list targets : List ℕ} {g h : ℕ} (w : List ℕ) (t :
       (sym input) (sym stored) (empty-one (inr (o, lt, refl, a .letter)) (a .edge) (drop (suc (j + (o - i))) w) (slice (suc o) j w)) in
       subst₂ (λ (u v : List ℕ). Run (fsbmOf m list) (config (drop j w) s (slice i j w) Emptying) (config u q v Emptying))
       (ap (λ (n : ℕ). drop n w) next) (ap (λ (n : ℕ). slice n j w) (sym e))
-      (run-join (run-one (emptying-run i j ij room same v (omega arith)) step) (empty-free (a .free) (drop (suc (j + (o - i))) w) (slice (suc o) j w)))
+      (run-join (run-one (emptying-run i j ij v (omega arith) (omega arith) (λ t (l : t < o - i). same t (omega arith))) step) (empty-free (a .free) (drop (suc (j + (o - i))) w) (slice (suc o) j w)))
+
+  -- storing from i up to j in a buffering state, and the turn to matching
+  turn-run : {i j p s : ℕ} → In g p → Walk (graph targets (m .states) g h) w Buffering i p j s → In h s
+      → Run (fsbmOf m list) (config (drop i w) p [] Normal) (config (drop j w) s (slice i j w) Emptying)
+  turn-run {p = p} {s = s} gp v hs = run-one (Run.more (begin-buffering (t .stores p .0 gp)) (storing-run v)) (begin-emptying (t .matches s .0 hs))
 
   copy-run : {i j k p s q : ℕ} → In g p → i ≤ j → Walk (graph targets (m .states) g h) w Buffering i p j s → In h s → Walk (graph targets (m .states) g h) w Emptying i s j q
       → Square w i j → k ≡ j + (j - i) → k ≤ length w → Run (fsbmOf m list) (config (drop i w) p [] Normal) (config (drop k w) q [] Normal)
   copy-run {i} {j} {k} {p} {s} {q} gp le v hs y same position in-word =
-      let turn = run-one (Run.more (begin-buffering (t .stores p .0 gp)) (storing-run v)) (begin-emptying (t .matches s .0 hs)) in
-      let read = emptying-run i j le (omega arith) same y (omega arith) in
-      let whole = run-join turn read in
+      let whole = run-join (turn-run gp v hs) (emptying-run i j le y (omega arith) (omega arith) same) in
       let ended = subst (λ (z : List ℕ). Run (fsbmOf m list) (config (drop i w) p [] Normal) (config (drop (j + (j - i)) w) q z Emptying)) (slice-empty j w) whole in
       subst (λ (n : ℕ). Run (fsbmOf m list) (config (drop i w) p [] Normal) (config (drop n w) q [] Normal)) (sym position)
       (run-one ended (back-to-normal (t .matches q .0 (walk-matching hs y))))
@@ -131,3 +138,22 @@ module _ {m : Machine} {list targets : List ℕ} {g h : ℕ} (w : List ℕ) (t :
   reach-run (copies r gp le v hs y same position in-word) =
       let (o, i, run) = reach-run r in
       (o, i, run-join run (copy-run gp le v hs y same position in-word))
+
+  -- whatever is in the buffer there
+  pub at-run : (start : ℕ) (T : Mode) (p q : ℕ) → At (graph targets (m .states) g h) w start T p q
+      → (o : ℕ) × In start o × (v : List ℕ) × Run (fsbmOf m list) (config w o [] Normal) (config (drop p w) q v T)
+  at-run start Normal p q r = let (o, i, run) = reach-run r in (o, i, [], run)
+  at-run start Buffering p q a =
+      let (o, i, run) = reach-run (a .reach) in
+      (o, i, slice (a .from) p w, run-join run (Run.more (begin-buffering (t .stores (a .first) .0 (a .stores))) (storing-run (a .storing))))
+  at-run start Emptying p q a =
+      let (o, i, run) = reach-run (a .reach) in
+      let d = a .matching in
+      let room : a .end + (d .taken - a .from) ≤ length w = let e = d .position in let z = d .inside in omega arith in
+      let read = emptying-run (a .from) (a .end) (walk-forward (a .storing)) (d .emptying) (d .behind) room (d .same) in (
+        o,
+        i,
+        slice (d .taken) (a .end) w,
+        subst (λ (n : ℕ). Run (fsbmOf m list) (config w o [] Normal) (config (drop n w) q (slice (d .taken) (a .end) w) Emptying)) (sym (d .position))
+            (run-join run (run-join (turn-run (a .stores) (a .storing) (d .turns)) read)),
+      )

@@ -6,6 +6,7 @@
 -- stage-turn      == one position more
 -- stage-to        == the same at an equal position
 -- cleared         == at the end no set is left once those of the word's positions are emptied
+-- at-inside       == what is reached is reached at a position of the word
 -- stage-reach     == at the end the sets are those of the reached states; stage-end: that of the last position
 use Prim.Native.Nat.{ℕ, suc, _+_, _-_, _^_, _≤_, _<_}
 use mathlib.Core.Path.{_≡_, refl, sym, ap, _∙_, subst}
@@ -18,10 +19,11 @@ use lib.Seq.{getD-set-same, getD-set-other}
 use lib.Bits.{bitAnd}
 use Rattle.stateset.specs.Set.{width, In}
 use Rattle.stateset.specs.Set.Laws.{in-and}
+use Rattle.fsbm.specs.declared.config.Mode.{Mode}
 use Rattle.fsbm.specs.declared.config.Mode.the-variants.{Normal, Buffering, Emptying}
 use Rattle.images.specs.Graph.{Members, Fitting, From, Star, here, more, Graph, Edge, Turn}
-use Rattle.decide.specs.Covers.{Empty}
-use Rattle.decide.specs.Reach.{Walk, still, Square, Reach, begins, passes, moves, copies, CopyTo, Copied, ReadTo, Passed, Stage}
+use Rattle.decide.specs.NormalSets.{Empty}
+use Rattle.decide.specs.Reach.{Walk, still, Square, Reach, begins, passes, moves, copies, At, CopyTo, Copied, ReadTo, Passed, Stage}
 use Rattle.basics.specs.Lists.Laws.{set-cases}
 use Rattle.images.proofs.SetCases.{none-in, some-member}
 use Rattle.decide.proofs.CopyCases.{walk-free}
@@ -282,6 +284,11 @@ module _ (G : Graph) (w : List ℕ) (start : ℕ) where
   reach-inside (passes h e) = reach-inside h
   reach-inside (moves h lt s e p) = omega arith
   reach-inside (copies h g ge v m y same e le) = le
+
+  pub at-inside : (T : Mode) (p q : ℕ) → At G w start T p q → p ≤ length w
+  at-inside Normal p q r = reach-inside r
+  at-inside Buffering p q a = a .inside
+  at-inside Emptying p q a = a .matching .inside
 
   pub stage-reach : (sets : List ℕ) (t : ℕ) → Stage G w start sets t → length w < t → {k q : ℕ} → Reach G w start k q → In (getD sets k 0) q
   stage-reach sets t st lt {k} {q} (begins e h) = subst (λ (n : ℕ). In (getD sets n 0) q) (sym e) (st .begun q h)

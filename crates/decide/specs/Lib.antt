@@ -1,3 +1,3 @@
-pub mod Covers
+pub mod NormalSets
 pub mod Reach
 pub mod Squares

@@ -6,6 +6,10 @@
 -- Square w i j            == the letters of w from i up to j stand once more from j on
 -- LastSquare w i r         == no square of w that starts at i is longer than the one up to r and as far again
 -- Reach G w start k q      == some run from a state of the set start is in state q at position k in normal mode
+-- StoringAt G w start p q  == some run from a state of the set start is in state q at position p in buffering mode
+-- MatchingFrom G w i j s p q == with the letters from i up to j in the buffer, matching that begins at j in the state s is in state q at position p
+-- MatchingAt G w start p q == some run from a state of the set start is in state q at position p in emptying mode
+-- At G w start T p q       == Reach, StoringAt or MatchingAt, by the mode
 -- CopyTo G w i starts k q  == a copy of at least one letter that begins at position i in a state of the set starts ends at k in q
 -- Copied G w i starts a b  == the sets b are the sets a with what such copies reach
 -- ReadTo G w i near k q     == a normal move from a state of the set near reads the letter at i and ends at position k in q
@@ -48,6 +52,38 @@ pub data Reach (G : Graph) (w : List ℕ) (start : ℕ) : ℕ → ℕ → Type 0
   moves : {i k p q : ℕ} → Reach G w start i p → i < length w → 0 < getD w i 0 → Edge G Normal (getD w i 0) p q → k ≡ suc i → Reach G w start k q
   copies : {i j k p s q : ℕ} → Reach G w start i p → In (G .buffering) p → i ≤ j → Walk G w Buffering i p j s → In (G .matching) s
       → Walk G w Emptying i s j q → Square w i j → k ≡ j + (j - i) → k ≤ length w → Reach G w start k q
+
+pub record StoringAt (G : Graph) (w : List ℕ) (start p q : ℕ) : Type 0 where
+  pub from : ℕ
+  pub first : ℕ
+  pub reach : Reach G w start from first
+  pub stores : In (G .buffering) first
+  pub storing : Walk G w Buffering from first p q
+  pub inside : p ≤ length w
+
+pub record MatchingFrom (G : Graph) (w : List ℕ) (i j s p q : ℕ) : Type 0 where
+  pub turns : In (G .matching) s
+  pub taken : ℕ
+  pub behind : taken ≤ j
+  pub emptying : Walk G w Emptying i s taken q
+  pub same : (t : ℕ) → t < taken - i → getD w (i + t) 0 ≡ getD w (j + t) 0
+  pub position : p ≡ j + (taken - i)
+  pub inside : p ≤ length w
+
+pub record MatchingAt (G : Graph) (w : List ℕ) (start p q : ℕ) : Type 0 where
+  pub from : ℕ
+  pub first : ℕ
+  pub reach : Reach G w start from first
+  pub stores : In (G .buffering) first
+  pub end : ℕ
+  pub middle : ℕ
+  pub storing : Walk G w Buffering from first end middle
+  pub matching : MatchingFrom G w from end middle p q
+
+abbrev pub At : Graph → List ℕ → ℕ → Mode → ℕ → ℕ → Type 0
+At G w start Normal p q = Reach G w start p q
+At G w start Buffering p q = StoringAt G w start p q
+At G w start Emptying p q = MatchingAt G w start p q
 
 pub record CopyTo (G : Graph) (w : List ℕ) (i starts k q : ℕ) : Type 0 where
   pub from : ℕ

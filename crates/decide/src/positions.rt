@@ -12,7 +12,7 @@ ghost use Rattle.stateset.specs.Set.{width};
 ghost use Rattle.images.specs.Graph.{Fitting, Graph, graph, Good, KindsOf};
 ghost use Rattle.subsets.specs.Rows.{Kept};
 ghost use Rattle.targets.specs.Prepared.{Prepared};
-ghost use Rattle.decide.specs.Covers.{Covers, Empty};
+ghost use Rattle.decide.specs.NormalSets.{NormalSets, Empty};
 ghost use Rattle.decide.specs.Reach.{Rooms, LastSquare, Copied, Passed, Stage};
 ghost use Rattle.decide.specs.Squares.{RepeatEnds};
 use crate::squares;
@@ -128,7 +128,7 @@ fn pass_position(
 }
 
 // The sets at the start of a word: the initial states at position 0.
-fn start_at(initial: StateSet) -> Reached
+pub fn start_at(initial: StateSet) -> Reached
     ensures { λ r. ⌜ ((G : Graph) (w : List ℕ) → Stage G w initial (r .sets) 0) ⌝ }
 {
     let mut sets: [StateSet; POSITIONS] = [0; POSITIONS];
@@ -140,7 +140,7 @@ fn start_at(initial: StateSet) -> Reached
 }
 
 // Completes the sets of all positions of a word, from those at its start.
-fn reach_all(
+pub fn reach_all(
     targets: &[StateSet],
     t: Shape,
     rows: &mut [StateSet],
@@ -164,7 +164,7 @@ fn reach_all(
 }
 
 // What the functions on sets are told of a machine.
-fn shape_of(m: Machine, kinds: Kinds) -> Shape
+pub fn shape_of(m: Machine, kinds: Kinds) -> Shape
     requires { ⌜ m .letters ≤ 250 ⌝ }
     ensures { λ r. ⌜ r ≡ record { states = m .states; columns = m .letters + 2; g = kinds .buffering; h = kinds .matching } ⌝ }
 {
@@ -186,7 +186,7 @@ fn shape_of(m: Machine, kinds: Kinds) -> Shape
 // Memory: the 256 sets (2 KB) and 256 bytes.
 pub fn decide(m: Machine, list: &[u16], targets: &[StateSet], kinds: Kinds, word: &[u8]) -> Reached
     requires { ⌜ (wellFormed m (now list) ≡ true) × (length (now word) ≤ 255) × Prepared m (now list) (now word) (now targets) × KindsOf (m .marks) (m .states) kinds ⌝ }
-    ensures { λ r. ⌜ (r .accepted ≡ accepted m (now (list .entry)) (now (word .entry))) × Covers m (now (list .entry)) (now (word .entry)) (r .sets) ⌝ }
+    ensures { λ r. ⌜ (r .accepted ≡ accepted m (now (list .entry)) (now (word .entry))) × NormalSets m (now (list .entry)) (now (word .entry)) (r .sets) ⌝ }
 {
     let t = shape_of(m, kinds);
     let mut rows: [StateSet; NO_ROWS] = [1; NO_ROWS];

@@ -1,5 +1,6 @@
 pub mod CommonWords
 pub mod Products
+pub mod ReachedStates
 pub mod Recognize
 pub mod Run
 pub mod SheetAnswers

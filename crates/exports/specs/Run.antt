@@ -8,6 +8,7 @@
 use Prim.Native.Nat.{ℕ}
 use mathlib.Core.Bool.{cond}
 use lib.Dec.{ltb, eqb}
+use Rattle.fsbm.specs.Moves.{modeNumber}
 use Rattle.fsbm.specs.declared.config.Config.{Config}
 use Rattle.fsbm.specs.declared.config.Mode.{Mode}
 use Rattle.fsbm.specs.declared.config.Mode.the-variants.{Normal, Buffering, Emptying}
@@ -19,11 +20,6 @@ use Rattle.exports.specs.declared.run.CheckedRecord.{CheckedRecord}
 -- 0 normal, 1 buffering, 2 emptying; what a larger number stands for does not matter, since no move is allowed from it
 abbrev pub modeOf : ℕ → Mode
 modeOf n = cond (eqb n 0) Normal (cond (eqb n 1) Buffering Emptying)
-
-abbrev pub modeNumber : Mode → ℕ
-modeNumber Normal = 0
-modeNumber Buffering = 1
-modeNumber Emptying = 2
 
 abbrev pub configOf : ConfigRecord → Config
 configOf r = record { position = r .position; state = r .state; mode = modeOf (r .mode); start = r .start; end = r .end }

@@ -1,6 +1,7 @@
 // The library for C and Rust: each function is a thin call of a proved one. include/zagvirk.h has the prototypes.
 pub mod common_words;
 pub mod products;
+pub mod reached_states;
 pub mod recognition;
 pub mod run;
 pub mod sheets;

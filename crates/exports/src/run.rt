@@ -1,7 +1,8 @@
 // One entry of a run, and a whole run.
 ghost use mathlib.Core.Path.{_≡_};
+ghost use Rattle.fsbm.specs.Moves.{modeNumber};
 ghost use Rattle.fsbm.specs.Answers.{stepValues, checkValues};
-ghost use Rattle.exports.specs.Run.{modeOf, modeNumber, configOf, recordOf, movedRecord, steppedRecord, checkedRecord};
+ghost use Rattle.exports.specs.Run.{modeOf, configOf, recordOf, movedRecord, steppedRecord, checkedRecord};
 use fsbm::answer::Checked;
 use fsbm::answer::Stepped;
 use fsbm::config::Config;

@@ -4,4 +4,5 @@ pub mod Entries
 pub mod Machine
 pub mod Moves
 pub mod Published
+pub mod Reaches
 pub mod Rules

@@ -1,6 +1,7 @@
 -- How a run moves (document 01): one entry takes a configuration to the next, or is not allowed. The laws stand in
 -- specs/Moves/Laws.antt.
 --
+-- modeNumber t           == a mode as a number
 -- wellPlaced states n c   == c is a configuration that a move is allowed from, on a word of n letters
 -- readsLetter w p e x    == x is epsilon, or the letter of w at p, with p before e
 -- advanced p x           == the position after p once x is read
@@ -34,6 +35,12 @@ beginEmptying = 65534
 
 abbrev pub backToNormal : ℕ
 backToNormal = 65535
+
+-- normal, storing, matching in the order of document 02
+abbrev pub modeNumber : Mode → ℕ
+modeNumber Normal = 0
+modeNumber Buffering = 1
+modeNumber Emptying = 2
 
 -- the buffer in each mode: empty in normal, ending at the position while storing
 abbrev pub bufferFits : Config → Mode → Bool

@@ -3,6 +3,8 @@
 --
 -- Shrinks D D′            == D′ has no more input than D, and the same input and buffer if it has as much
 -- key states D            == a number for the length of the input, the mode and the state of D
+-- path-below              == a path that starts at a state of the machine ends at one
+-- path-short              == a path from the start of a run on w can be cut to fewer than runBound moves
 -- published-short         == a word in the published language has a run of at most runBound entries, each below 65536
 -- accepted-iff-run        == accepted, if and only if some run accepts
 -- accepted-iff-published  == accepted, if and only if the word is in the published language
@@ -19,13 +21,13 @@ use Rattle.basics.specs.Search.{AllBelow}
 use Rattle.graphs.specs.Paths.{Path, here, step}
 use Rattle.graphs.specs.Paths.Laws.{closed, short-path}
 use Rattle.fsbm.specs.Machine.{wellFormed}
-use Rattle.fsbm.specs.Moves.{accepting}
+use Rattle.fsbm.specs.Moves.{modeNumber, accepting}
+use Rattle.fsbm.specs.Moves.Laws.{mode-below, mode-same}
 use Rattle.fsbm.specs.Accepted.{runBound, accepted}
 use Rattle.fsbm.specs.Accepted.Laws.{accepted-true}
 use Rattle.fsbm.specs.Published.{FSBM, Listed, fsbmOf, Configuration, config, Yields, normal, buffer, empty, begin-buffering, begin-emptying, back-to-normal, InLanguage}
 use Rattle.fsbm.specs.declared.machine.Machine.{Machine}
-use Rattle.fsbm.specs.declared.config.Mode.{Mode}
-use Rattle.fsbm.specs.declared.config.Mode.the-variants.{Normal, Buffering, Emptying}
+use Rattle.fsbm.specs.declared.config.Mode.the-variants.{Normal}
 use Rattle.basics.specs.Bools.{false-iff}
 use Rattle.basics.specs.Pairs.{pair-below, pair-same}
 use Rattle.fsbm.specs.Rules.{Rules, rules, buffering-below, matching-below}
@@ -64,29 +66,6 @@ path-shrinks (step y p) = join (yields-shrinks y) (path-shrinks p)
 
 -- Keys
 
-modeNumber : Mode → ℕ
-modeNumber Normal = 0
-modeNumber Buffering = 1
-modeNumber Emptying = 2
-
-modeNumber-below : (t : Mode) → modeNumber t < 3
-unfolding modeNumber
-modeNumber-below Normal = omega arith
-modeNumber-below Buffering = omega arith
-modeNumber-below Emptying = omega arith
-
-modeNumber-same : (s t : Mode) → modeNumber s ≡ modeNumber t → s ≡ t
-unfolding modeNumber
-modeNumber-same Normal Normal e = refl
-modeNumber-same Normal Buffering e = absurd (omega arith)
-modeNumber-same Normal Emptying e = absurd (omega arith)
-modeNumber-same Buffering Normal e = absurd (omega arith)
-modeNumber-same Buffering Buffering e = refl
-modeNumber-same Buffering Emptying e = absurd (omega arith)
-modeNumber-same Emptying Normal e = absurd (omega arith)
-modeNumber-same Emptying Buffering e = absurd (omega arith)
-modeNumber-same Emptying Emptying e = refl
-
 key : ℕ → Configuration → ℕ
 key states D = (length (D .input) * 3 + modeNumber (D .mode)) * states + D .state
 
@@ -100,10 +79,10 @@ key-same : (states : ℕ) (D D′ : Configuration) → D .state < states → D�
 unfolding key
 key-same s D D′ lt lt′ shrinks e =
     let (upper, state) = pair-same s (length (D .input) * 3 + modeNumber (D .mode)) (D .state) (length (D′ .input) * 3 + modeNumber (D′ .mode)) (D′ .state) lt lt′ e in
-    let m = modeNumber-below (D .mode) in
-    let m′ = modeNumber-below (D′ .mode) in
+    let m = mode-below (D .mode) in
+    let m′ = mode-below (D′ .mode) in
     let (input, stored) = shrinks .unread (omega arith) in
-    let mode = modeNumber-same (D .mode) (D′ .mode) (omega arith) in
+    let mode = mode-same (D .mode) (D′ .mode) (omega arith) in
     λ i. record { input = sym input i; state = state i; buffer = sym stored i; mode = mode i }
 
 -- Short runs
@@ -125,7 +104,7 @@ module _ {m : Machine} {list : List ℕ} (r : Rules m list) where
   yields-below (begin-emptying {q = q} is) = let lt = matching-below m list r q is in (lt, lt)
   yields-below (back-to-normal {q = q} is) = let lt = matching-below m list r q is in (lt, lt)
 
-  path-below : {D D′ : Configuration} {n : ℕ} → Path Configuration (Yields (fsbmOf m list)) D D′ n → D .state < m .states → D′ .state < m .states
+  pub path-below : {D D′ : Configuration} {n : ℕ} → Path Configuration (Yields (fsbmOf m list)) D D′ n → D .state < m .states → D′ .state < m .states
   path-below = closed (λ (D : Configuration). D .state < m .states) (λ D D′ y lt. yields-below y .1)
 
   -- within one path equal keys are equal configurations
@@ -140,15 +119,19 @@ module _ {m : Machine} {list : List ℕ} (r : Rules m list) where
   unfolding key runBound
   key-below w q lt D n p =
       let shorter = path-shrinks p .shorter in
-      let mode = modeNumber-below (D .mode) in
+      let mode = mode-below (D .mode) in
       in-bound (m .states) (length (D .input) * 3 + modeNumber (D .mode)) (length w) (D .state) (omega arith) (path-below p lt)
+
+  pub path-short : (w : List ℕ) (q : ℕ) → q < m .states → {D : Configuration} {n : ℕ} → Path Configuration (Yields (fsbmOf m list)) (config w q [] Normal) D n
+      → (k : ℕ) × (k < runBound m (length w)) × Path Configuration (Yields (fsbmOf m list)) (config w q [] Normal) D k
+  path-short w q lt p = short-path (key (m .states)) same-key (runBound m (length w)) (key-below w q lt) p
 
 module _ (m : Machine) (list w : List ℕ) where
   pub published-short : wellFormed m list ≡ true → InLanguage (fsbmOf m list) w
       → (run : List ℕ) × (length run ≤ runBound m (length w)) × AllBelow 65536 run × (accepting m list w run ≡ true)
   published-short good l =
       let r = rules m list good in
-      let (k, lt, q) = short-path (key (m .states)) (same-key r) (runBound m (length w)) (key-below r w (l .first) (l .first-initial .0)) (run-path m list (l .run)) in
+      let (k, lt, q) = path-short r w (l .first) (l .first-initial .0) (run-path m list (l .run)) in
       let (run, len, below, a) = path-accepting m list w r (l .first) (l .last) k (l .first-initial) (l .last-final) q in
       (run, omega arith, below, a)
 

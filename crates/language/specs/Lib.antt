@@ -4,4 +4,5 @@ pub mod Chosen
 pub mod Examples
 pub mod NoWord
 pub mod Reached
+pub mod Reaches
 pub mod Strings

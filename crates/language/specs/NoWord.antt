@@ -18,7 +18,7 @@ use Rattle.fsbm.specs.declared.machine.Machine.{Machine}
 use Rattle.fsbm.specs.declared.config.Mode.{Mode}
 use Rattle.fsbm.specs.declared.config.Mode.the-variants.{Normal, Buffering, Emptying}
 use Rattle.language.specs.Chosen.{numbers, chosen}
-use Rattle.language.specs.Reached.{sameMode}
+use Rattle.fsbm.specs.Reaches.{sameMode}
 pub mod Laws
 
 pub record Control : Type 0 where

@@ -8,7 +8,7 @@
 -- decided m list w        == some reached configuration accepts
 use Prim.Native.Nat.{ℕ}
 use mathlib.Core.List.{List, _∷_}
-use mathlib.Core.Bool.{Bool, true, false, _&&_}
+use mathlib.Core.Bool.{Bool, _&&_}
 use lib.ListN.{length}
 use lib.Dec.{eqb}
 use Rattle.basics.specs.Search.{anyIn}
@@ -16,23 +16,11 @@ use Rattle.graphs.specs.Reach.{reach}
 use Rattle.fsbm.specs.Machine.{initial}
 use Rattle.fsbm.specs.Moves.{wellPlaced, readsLetter, passes, readsStored, mayTake, after, changes, move, startAt, accepts, beginBuffering, beginEmptying, backToNormal}
 use Rattle.fsbm.specs.Accepted.{runBound}
+use Rattle.fsbm.specs.Reaches.{sameMode}
 use Rattle.fsbm.specs.declared.machine.Machine.{Machine}
 use Rattle.fsbm.specs.declared.config.Config.{Config}
-use Rattle.fsbm.specs.declared.config.Mode.{Mode}
-use Rattle.fsbm.specs.declared.config.Mode.the-variants.{Normal, Buffering, Emptying}
 use Rattle.language.specs.Chosen.{numbers, chosen}
 pub mod Laws
-
-abbrev pub sameMode : Mode → Mode → Bool
-sameMode Normal Normal = true
-sameMode Normal Buffering = false
-sameMode Normal Emptying = false
-sameMode Buffering Normal = false
-sameMode Buffering Buffering = true
-sameMode Buffering Emptying = false
-sameMode Emptying Normal = false
-sameMode Emptying Buffering = false
-sameMode Emptying Emptying = true
 
 unfoldable pub sameConfig : Config → Config → Bool
 sameConfig c d =

@@ -17,8 +17,6 @@ ghost use Rattle.accepts.specs.Ready.{Ready, Working};
 ghost use Rattle.stream.specs.Pieces.{mostKept, opening};
 ghost use Rattle.listing.specs.Output.{ReadFrom, HeldAfter, NextBytes, LastBytes, Buffers, PieceListed, done};
 use accepts::prepared;
-use accepts::prepared::ROWS;
-use accepts::prepared::STEPS;
 use fsbm::limits::LIST_LENGTH;
 use fsbm::limits::POSITIONS;
 use fsbm::machine::Machine;
@@ -27,6 +25,8 @@ use libc::STDIN_FILENO;
 use libc::STDOUT_FILENO;
 use stateset::StateSet;
 use stream::Held;
+use subsets::ROWS;
+use subsets::STEPS;
 use targets::MOST_SETS;
 
 // The bytes of a line that are kept: one more than a word's line may have, which shows that it is too long.

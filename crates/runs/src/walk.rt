@@ -12,7 +12,7 @@ ghost use Rattle.layers.specs.Costs.{none, Best};
 ghost use Rattle.adjacency.specs.Index.{Index};
 ghost use Rattle.targets.specs.Prepared.{Prepared};
 ghost use Rattle.images.specs.Graph.{KindsOf};
-ghost use Rattle.decide.specs.Covers.{Covers};
+ghost use Rattle.decide.specs.NormalSets.{NormalSets};
 ghost use Rattle.tables.specs.Tables.{nearOf, Known, Sized, Sizes, PositionRows};
 ghost use Rattle.runs.specs.Walk.{Ready, changeEntry, Tried, Scanned, Entered, Fresh, Refreshed, Started, Written};
 use adjacency::FIRSTS;
@@ -318,7 +318,7 @@ fn write_with(
 ) -> usize
     requires { ⌜ (wellFormed m (now list) ≡ true) × (length (now word) ≤ 255) × (accepted m (now list) (now word) ≡ true) × (runBound m (length (now word)) ≤ length (now run))
         × Known m (now list) (now targets) g h (now word) × Sizes (now word) (now t) (now ends) (now left) × Sized (now word) (now t) (now emptied) (now stored)
-        × Covers m (now list) (now word) (now sets) ⌝ }
+        × NormalSets m (now list) (now word) (now sets) ⌝ }
     ensures { λ r. ⌜ Written m (now (list .entry)) (now (word .entry)) r (now (run .entry)) (now (run .exit)) ⌝ }
 {
     table::fill(m, list, targets, g, h, sets, word, t, ends, left);
@@ -401,7 +401,7 @@ fn write_long(
     run: &mut [u16],
 ) -> usize
     requires { ⌜ (wellFormed m (now list) ≡ true) × (length (now word) ≤ 255) × (accepted m (now list) (now word) ≡ true) × (runBound m (length (now word)) ≤ length (now run)) × Known m (now list) (now targets) g h (now word)
-        × Covers m (now list) (now word) (now sets) ⌝ }
+        × NormalSets m (now list) (now word) (now sets) ⌝ }
     ensures { λ r. ⌜ Written m (now (list .entry)) (now (word .entry)) r (now (run .entry)) (now (run .exit)) ⌝ }
 {
     let mut t = all_positions();
@@ -438,7 +438,7 @@ fn write_medium(
     run: &mut [u16],
 ) -> usize
     requires { ⌜ (wellFormed m (now list) ≡ true) × (length (now word) ≤ 63) × (accepted m (now list) (now word) ≡ true) × (runBound m (length (now word)) ≤ length (now run)) × Known m (now list) (now targets) g h (now word)
-        × Covers m (now list) (now word) (now sets) ⌝ }
+        × NormalSets m (now list) (now word) (now sets) ⌝ }
     ensures { λ r. ⌜ Written m (now (list .entry)) (now (word .entry)) r (now (run .entry)) (now (run .exit)) ⌝ }
 {
     let mut t = some_positions();
@@ -475,7 +475,7 @@ fn write_short(
     run: &mut [u16],
 ) -> usize
     requires { ⌜ (wellFormed m (now list) ≡ true) × (length (now word) ≤ 15) × (accepted m (now list) (now word) ≡ true) × (runBound m (length (now word)) ≤ length (now run)) × Known m (now list) (now targets) g h (now word)
-        × Covers m (now list) (now word) (now sets) ⌝ }
+        × NormalSets m (now list) (now word) (now sets) ⌝ }
     ensures { λ r. ⌜ Written m (now (list .entry)) (now (word .entry)) r (now (run .entry)) (now (run .exit)) ⌝ }
 {
     let mut t = few_positions();
@@ -512,7 +512,7 @@ fn write_sized(
     run: &mut [u16],
 ) -> usize
     requires { ⌜ (wellFormed m (now list) ≡ true) × (length (now word) ≤ 255) × (accepted m (now list) (now word) ≡ true) × (runBound m (length (now word)) ≤ length (now run)) × Known m (now list) (now targets) g h (now word)
-        × Covers m (now list) (now word) (now sets) ⌝ }
+        × NormalSets m (now list) (now word) (now sets) ⌝ }
     ensures { λ r. ⌜ Written m (now (list .entry)) (now (word .entry)) r (now (run .entry)) (now (run .exit)) ⌝ }
 {
     if word.len() < 16 {
@@ -540,7 +540,7 @@ pub fn write_run(
     run: &mut [u16],
 ) -> usize
     requires { ⌜ (wellFormed m (now list) ≡ true) × (length (now word) ≤ 255) × (accepted m (now list) (now word) ≡ true) × (runBound m (length (now word)) ≤ length (now run))
-        × KindsOf (m .marks) (m .states) kinds × Prepared m (now list) (now word) (now targets) × Covers m (now list) (now word) (reached .sets) ⌝ }
+        × KindsOf (m .marks) (m .states) kinds × Prepared m (now list) (now word) (now targets) × NormalSets m (now list) (now word) (reached .sets) ⌝ }
     ensures { λ r. ⌜ Written m (now (list .entry)) (now (word .entry)) r (now (run .entry)) (now (run .exit)) ⌝ }
 {
     write_sized(

@@ -21,8 +21,8 @@ use Rattle.basics.specs.Search.Laws.{and-true}
 use Rattle.fsbm.specs.Answers.{refusal, noMachine}
 use Rattle.fsbm.specs.declared.answer.Refusal.{Refusal}
 use Rattle.sheet.specs.declared.read.Sheet.{Sheet}
-use Rattle.sheet.specs.Series.{eachBelow}
-use Rattle.sheet.specs.Series.Laws.{each-next, each-length}
+use Rattle.basics.specs.Each.{eachBelow}
+use Rattle.basics.specs.Each.Laws.{each-next, each-length}
 use Rattle.sheet.specs.Format.{stateStart, transitionStart}
 use Rattle.sheet.specs.Reading.{columnAt, firstFault, transitionIn, marksOf, machineOf, numbersIn, transitionsOf, readRefusal, readAnswer, readList}
 use Rattle.sheet.specs.Reading.Laws.{no-fault, GoodState, GoodTransition, state-none, transition-none}

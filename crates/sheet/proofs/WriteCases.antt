@@ -1,7 +1,6 @@
 -- Lines put into a list one after the other.
 --
 -- line-two, line-three == columns and the byte 10, put one by one, are the line
--- each-none, each-more == a loop that puts the lists of eachBelow
 -- write-ill, write-short, write-long, write-says == the ways through write_sheet, and the number and values of its answer
 use Prim.Native.Nat.{ℕ, zero, _+_, _*_, _-_, _<_, _≤_}
 use mathlib.Core.Path.{_≡_, refl, sym, ap, _∙_, subst}
@@ -11,8 +10,10 @@ use native.Mathlib.Omega.{arith}
 use lib.ListN.{length, drop, set, length-append}
 use lib.Dec.{leb, eqb}
 use borrow.Author.Tests.{le-leb, lt-leb}
+use Rattle.basics.specs.Each.{eachBelow}
+use Rattle.basics.specs.Each.Laws.{each-length}
 use Rattle.basics.specs.Lists.{put}
-use Rattle.basics.specs.Lists.Laws.{put-none, put-length, put-put, put-one, put-zero}
+use Rattle.basics.specs.Lists.Laws.{put-length, put-more, put-one, put-zero}
 use Rattle.columns.specs.Column.{columnOf}
 use Rattle.columns.specs.Column.Laws.{column-length}
 use Rattle.fsbm.specs.Machine.{markOf, transitionAt, wellFormed}
@@ -21,16 +22,10 @@ use Rattle.fsbm.specs.Rules.{rules}
 use Rattle.fsbm.specs.declared.machine.Machine.{Machine}
 use Rattle.fsbm.specs.declared.answer.Refusal.{Refusal}
 use Rattle.sheet.specs.Format.Laws.{line-length, state-wide, transition-wide}
-use Rattle.sheet.specs.Series.{eachBelow}
-use Rattle.sheet.specs.Series.Laws.{each-next, each-length}
 use Rattle.sheet.specs.declared.write.Written.{Written}
 use Rattle.sheet.specs.declared.write.Written.the-variants.{Refused, Bytes}
 use Rattle.sheet.specs.Format.{Short, lineOf, headerLine, stateLine, transitionLine, sheetLength, sheetOf}
 use Rattle.sheet.specs.Writing.{writeRefusal, writeAnswer, writeSheet, writtenValues, writeValues}
-
--- b put right after a
-pub put-more : (l l1 l2 a b : List ℕ) (at next : ℕ) → l1 ≡ put at l a → l2 ≡ put next l1 b → next ≡ at + length a → at + length a + length b ≤ length l → l2 ≡ put at l (a ++ b)
-put-more l l1 l2 a b at next e f n h = f ∙ (ap (λ (x : List ℕ). put next x b) e ∙ put-put at next l a b n h)
 
 module _ (l l1 l2 : List ℕ) (at a b : ℕ) (first : l1 ≡ put at l (columnOf 5 a)) (second : l2 ≡ put (at + 5) l1 (columnOf 5 b)) where
   two-columns : at + 10 ≤ length l → l2 ≡ put at l (columnOf 5 a ++ columnOf 5 b)
@@ -76,20 +71,7 @@ length-two a b = line-length (a ∷ b ∷ [])
 pub length-three : (a b d : ℕ) → length (lineOf (a ∷ b ∷ d ∷ [])) ≡ 16
 length-three a b d = line-length (a ∷ b ∷ d ∷ [])
 
--- the loops
-
-pub each-none : (start : ℕ) (l : List ℕ) (f : ℕ → List ℕ) → l ≡ put start l (eachBelow 0 f)
-unfolding eachBelow
-each-none start l f = put-none start l
-
-pub each-more : (w start : ℕ) (f : ℕ → List ℕ) → ((k : ℕ) → length (f k) ≡ w) → (l l1 l2 piece : List ℕ) (k at : ℕ)
-    → l1 ≡ put start l (eachBelow k f) → l2 ≡ put at l1 piece → piece ≡ f k → at ≡ start + w * k → start + w * k + w ≤ length l
-    → l2 ≡ put start l (eachBelow (k + 1) f)
-each-more w start f wide l l1 l2 piece k at e g p a h =
-    let n = each-length w f wide k in
-    let m : length (f k) ≡ w = wide k in
-    put-more l l1 l2 (eachBelow k f) (f k) start at e (g ∙ ap (λ (x : List ℕ). put at l1 x) p) (omega arith) (omega arith)
-    ∙ ap (λ (x : List ℕ). put start l x) (sym (each-next k f))
+-- the pieces of the loops
 
 pub state-piece : (marks : List ℕ) (q v : ℕ) → v ≡ markOf marks q → lineOf (q ∷ v ∷ []) ≡ stateLine marks q
 unfolding stateLine
@@ -98,9 +80,6 @@ state-piece marks q v e = ap (λ (x : ℕ). lineOf (q ∷ x ∷ [])) e
 pub transition-piece : (list : List ℕ) (k : ℕ) → lineOf (transitionAt list k .from ∷ transitionAt list k .letter ∷ transitionAt list k .to ∷ []) ≡ transitionLine list k
 unfolding transitionLine
 transition-piece list k = refl
-
-pub each-done : (start : ℕ) (f : ℕ → List ℕ) (l l1 : List ℕ) (k n : ℕ) → k ≤ n → n ≤ k → l1 ≡ put start l (eachBelow k f) → l1 ≡ put start l (eachBelow n f)
-each-done start f l l1 k n h g e = let q : k ≡ n = omega arith in e ∙ ap (λ (j : ℕ). put start l (eachBelow j f)) q
 
 -- The answer
 

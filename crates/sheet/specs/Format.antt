@@ -12,7 +12,7 @@ use Rattle.columns.specs.Column.{columnOf}
 use Rattle.fsbm.specs.Machine.{markOf, transitionAt}
 use Rattle.fsbm.specs.declared.machine.Machine.{Machine}
 use Rattle.fsbm.specs.declared.machine.Transition.{Transition}
-use Rattle.sheet.specs.Series.{eachBelow}
+use Rattle.basics.specs.Each.{eachBelow}
 pub mod Laws
 
 abbrev pub Short : Transition → Type 0

@@ -25,7 +25,8 @@ use Rattle.fsbm.specs.declared.answer.Refusal.{Refusal}
 use Rattle.sheet.specs.declared.faults.Line.{Line}
 use Rattle.sheet.specs.declared.read.Sheet.{Sheet}
 use Rattle.sheet.specs.Format.{stateStart, transitionStart}
-use Rattle.sheet.specs.Series.{orElse, firstOf, eachBelow}
+use Rattle.sheet.specs.Series.{orElse, firstOf}
+use Rattle.basics.specs.Each.{eachBelow}
 pub mod Laws
 
 unfoldable pub columnAt : List ℕ → ℕ → ℕ

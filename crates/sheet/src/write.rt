@@ -4,7 +4,7 @@ ghost use mathlib.Core.Path.{_≡_};
 ghost use mathlib.Core.List.{[], _∷_};
 ghost use lib.ListN.{length};
 ghost use Rattle.basics.specs.Lists.{put};
-ghost use Rattle.sheet.specs.Series.{eachBelow};
+ghost use Rattle.basics.specs.Each.{eachBelow};
 ghost use Rattle.fsbm.specs.Machine.{transitionAt};
 ghost use Rattle.sheet.specs.Format.{Short, lineOf, stateLine, transitionLine};
 ghost use Rattle.sheet.specs.Writing.{writeAnswer, writeSheet, writtenValues, writeValues};

@@ -15,7 +15,7 @@ use lib.ListN.{length, take, drop, getD, replicate, length-append, length-drop}
 use lib.Seq.{take-at, drop-at, drop-drop, take-add, getD-drop, length-take-le, drop-cons, take-suc}
 use Rattle.columns.specs.Column.{columnNumber, columnOf, noNumber}
 use Rattle.columns.specs.Column.Laws.{column-length, number-of-column, column-of-number}
-use Rattle.sheet.specs.Series.{eachBelow}
+use Rattle.basics.specs.Each.{eachBelow}
 use Rattle.sheet.specs.Format.{lineOf}
 use Rattle.sheet.specs.Format.Laws.{line-length}
 use Rattle.sheet.specs.Reading.{columnAt}

@@ -8,13 +8,14 @@
 -- removed x q         == x without the state q
 -- without x y         == the members of x that are no members of y
 -- below n             == the states below n
+-- collected n p       == the states below n of which the test p holds
 -- lowestOf x          == the lowest member of x, or width where x is empty
 -- SetIs r v P         == r is the number v, which is the set of the states p with P p
 -- Lowest x r          == r is the lowest member of x, or width where x is empty
 use mathlib.Core.Path.{_≡_}
 use mathlib.Core.Logic.{_↔_}
 use mathlib.Core.Bool.{Bool, cond}
-use Prim.Native.Nat.{ℕ, _-_, _/_, _%_, _^_, _≤_, _<_, min}
+use Prim.Native.Nat.{ℕ, zero, suc, _-_, _/_, _%_, _^_, _≤_, _<_, min}
 use lib.Dec.{eqb, ltb}
 use lib.Bits.{bitAnd, bitOr}
 use lib.Count.{trailingZeros}
@@ -43,6 +44,10 @@ removed x q = cond (ltb q width) (without x (2 ^ q)) x
 
 unfoldable pub below : ℕ → ℕ
 below n = 2 ^ min n width - 1
+
+unfoldable pub collected : ℕ → (ℕ → Bool) → ℕ
+collected zero p = 0
+collected (suc n) p = cond (p n) (added (collected n p) n) (collected n p)
 
 abbrev pub lowestOf : ℕ → ℕ
 lowestOf x = trailingZeros width x

@@ -22,7 +22,7 @@ use Rattle.fsbm.specs.Answers.{refusal}
 use Rattle.fsbm.specs.Answers.{noMachine}
 use Rattle.fsbm.specs.declared.machine.Machine.{Machine}
 use Rattle.fsbm.specs.declared.answer.Refusal.{Refusal}
-use Rattle.sheet.specs.Series.Laws.{each-length}
+use Rattle.basics.specs.Each.Laws.{each-length}
 use Rattle.sheet.specs.Format.{transitionStart}
 use Rattle.sheet.specs.Reading.{columnAt, firstFault, numbersIn, machineOf, transitionsOf, readRefusal, readAnswer, readList}
 use Rattle.sheet.specs.Reading.Laws.{no-fault}

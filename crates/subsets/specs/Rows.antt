@@ -1,7 +1,6 @@
 -- What is kept of the subset construction, and what holds of it. The laws stand in specs/Rows/Laws.antt.
 --
 -- slots, mostColumns            == how many slots there are; the most columns of a mode
--- modeIndex T                   == the number of a mode
 -- cellOf columns r T c          == where the steps have the number of row r for mode T and column c
 -- Begun G T p q                 == column 0: in normal mode from p to q at one position; else p begins the mode, and leads to q by epsilon moves
 -- Reads G T x p q               == a letter's column: a move that reads x from p to q in normal mode; else with epsilon moves after it
@@ -20,6 +19,7 @@ use mathlib.Core.Logic.{_⊎_}
 use mathlib.Core.List.{List}
 use lib.ListN.{length, getD}
 use Rattle.stateset.specs.Set.{In}
+use Rattle.fsbm.specs.Moves.{modeNumber}
 use Rattle.fsbm.specs.declared.config.Mode.{Mode}
 use Rattle.fsbm.specs.declared.config.Mode.the-variants.{Normal, Buffering, Emptying}
 use Rattle.images.specs.Graph.{Members, From, Star, Graph, Edge, Free, Advance, Turn}
@@ -31,13 +31,8 @@ slots = 1021
 abbrev pub mostColumns : ℕ
 mostColumns = 257
 
-abbrev pub modeIndex : Mode → ℕ
-modeIndex Normal = 0
-modeIndex Buffering = 1
-modeIndex Emptying = 2
-
 abbrev pub cellOf : ℕ → ℕ → Mode → ℕ → ℕ
-cellOf columns r T c = slots + (r * 3 + modeIndex T) * columns + c
+cellOf columns r T c = slots + (r * 3 + modeNumber T) * columns + c
 
 abbrev pub Begun : Graph → Mode → ℕ → ℕ → Type 0
 Begun G Normal p q = Star (Turn G) p q

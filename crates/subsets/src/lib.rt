@@ -15,8 +15,9 @@ ghost use mathlib.Core.Path.{_≡_};
 ghost use mathlib.Core.Bool.{true};
 ghost use mathlib.Core.Logic.{_⊎_};
 ghost use lib.ListN.{length, getD};
+ghost use Rattle.fsbm.specs.Moves.{modeNumber};
 ghost use Rattle.images.specs.Graph.{Members, From, Graph, graph, Room, Good};
-ghost use Rattle.subsets.specs.Rows.{modeIndex, cellOf, slots, mostColumns, Begun, Reads, Image, HasRow, Sized, Kept, Found, Rowed, Noted};
+ghost use Rattle.subsets.specs.Rows.{cellOf, slots, mostColumns, Begun, Reads, Image, HasRow, Sized, Kept, Found, Rowed, Noted};
 use fsbm::config::Mode;
 use stateset::StateSet;
 
@@ -28,6 +29,12 @@ const DIVISOR: u64 = 1021;
 
 // The most rows: their numbers have 16 bits.
 const MOST_ROWS: usize = 65535;
+
+// The numbers that a caller lends for rows, where much is to be kept.
+pub const ROWS: usize = 1024;
+
+// The numbers that it lends for their steps.
+pub const STEPS: usize = 32768;
 
 // The columns of a mode where a machine has this many letters: one that is no letter's, and one for each, letter 0 among them.
 pub fn columns_for(letters: usize) -> usize
@@ -53,7 +60,7 @@ pub struct Shape {
 
 // The number of a mode.
 fn index_of(mode: Mode) -> usize
-    ensures { λ r. ⌜ (r ≡ modeIndex mode) × (r < 3) ⌝ }
+    ensures { λ r. ⌜ (r ≡ modeNumber mode) × (r < 3) ⌝ }
 {
     match mode {
         Mode::Normal => 0,

@@ -2,8 +2,8 @@
 //!
 //! Each section prints its own table. With names after `--`, only the sections named run: `checking`, `sheet`,
 //! `recognize` (with a run, one call a word), `words` (yes or no for a list of words in one call), `listing` (the same by
-//! the listing program, as a process), `survey`, `common`. A further call is measured by a function like
-//! [`checking::section`] and one more line in `main`.
+//! the listing program, as a process), `reach` (the states that runs reach, one call a word), `survey`, `common`. A
+//! further call is measured by a function like [`checking::section`] and one more line in `main`.
 
 mod checking;
 mod common;
@@ -14,21 +14,24 @@ mod plain_common;
 mod plain_decide;
 mod plain_listing;
 mod plain_moves;
+mod plain_reach;
 mod plain_recognize;
 mod plain_sheet;
 mod plain_words;
+mod reach;
 mod recognize;
 mod sheet;
 mod survey;
 mod words;
 
 fn main() {
-    let sections: [(&str, fn()); 7] = [
+    let sections: [(&str, fn()); 8] = [
         ("checking", checking::section),
         ("sheet", sheet::section),
         ("recognize", recognize::section),
         ("words", words::section),
         ("listing", listing::section),
+        ("reach", reach::section),
         ("survey", survey::section),
         ("common", common::section),
     ];

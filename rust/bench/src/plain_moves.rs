@@ -1,5 +1,5 @@
-//! The moves of a machine over sets of states, as the plain recognizer and the plain listing take them. A set is a
-//! 64-bit number.
+//! The moves of a machine over sets of states, as the plain recognizer, the plain listing and the plain sets take them.
+//! A set is a 64-bit number.
 
 use zagvirk::{Machine, BUFFERING, FINAL, INITIAL, MATCHING};
 

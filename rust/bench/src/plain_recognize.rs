@@ -83,7 +83,7 @@ pub fn recognize(
 }
 
 /// A number from 1 for each letter of the word, 0 for the others; the greatest.
-fn numbers(word: &[u8]) -> ([u8; 256], usize) {
+pub fn numbers(word: &[u8]) -> ([u8; 256], usize) {
     let mut letters = [0; 256];
     let mut count = 0;
     for &letter in word {

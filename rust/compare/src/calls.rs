@@ -7,6 +7,7 @@ use zagvirk::accepts::{DecidedRecord, WordsAnsweredRecord};
 use zagvirk::common::{CommonRecord, CommonWord, Lengths};
 use zagvirk::copies::{Copies, CopiesRecord};
 use zagvirk::product::JoinedRecord;
+use zagvirk::reach::{Reach, ReachRecord};
 use zagvirk::recognize::RecognizedRecord;
 use zagvirk::sheet::{ReadRecord, WrittenRecord};
 use zagvirk::spelling::TranslatedRecord;
@@ -184,6 +185,59 @@ pub fn answers<W: AsRef<[u8]>>(
     let answers = zagvirk::accepts::answers(Table::new(machine, list), words);
     let found = answers.map(|answers| answers.collect());
     kept_list.same("answers", list);
+    found
+}
+
+/// Makes a call that reads a list and a word and writes sets of states.
+fn reaching<R>(
+    (list, word, sets): (&[u16], &[u8], &mut [u64]),
+    call: impl FnOnce(&mut [u64]) -> R,
+    written: impl FnOnce(&R) -> usize,
+) -> R {
+    let kept_list = Kept::new("list", list);
+    let kept_word = Kept::new("word", word);
+    let kept_sets = Kept::new("slice for sets", sets);
+    let found = call(sets);
+    kept_list.same("reach", list);
+    kept_word.same("reach", word);
+    kept_sets.same_past("reach", written(&found), sets);
+    found
+}
+
+/// `zagvirk::reach::reach_record`.
+pub fn reach_record(machine: &Machine, list: &[u16], word: &[u8], sets: &mut [u64]) -> ReachRecord {
+    reaching(
+        (list, word, sets),
+        |sets| zagvirk::reach::reach_record(Table::new(machine, list), word, sets),
+        |found| found.sets,
+    )
+}
+
+/// `zagvirk::reach::reach_into`.
+pub fn reach_into(
+    machine: &Machine,
+    list: &[u16],
+    word: &[u8],
+    sets: &mut [u64],
+) -> Result<usize, Refusal> {
+    reaching(
+        (list, word, sets),
+        |sets| zagvirk::reach::reach_into(Table::new(machine, list), word, sets),
+        |found| found.unwrap_or(0),
+    )
+}
+
+/// `zagvirk::reach::reach`.
+pub fn reach<'a>(
+    machine: &'a Machine,
+    list: &'a [u16],
+    word: &'a [u8],
+) -> Result<Reach<'a>, Refusal> {
+    let kept_list = Kept::new("list", list);
+    let kept_word = Kept::new("word", word);
+    let found = zagvirk::reach::reach(Table::new(machine, list), word);
+    kept_list.same("reach", list);
+    kept_word.same("reach", word);
     found
 }
 

@@ -76,6 +76,13 @@ pub fn filled_bytes(length: usize) -> Vec<u8> {
     (0..length).map(|i| 129 + (i % 113) as u8).collect()
 }
 
+/// What a lent slice of 64-bit numbers holds before a call: numbers that no call is likely to write.
+pub fn filled_numbers(length: usize) -> Vec<u64> {
+    (0..length)
+        .map(|i| 0xa5c3_0000_5a3c_0000 + i as u64)
+        .collect()
+}
+
 /// The machine of a result after a refusal.
 pub const NO_MACHINE: zagvirk::Machine = zagvirk::Machine {
     states: 0,

@@ -61,6 +61,7 @@ fn readme_examples() {
     for example in [
         "rust/compare/tests/c/readme.c",
         "rust/zagvirk/examples/readme.rs",
+        "rust/zagvirk/examples/why_not.rs",
     ] {
         assert!(readme.contains(&text(example)), "README.md shows {example}");
     }

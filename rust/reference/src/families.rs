@@ -6,9 +6,25 @@ use std::ops::Range;
 /// All machines with `states` states over one letter whose set of transitions is in `subsets`: bit k stands for transition
 /// k of all there can be, in rising order.
 pub fn small_machines(states: usize, subsets: Range<usize>) -> Vec<Machine> {
+    machines_with(states, 1, subsets)
+}
+
+/// All machines with `states` states over `letters` letters that have at most `most` transitions.
+pub fn few_transitions(states: usize, letters: usize, most: u32) -> Vec<Machine> {
+    let all = states * (letters + 1) * states;
+    let few = (0..1 << all).filter(|subset: &usize| subset.count_ones() <= most);
+    machines_with(states, letters, few)
+}
+
+/// All machines whose set of transitions is one of the subsets.
+fn machines_with(
+    states: usize,
+    letters: usize,
+    subsets: impl Iterator<Item = usize>,
+) -> Vec<Machine> {
     let mut all = Vec::new();
     for from in 0..states {
-        for letter in 0..2 {
+        for letter in 0..=letters {
             for to in 0..states {
                 all.push((from, letter, to));
             }
@@ -25,7 +41,7 @@ pub fn small_machines(states: usize, subsets: Range<usize>) -> Vec<Machine> {
             let marks: Vec<u8> = (0..states as u32)
                 .map(|state| good[number / good.len().pow(state) % good.len()])
                 .collect();
-            found.push(Machine::new(1, &marks, &chosen));
+            found.push(Machine::new(letters, &marks, &chosen));
         }
     }
     found

@@ -10,6 +10,7 @@
 //! - [`published`]: configurations with strings, the relation "yields", recognition by breadth-first search.
 //! - [`shortest`]: recognition of long words, with the shortest run that comes first in order of its entries.
 //! - [`accepts`]: yes or no without a run, for a word and for a list of words.
+//! - [`reach`]: the states that runs reach at each position of a word in each mode.
 //! - [`sheet`]: reader and writer of sheets.
 //! - [`spelling`]: written words to letters.
 //! - [`product`]: the joined machine.
@@ -45,6 +46,7 @@ mod machine;
 pub mod moves;
 pub mod product;
 pub mod published;
+pub mod reach;
 mod refusal;
 pub mod relations;
 pub mod sheet;

@@ -1,7 +1,7 @@
 //! Refusals: what a call turns down.
 
-/// The number of a refusal (document 01: turned down) and, for 15, 17 to 20 and 35, the length the slice needs in
-/// its own elements; 0 otherwise.
+/// The number of a refusal (document 01: turned down) and, for 15, 17 to 20, 35 and 36, the length the slice needs
+/// in its own elements; 0 otherwise.
 #[derive(Clone, Copy, PartialEq, Eq, Debug)]
 pub struct Refusal {
     pub number: u8,

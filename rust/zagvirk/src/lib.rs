@@ -12,6 +12,7 @@
 //! - [`copies`]: the copy list of an accepting run.
 //! - [`recognize`]: whether a machine accepts a word, with a run.
 //! - [`accepts`]: yes or no without a run, for a word or for each word of a list.
+//! - [`reach`]: the states that runs reach at each position of a word, and why a word is not accepted.
 //! - [`common`]: a shortest word that a machine and a plain machine both accept, with a run of each.
 //! - [`Refusal`]: why a call turned its input down.
 //! - [`records`]: `step` and `check_run` with the records as they cross the boundary, for any mode byte.
@@ -37,8 +38,8 @@
 //! [`accepts::accept_words`] does so once for a whole list of words, and [`accepts::answers`] once for 65,536 words of an
 //! iterator. [`recognize::recognize`] writes a run of a word that is accepted, which takes longer than the answer.
 //!
-//! No call allocates but [`common::find`] and [`accepts::answers`]. A call that writes does so only to the slices it
-//! takes as `&mut`: on success at their fronts, on a refusal nowhere.
+//! No call allocates but [`common::find`], [`accepts::answers`] and [`reach::reach`]. A call that writes does so only to
+//! the slices it takes as `&mut`: on success at their fronts, on a refusal nowhere.
 //!
 //! The stack that a thread needs for a call stands in `include/zagvirk.h`, measured: 480 KB at most, for [`recognize`].
 //!
@@ -49,6 +50,7 @@ pub mod accepts;
 pub mod common;
 pub mod copies;
 pub mod product;
+pub mod reach;
 pub mod recognize;
 pub mod records;
 mod refusal;

@@ -49,10 +49,12 @@ pub enum Refusal {
     EndsBroken,
     /// 35: the slice for answers is too short.
     AnswersTooShort { needed: usize },
+    /// 36: the slice for sets of states is too short.
+    SetsTooShort { needed: usize },
 }
 
 impl Refusal {
-    /// The number of the refusal: up to 20 that of document 01, 34 and 35 are this library's own.
+    /// The number of the refusal: up to 20 that of document 01, 34 to 36 are this library's own.
     pub fn number(self) -> u8 {
         match self {
             Refusal::LineCutShort => 1,
@@ -77,6 +79,7 @@ impl Refusal {
             Refusal::CopiesTooShort { .. } => 20,
             Refusal::EndsBroken => 34,
             Refusal::AnswersTooShort { .. } => 35,
+            Refusal::SetsTooShort { .. } => 36,
         }
     }
 
@@ -88,7 +91,8 @@ impl Refusal {
             | Refusal::WordTooShort { needed }
             | Refusal::SheetTooShort { needed }
             | Refusal::CopiesTooShort { needed }
-            | Refusal::AnswersTooShort { needed } => needed,
+            | Refusal::AnswersTooShort { needed }
+            | Refusal::SetsTooShort { needed } => needed,
             _ => 0,
         }
     }
@@ -119,7 +123,8 @@ impl Refusal {
             20 => Refusal::CopiesTooShort { needed },
             34 => Refusal::EndsBroken,
             35 => Refusal::AnswersTooShort { needed },
-            _ => unreachable!("refusals are numbered 1 to 20, 34 and 35"),
+            36 => Refusal::SetsTooShort { needed },
+            _ => unreachable!("refusals are numbered 1 to 20 and 34 to 36"),
         })
     }
 }
@@ -151,6 +156,7 @@ impl std::fmt::Display for Refusal {
             Refusal::CopiesTooShort { .. } => "the slice for copies is too short",
             Refusal::EndsBroken => "the ends of the words fall, or lie past the letters",
             Refusal::AnswersTooShort { .. } => "the slice for answers is too short",
+            Refusal::SetsTooShort { .. } => "the slice for sets of states is too short",
         };
         write!(f, "refusal {}: {text}", self.number())?;
         match self.needed() {

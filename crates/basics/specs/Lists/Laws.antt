@@ -51,6 +51,10 @@ module _ {A : Type 0} where
       ∙ (ap (λ (n : ℕ). front ++ b ++ drop (n + length b) l) (sym e)
       ∙ (ap (λ (n : ℕ). front ++ b ++ drop n l) past ∙ ap (λ (x : List A). x ++ drop (at + length (a ++ b)) l) (append-assoc (take at l) a b))))
 
+  -- b put right after a
+  pub put-more : (l l1 l2 a b : List A) (at next : ℕ) → l1 ≡ put at l a → l2 ≡ put next l1 b → next ≡ at + length a → at + length a + length b ≤ length l → l2 ≡ put at l (a ++ b)
+  put-more l l1 l2 a b at next e f n h = f ∙ (ap (λ (x : List A). put next x b) e ∙ put-put at next l a b n h)
+
   pub put-one : (l : List A) (i : ℕ) (a : A) → i < length l → set l i a ≡ put i l (a ∷ [])
   unfolding put
   put-one l i a h = sets-eq (a ∷ []) l i (omega arith)

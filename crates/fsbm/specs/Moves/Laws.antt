@@ -1,5 +1,6 @@
 -- Where an allowed move leads. Assumes nothing.
 --
+-- mode-below, mode-same == a mode's number is below 3, and tells it
 -- reads-suc            == a letter that is read stands at the position, before the end
 -- advanced-suc         == a letter that is read moves the position on by one
 -- advanced-fits        == the position after the letter: not before the old one, nor past the end
@@ -25,7 +26,7 @@ use borrow.Author.Tests.{ltb-true, ltb-false, lt-ltb, le-ltb, eqb-true, eq-eqb}
 use Rattle.basics.specs.Search.Laws.{and-true, and-both-true}
 use Rattle.basics.specs.Bools.{cond-elim, not-says, says-not, not-and-says, says-not-and}
 use Rattle.fsbm.specs.Machine.{wellFormed, transitionAt, buffering, matching, bothMatching}
-use Rattle.fsbm.specs.Moves.{wellPlaced, readsLetter, advanced, passes, readsStored, mayTake, after, mayChange, changed, goes, changes, move, startAt, backToNormal}
+use Rattle.fsbm.specs.Moves.{modeNumber, wellPlaced, readsLetter, advanced, passes, readsStored, mayTake, after, mayChange, changed, goes, changes, move, startAt, backToNormal}
 use Rattle.fsbm.specs.Published.{Listed}
 use Rattle.fsbm.specs.Rules.{Rules, rules, Placed, placed, unplaced}
 use Rattle.fsbm.specs.declared.machine.Machine.{Machine}
@@ -34,6 +35,24 @@ use Rattle.fsbm.specs.declared.config.Config.{Config}
 use Rattle.fsbm.specs.declared.config.Move.{Move}
 use Rattle.fsbm.specs.declared.config.Mode.{Mode}
 use Rattle.fsbm.specs.declared.config.Mode.the-variants.{Normal, Buffering, Emptying}
+
+-- The modes as numbers
+
+pub mode-below : (t : Mode) → modeNumber t < 3
+mode-below Normal = omega arith
+mode-below Buffering = omega arith
+mode-below Emptying = omega arith
+
+pub mode-same : (s t : Mode) → modeNumber s ≡ modeNumber t → s ≡ t
+mode-same Normal Normal e = refl
+mode-same Normal Buffering e = absurd (omega arith)
+mode-same Normal Emptying e = absurd (omega arith)
+mode-same Buffering Normal e = absurd (omega arith)
+mode-same Buffering Buffering e = refl
+mode-same Buffering Emptying e = absurd (omega arith)
+mode-same Emptying Normal e = absurd (omega arith)
+mode-same Emptying Buffering e = absurd (omega arith)
+mode-same Emptying Emptying e = refl
 
 pub reads-suc : (w : List ℕ) (p e x : ℕ) → readsLetter w p e (suc x) ≡ true → (p < e) × (getD w p 0 ≡ suc x)
 unfolding readsLetter

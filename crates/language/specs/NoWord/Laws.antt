@@ -30,8 +30,8 @@ use Rattle.language.specs.Agreement.{accepting-published}
 use Rattle.basics.specs.Bools.{false-iff, not-says}
 use Rattle.language.specs.Chosen.{numbers, numbers-of, chosen, chosen-of}
 use Rattle.language.specs.NoWord.{Control, control, sameControl, changeable, nextMode, crossings, follows, controls, noWord}
-use Rattle.language.specs.Reached.{sameMode}
-use Rattle.language.specs.Reached.Laws.{sameMode-law}
+use Rattle.fsbm.specs.Reaches.{sameMode}
+use Rattle.fsbm.specs.Reaches.Laws.{sameMode-law}
 
 pub sameControl-law : (s t : Control) → (sameControl s t ≡ true) ↔ (s ≡ t)
 unfolding sameControl

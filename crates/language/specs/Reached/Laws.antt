@@ -1,6 +1,6 @@
 -- The laws of specs/Reached.antt.
 --
--- sameMode-law, sameConfig-law == the tests are equality
+-- sameConfig-law        == the test is equality
 -- move-entry            == an allowed entry is one of `entries`
 -- successor-of, successor-to == the successors of c are where its allowed entries lead
 -- entries-path, path-entries == entries that lead from c to an accepting configuration are a path of successors to one
@@ -25,6 +25,8 @@ use Rattle.fsbm.specs.Moves.{mayChange, move, startAt, accepts, acceptingFrom, 
 use Rattle.fsbm.specs.Moves.Laws.{move-elim}
 use Rattle.fsbm.specs.Accepted.{runBound, accepted}
 use Rattle.fsbm.specs.Accepted.Laws.{accepted-true}
+use Rattle.fsbm.specs.Reaches.{sameMode}
+use Rattle.fsbm.specs.Reaches.Laws.{sameMode-law}
 use Rattle.fsbm.specs.declared.machine.Machine.{Machine}
 use Rattle.fsbm.specs.declared.config.Config.{Config}
 use Rattle.fsbm.specs.declared.config.Mode.{Mode}
@@ -32,28 +34,9 @@ use Rattle.fsbm.specs.declared.config.Mode.the-variants.{Normal, Buffering, Emp
 use Rattle.basics.specs.Bools.{same-truth}
 use Rattle.language.specs.Bound.{accepted-iff-run}
 use Rattle.language.specs.Chosen.{numbers, numbers-of, numbers-to, chosen-of, chosen-to}
-use Rattle.language.specs.Reached.{sameMode, sameConfig, entries, successors, starts, reached, decided}
+use Rattle.language.specs.Reached.{sameConfig, entries, successors, starts, reached, decided}
 
 -- Equality
-
-sameMode-to : (s t : Mode) → sameMode s t ≡ true → s ≡ t
-sameMode-to Normal Normal e = refl
-sameMode-to Normal Buffering e = absurd (false≢true e)
-sameMode-to Normal Emptying e = absurd (false≢true e)
-sameMode-to Buffering Normal e = absurd (false≢true e)
-sameMode-to Buffering Buffering e = refl
-sameMode-to Buffering Emptying e = absurd (false≢true e)
-sameMode-to Emptying Normal e = absurd (false≢true e)
-sameMode-to Emptying Buffering e = absurd (false≢true e)
-sameMode-to Emptying Emptying e = refl
-
-sameMode-refl : (t : Mode) → sameMode t t ≡ true
-sameMode-refl Normal = refl
-sameMode-refl Buffering = refl
-sameMode-refl Emptying = refl
-
-pub sameMode-law : (s t : Mode) → (sameMode s t ≡ true) ↔ (s ≡ t)
-sameMode-law s t = (sameMode-to s t, λ e. subst (λ (u : Mode). sameMode s u ≡ true) e (sameMode-refl s))
 
 pub sameConfig-law : (c d : Config) → (sameConfig c d ≡ true) ↔ (c ≡ d)
 unfolding sameConfig
@@ -68,7 +51,7 @@ sameConfig-law c d = (to, λ e. subst (λ (x : Config). sameConfig c x ≡ true)
         λ i. record {
           position = eqb-true (c .position) (d .position) p i;
           state = eqb-true (c .state) (d .state) q i;
-          mode = sameMode-to (c .mode) (d .mode) t i;
+          mode = sameMode-law (c .mode) (d .mode) .0 t i;
           start = eqb-true (c .start) (d .start) s i;
           end = eqb-true (c .end) (d .end) e i;
         }
@@ -77,7 +60,7 @@ sameConfig-law c d = (to, λ e. subst (λ (x : Config). sameConfig c x ≡ true)
     of =
         and-both-true (eqb (c .position) (c .position)) _ (eq-eqb (c .position) (c .position) refl)
         (and-both-true (eqb (c .state) (c .state)) _ (eq-eqb (c .state) (c .state) refl)
-        (and-both-true (sameMode (c .mode) (c .mode)) _ (sameMode-refl (c .mode))
+        (and-both-true (sameMode (c .mode) (c .mode)) _ (sameMode-law (c .mode) (c .mode) .1 refl)
         (and-both-true (eqb (c .start) (c .start)) _ (eq-eqb (c .start) (c .start) refl) (eq-eqb (c .end) (c .end) refl))))
 
 -- Successors

@@ -21,7 +21,7 @@ use lib.ListN.{length, getD, set, take, drop, length-set, length-drop, length-ap
 use lib.Seq.{slice, slice-cons, slice-empty, length-slice, ext-getD, drop-length, drop-set-lt, drop-drop, take-suc-set}
 use lib.Dec.{ltb, eqb}
 use borrow.Author.Tests.{ltb-true, eqb-true, eq-eqb, lt-ltb}
-use Rattle.stateset.specs.Set.{width, below}
+use Rattle.stateset.specs.Set.{width, In, below}
 use Rattle.stateset.specs.Set.Laws.{in-and, below-is}
 use Rattle.basics.specs.Search.Laws.{and-true, and-both-true, true-or-false}
 use Rattle.graphs.specs.Paths.{Path, here, step}
@@ -41,13 +41,14 @@ use Rattle.language.specs.Strings.{slice-none}
 use Rattle.fsbm.specs.Entries.{entryOf}
 use Rattle.language.specs.Agreement.{published, move-yields, yields-move, is-normal}
 use Rattle.language.specs.NoWord.{nextMode}
+use Rattle.language.specs.Reaches.{reaches-iff-published}
 use Rattle.layers.specs.Costs.{none, at, Near, Step, Go, Best}
 use Rattle.layers.specs.Costs.Laws.{Fits, go-fit, go-step}
 use Rattle.layers.specs.Layers.{blankRow, Begins}
 use Rattle.layers.specs.Layers.Laws.{blank-at}
 use Rattle.tables.specs.Tables.{nearOf, rowAt, PositionRows, EmptyRow, BufferRow, Sized}
 use Rattle.tables.specs.Tables.Laws.{slice-at, front-letters, buffer-past}
-use Rattle.decide.specs.Covers.{Covers}
+use Rattle.decide.specs.NormalSets.{NormalSets}
 use Rattle.runs.specs.Walk.{endOf, Second, Ready, changeEntry, Entered, Fresh, Refreshed, Started, Written}
 
 -- Where the cost is read from
@@ -288,29 +289,31 @@ module _ (m : Machine) (list sets w : List ℕ) where
   run-more (more x r) y = more x (run-more r y)
 
   -- what a run leads to is kept
-  run-kept : m .states ≤ 64 → Covers m list w sets → (o : ℕ) → fsbmOf m list .I o → (c : Config) → Placed m w c (c .mode) → Run (fsbmOf m list) (config w o [] Normal) (published w c) → c .mode ≡ Normal
+  run-kept : wellFormed m list ≡ true → NormalSets m list w sets → (o : ℕ) → fsbmOf m list .I o → (c : Config) → Placed m w c (c .mode) → Run (fsbmOf m list) (config w o [] Normal) (published w c) → c .mode ≡ Normal
       → Near (nearOf m w sets) (drop (c .position) w) (c .state)
-  run-kept small covers o first c pl run e =
-      let empty : c .start ≡ c .end = eqb-true (c .start) (c .end) (subst (λ (t : Mode). bufferFits c t ≡ true) e (pl .fits)) in
-      let stored : slice (c .start) (c .end) w ≡ [] = ap (λ (n : ℕ). slice n (c .end) w) empty ∙ slice-empty (c .end) w in
-      let run′ : Run (fsbmOf m list) (config w o [] Normal) (config (drop (c .position) w) (c .state) [] Normal) =
-      subst (λ (v : List ℕ). Run (fsbmOf m list) (config w o [] Normal) (config (drop (c .position) w) (c .state) v Normal)) stored
-      (subst (λ (t : Mode). Run (fsbmOf m list) (config w o [] Normal) (config (drop (c .position) w) (c .state) (slice (c .start) (c .end) w) t)) e run) in
+  run-kept good reached o first c pl run e =
+      let run′ : Run (fsbmOf m list) (config w o [] Normal) (config (drop (c .position) w) (c .state) (slice (c .start) (c .end) w) Normal) =
+      subst (λ (t : Mode). Run (fsbmOf m list) (config w o [] Normal) (config (drop (c .position) w) (c .state) (slice (c .start) (c .end) w) t)) e run in
+      let there = reached (c .position) (pl .in-word) .members (c .state) .1
+      (reaches-iff-published m list w good (c .position) Normal (c .state) .1 (record { first = o; first-initial = first; within = pl .in-word; buffer = slice (c .start) (c .end) w; run = run′ })) in
       in-and (getD sets (length w - length (drop (c .position) w)) 0) (below (m .states)) (c .state) .1
-      (covers o (c .state) (drop (c .position) w) first run′, below-is (m .states) .members (c .state) .1 (pl .state-below, fits))
+      (subst (λ (n : ℕ). In (getD sets n 0) (c .state)) back there, below-is (m .states) .members (c .state) .1 (pl .state-below, fits))
     where
       fits : c .state < width
-      fits = omega (arith, pl .state-below, small)
+      fits = omega (arith, pl .state-below, rules m list good .states-fit)
 
-  pub entries-go : wellFormed m list ≡ true → Covers m list w sets → (o : ℕ) → fsbmOf m list .I o → (c : Config) → wellPlaced (m .states) (length w) c ≡ true
+      back : c .position ≡ length w - length (drop (c .position) w)
+      back = omega (arith, pl .in-word, length-drop (c .position) w)
+
+  pub entries-go : wellFormed m list ≡ true → NormalSets m list w sets → (o : ℕ) → fsbmOf m list .I o → (c : Config) → wellPlaced (m .states) (length w) c ≡ true
       → Run (fsbmOf m list) (config w o [] Normal) (published w c) → (es : List ℕ) → acceptingFrom m list w c es ≡ true → Go m list (nearOf m w sets) (published w c) (length es)
   unfolding acceptingFrom
-  entries-go good covers o first c p run [] h = accepts-go c h
-  entries-go good covers o first c p run (e ∷ es) h =
+  entries-go good reached o first c p run [] h = accepts-go c h
+  entries-go good reached o first c p run (e ∷ es) h =
       let (a, rest) = and-true (move m list w c e .allowed) (acceptingFrom m list w (move m list w c e .config) es) h in
       let y = move-yields m list w c e a .0 in
-      go-step m list y (run-kept (rules m list good .states-fit) covers o first c (placed m w c p) run)
-      (entries-go good covers o first (move m list w c e .config) (move-placed m list w good c e a) (run-more run y) es rest)
+      go-step m list y (run-kept good reached o first c (placed m w c p) run)
+      (entries-go good reached o first (move m list w c e .config) (move-placed m list w good c e a) (run-more run y) es rest)
 
   path-none : {C E : Configuration} {n : ℕ} → Path Configuration (Step m list (nearOf m w sets)) C E n → n ≡ 0 → C ≡ E
   path-none here e = refl
@@ -488,27 +491,27 @@ module _ (m : Machine) (list sets w : List ℕ) where
   start-best t row h e q lt = rw e (h .normal q lt)
 
   -- an accepting run has at least as many entries
-  least-run : wellFormed m list ≡ true → Covers m list w sets → (t : List (List ℕ)) (row : List ℕ) (q : ℕ) → PositionRows m list sets w t 0 → row ≡ rowAt t 0 → Started m row (m .states) q → (run : List ℕ) → accepting m list w run ≡ true
+  least-run : wellFormed m list ≡ true → NormalSets m list w sets → (t : List (List ℕ)) (row : List ℕ) (q : ℕ) → PositionRows m list sets w t 0 → row ≡ rowAt t 0 → Started m row (m .states) q → (run : List ℕ) → accepting m list w run ≡ true
       → (q < m .states) × (1 + at row q ≤ length run)
   unfolding accepting
-  least-run good covers t row q rows e s [] a = absurd (false≢true a)
-  least-run good covers t row q rows e s (p ∷ es) a =
+  least-run good reached t row q rows e s [] a = absurd (false≢true a)
+  least-run good reached t row q rows e s (p ∷ es) a =
       let (lt, r) = and-true (ltb p (m .states)) (initial (m .marks) p && acceptingFrom m list w (startAt p) es) a in
       let (i, h) = and-true (initial (m .marks) p) (acceptingFrom m list w (startAt p) es) r in
       let below = ltb-true p (m .states) lt in
-      let least = start-best t row rows e p below .least (length es) (entries-go m list sets w good covers p (below, i) (startAt p) (start-placed p below) done es h) in
+      let least = start-best t row rows e p below .least (length es) (entries-go m list sets w good reached p (below, i) (startAt p) (start-placed p below) done es h) in
       let (q-below, q-least) = s .least p below i in
       (q-below, omega arith)
     where
       start-placed : (p : ℕ) → p < m .states → wellPlaced (m .states) (length w) (startAt p) ≡ true
       start-placed p lt = unplaced m w (startAt p) (record { in-word = omega arith; state-below = lt; forward = omega arith; behind = omega arith; fits = refl })
 
-  pub begun : (t : List (List ℕ)) (row : List ℕ) (q size : ℕ) → wellFormed m list ≡ true → Covers m list w sets → length w ≤ 255 → accepted m list w ≡ true → runBound m (length w) ≤ size → PositionRows m list sets w t 0 → row ≡ rowAt t 0
+  pub begun : (t : List (List ℕ)) (row : List ℕ) (q size : ℕ) → wellFormed m list ≡ true → NormalSets m list w sets → length w ≤ 255 → accepted m list w ≡ true → runBound m (length w) ≤ size → PositionRows m list sets w t 0 → row ≡ rowAt t 0
       → Started m row (m .states) q → Begun m list sets w size q (at row q)
   unfolding runBound
-  begun t row q size good covers short ok room rows e s =
+  begun t row q size good reached short ok room rows e s =
       let (run, len, below, a) = accepted-true m list w .0 ok in
-      let (q-below, long) = least-run good covers t row q rows e s run a in
+      let (q-below, long) = least-run good reached t row q rows e s run a in
       let limit : runBound m (length w) ≤ 49152 = bound-small (m .states) (length w + 1) (rules m list good .states-fit) (omega arith) in
       record {
         below = q-below;
@@ -516,5 +519,5 @@ module _ (m : Machine) (list sets w : List ℕ) where
         best = start-best t row rows e q q-below;
         small = omega arith;
         room = omega arith;
-        fewest = λ other h. least-run good covers t row q rows e s other h .1;
+        fewest = λ other h. least-run good reached t row q rows e s other h .1;
       }

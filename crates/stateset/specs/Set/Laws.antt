@@ -16,13 +16,13 @@
 -- lowest-in, lowest-lt, lowest-not == the lowest is a member, below the width, and nothing below it is a member
 -- less-one, in-less-one            == the digits of x - 1, and the members of x that are members of x - 1: all but the lowest
 -- rest-is, rest-none, lowest-removed == what is left of a set without its lowest member
--- empty-is, below-is, added-is, single-is, removed-is, union-is, intersection-is, without-is, lowest-is
+-- empty-is, below-is, collected-is, added-is, single-is, removed-is, union-is, intersection-is, without-is, lowest-is
 --                                  == what each function returns, with its members
 -- removed-size                     == the size after removing
 -- drop-lowest, union-grows         == the measure of a loop that takes out the lowest member; of one that joins sets until nothing changes
-use mathlib.Core.Path.{_≡_, refl, sym, _∙_, ap}
+use mathlib.Core.Path.{_≡_, refl, sym, _∙_, ap, subst}
 use mathlib.Core.Logic.{_↔_, _⊎_, inl, inr, ⊎-elim}
-use mathlib.Core.Bool.{true, false}
+use mathlib.Core.Bool.{Bool, true, false, cond, false≢true}
 use Prim.Native.Nat.{ℕ, zero, suc, _+_, _-_, _*_, _/_, _%_, _^_, _≤_, _<_, min, max}
 use native.Mathlib.Omega.{arith}
 use native.Mathlib.Nat.{pow-suc, div-eq-of-lt, lt-of-lt-of-le, sub-zero, mod-eq-of-lt, one-mul}
@@ -33,7 +33,7 @@ use lib.Arith.{bin-ind}
 use lib.Pow.{shr-shr, pow-mono, pow-pos, pow-lt}
 use lib.Bits.{bitAnd, bitOr, or-lt, and-lt, or-zero-r, and-step, or-step, and-shr, or-shr}
 use lib.Count.{ones, trailingZeros, under, ones-step, ones-le, trailing-le, trailing-of-zero}
-use Rattle.stateset.specs.Set.{width, digit, In, has, added, removed, without, below, lowestOf, SetIs, Lowest}
+use Rattle.stateset.specs.Set.{width, digit, In, has, added, removed, without, below, collected, lowestOf, SetIs, Lowest}
 
 -- Digits
 
@@ -587,6 +587,40 @@ below-is n =
       fits = let h = pow-mono {i = min n width} {j = width} (omega arith) in let k = pow-pos (min n width) in omega arith;
       members = λ p. (λ m. let l = in-full (min n width) p .0 m in omega arith, λ k. in-full (min n width) p .1 (let a = k .0 in let b = k .1 in omega arith));
     }
+
+-- one state more
+collected-more : (n : ℕ) (p : ℕ → Bool) → SetIs (collected n p) (collected n p) (λ q. (q < n) × (q < width) × (p q ≡ true))
+    → SetIs (cond (p n) (added (collected n p) n) (collected n p)) (cond (p n) (added (collected n p) n) (collected n p)) (λ q. (q < suc n) × (q < width) × (p q ≡ true))
+collected-more n p rest = at (p n) refl
+  where
+    more : SetIs (added (collected n p) n) (added (collected n p) n) (λ q. In (collected n p) q ⊎ ((q ≡ n) × (q < width)))
+    more = added-is (collected n p) n (rest .fits)
+
+    to : p n ≡ true → (q : ℕ) → In (collected n p) q ⊎ ((q ≡ n) × (q < width)) → (q < suc n) × (q < width) × (p q ≡ true)
+    to t q (inl m) = let k = rest .members q .0 m in (let z = k .0 in omega arith, k .1, k .2)
+    to t q (inr k) = (let z = k .0 in omega arith, k .1, subst (λ (x : ℕ). p x ≡ true) (sym (k .0)) t)
+
+    of : (q : ℕ) → (q < suc n) × (q < width) × (p q ≡ true) → Dec (q ≡ n) → In (collected n p) q ⊎ ((q ≡ n) × (q < width))
+    of q k (yes e) = inr (e, k .1)
+    of q k (no f) = inl (rest .members q .1 (let z = k .0 in omega arith, k .1, k .2))
+
+    without-it : p n ≡ false → (q : ℕ) → (q < suc n) × (q < width) × (p q ≡ true) → Dec (q ≡ n) → In (collected n p) q
+    without-it t q k (yes e) = absurd (false≢true (sym (subst (λ (x : ℕ). p x ≡ false) (sym e) t) ∙ k .2))
+    without-it t q k (no f) = rest .members q .1 (let z = k .0 in omega arith, k .1, k .2)
+
+    at : (b : Bool) → p n ≡ b → SetIs (cond b (added (collected n p) n) (collected n p)) (cond b (added (collected n p) n) (collected n p)) (λ q. (q < suc n) × (q < width) × (p q ≡ true))
+    at true t = record { value = refl; fits = more .fits; members = λ q. (λ m. to t q (more .members q .0 m), λ k. more .members q .1 (of q k (ℕ-discrete q n))) }
+    at false t =
+        record {
+          value = refl;
+          fits = rest .fits;
+          members = λ q. (λ m. let k = rest .members q .0 m in (let z = k .0 in omega arith, k .1, k .2), λ k. without-it t q k (ℕ-discrete q n));
+        }
+
+pub collected-is : (n : ℕ) (p : ℕ → Bool) → SetIs (collected n p) (collected n p) (λ q. (q < n) × (q < width) × (p q ≡ true))
+unfolding collected
+collected-is zero p = record { value = refl; fits = omega arith; members = λ q. (λ m. absurd (empty-in q m), λ k. let z = k .0 in absurd (omega arith)) }
+collected-is (suc n) p = collected-more n p (collected-is n p)
 
 pub lowest-is : (x : ℕ) → x < 2 ^ width → Lowest x (trailingZeros width x)
 lowest-is x h =

@@ -12,7 +12,7 @@
 -- found-or, found-some, has-some == what known answers, and what is there where it is not 0
 -- cell-small       == the products that say where a cell stands are small
 use Prim.Native.Nat.{ℕ, suc, _+_, _*_, _≤_, _<_}
-use mathlib.Core.Path.{_≡_, refl, sym, _∙_, ap, subst}
+use mathlib.Core.Path.{_≡_, sym, _∙_, ap, subst}
 use mathlib.Core.Logic.{_⊎_, inl, inr}
 use mathlib.Core.List.{List}
 use native.Mathlib.Omega.{arith}
@@ -22,29 +22,14 @@ use lib.ListN.{length, getD, set, length-set}
 use lib.Seq.{getD-set-same, getD-set-other}
 use Rattle.basics.specs.Pairs.{pair-below, pair-same}
 use Rattle.stateset.specs.Set.{In}
+use Rattle.fsbm.specs.Moves.{modeNumber}
+use Rattle.fsbm.specs.Moves.Laws.{mode-below, mode-same}
 use Rattle.fsbm.specs.declared.config.Mode.{Mode}
-use Rattle.fsbm.specs.declared.config.Mode.the-variants.{Normal, Buffering, Emptying}
 use Rattle.images.specs.Graph.{Members, From, Graph}
 use Rattle.images.proofs.SetCases.{members-as}
-use Rattle.subsets.specs.Rows.{slots, mostColumns, modeIndex, cellOf, Begun, Reads, Image, begun, reads, HasRow, Leads, Sized, Right, Kept, Found, Rowed, Noted}
+use Rattle.subsets.specs.Rows.{slots, mostColumns, cellOf, Begun, Reads, Image, begun, reads, HasRow, Leads, Sized, Right, Kept, Found, Rowed, Noted}
 
 -- cells
-
-index-below : (T : Mode) → modeIndex T < 3
-index-below Normal = omega arith
-index-below Buffering = omega arith
-index-below Emptying = omega arith
-
-index-same : (T U : Mode) → modeIndex T ≡ modeIndex U → T ≡ U
-index-same Normal Normal e = refl
-index-same Normal Buffering e = absurd (omega arith)
-index-same Normal Emptying e = absurd (omega arith)
-index-same Buffering Normal e = absurd (omega arith)
-index-same Buffering Buffering e = refl
-index-same Buffering Emptying e = absurd (omega arith)
-index-same Emptying Normal e = absurd (omega arith)
-index-same Emptying Buffering e = absurd (omega arith)
-index-same Emptying Emptying e = refl
 
 past-slots : (a c b d : ℕ) → slots + a + c ≡ slots + b + d → a + c ≡ b + d
 past-slots a c b d e = omega arith
@@ -54,18 +39,18 @@ three-same r a s b la lb e = (omega arith, omega arith)
 
 cells-apart : (columns r : ℕ) (T : Mode) (c s : ℕ) (U : Mode) (d : ℕ) → c < columns → d < columns → cellOf columns r T c ≡ cellOf columns s U d → (r ≡ s) × (T ≡ U) × (c ≡ d)
 cells-apart columns r T c s U d lc ld e =
-    let (a, b) = pair-same columns (r * 3 + modeIndex T) c (s * 3 + modeIndex U) d lc ld (past-slots ((r * 3 + modeIndex T) * columns) c ((s * 3 + modeIndex U) * columns) d e) in
-    let (x, y) = three-same r (modeIndex T) s (modeIndex U) (index-below T) (index-below U) a in
-    (x, index-same T U y, b)
+    let (a, b) = pair-same columns (r * 3 + modeNumber T) c (s * 3 + modeNumber U) d lc ld (past-slots ((r * 3 + modeNumber T) * columns) c ((s * 3 + modeNumber U) * columns) d e) in
+    let (x, y) = three-same r (modeNumber T) s (modeNumber U) (mode-below T) (mode-below U) a in
+    (x, mode-same T U y, b)
 
 below-three : (r a n c p : ℕ) → slots + p ≤ n → a + c < p → slots + a + c < n
 below-three r a n c p h l = omega arith
 
 pub cell-inside : (columns : ℕ) (rows steps : List ℕ) (r : ℕ) (T : Mode) (c : ℕ) → Sized columns rows steps → c < columns → 0 < r → r < getD rows 0 0 → cellOf columns r T c < length steps
 cell-inside columns rows steps r T c z lc some taken =
-    let i = index-below T in
-    below-three r ((r * 3 + modeIndex T) * columns) (length steps) c ((r * 3 + 3) * columns) (z .room r some taken)
-    (pair-below (r * 3 + 3) columns (r * 3 + modeIndex T) c (omega arith) lc)
+    let i = mode-below T in
+    below-three r ((r * 3 + modeNumber T) * columns) (length steps) c ((r * 3 + 3) * columns) (z .room r some taken)
+    (pair-below (r * 3 + 3) columns (r * 3 + modeNumber T) c (omega arith) lc)
 
 cell-past : (a c slot : ℕ) → slot < slots → slots + a + c ≡ slot → ⊥
 cell-past a c slot l e = omega arith
@@ -109,7 +94,7 @@ module _ (columns : ℕ) (rows steps : List ℕ) (s slot : ℕ) (z : Sized colum
 
   cell-now : (r : ℕ) (T : Mode) (c : ℕ) → getD steps′ (cellOf columns r T c) 0 ≡ getD steps (cellOf columns r T c) 0
   unfolding steps′
-  cell-now r T c = getD-set-other steps slot (cellOf columns r T c) taken 0 (λ e. cell-past ((r * 3 + modeIndex T) * columns) c slot low e)
+  cell-now r T c = getD-set-other steps slot (cellOf columns r T c) taken 0 (λ e. cell-past ((r * 3 + modeNumber T) * columns) c slot low e)
 
   made-sized : Sized columns rows′ steps′
   unfolding rows′ steps′

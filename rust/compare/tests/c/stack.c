@@ -20,6 +20,7 @@ static uint8_t word[LONGEST], sheet[64720], written[255];
 static uint16_t run[LONGEST + 8], first_run[200000], second_run[1000], copies[2];
 static uint8_t letters[LONG_PAIRS * 509], answers[WORDS];
 static size_t sheet_bytes, ends[WORDS];
+static uint64_t sets[768];
 
 static void add(zagvirk_machine *m, uint16_t *to, unsigned from, unsigned letter, unsigned end) {
   to[m->transitions * 3] = (uint16_t)from;
@@ -95,6 +96,17 @@ static void *accept_words(void *wrong) {
   return NULL;
 }
 
+/* In normal mode both tables end in state 2 alone, or nowhere. */
+static void *reach(void *wrong) {
+  zagvirk_reached reached = zagvirk_reach(largest, largest_list, 12000, word, 254, sets, 768);
+  if (reached.refusal != 0 || reached.sets != 765 || sets[762] != 4) *(int *)wrong = 18;
+  reached = zagvirk_reach(t, t_list, 18, word, 254, sets, 768);
+  if (reached.refusal != 0 || reached.sets != 765 || sets[762] != 4) *(int *)wrong = 18;
+  reached = zagvirk_reach(largest, largest_list, 12000, word, 255, sets, 768);
+  if (reached.refusal != 0 || reached.sets != 768 || sets[765] != 0) *(int *)wrong = 19;
+  return NULL;
+}
+
 static void *common_word(void *wrong) {
   zagvirk_common common = zagvirk_common_word(doubled, doubled_list, 42, plain, plain_list, 5937, word, 1000, first_run,
                                               200000, second_run, 1000);
@@ -141,12 +153,13 @@ typedef struct {
   size_t letters;
 } part;
 
-static part parts[7] = {
+static part parts[8] = {
     {small, ZAGVIRK_STACK_SMALL, LONGEST},
     {list_copies, ZAGVIRK_STACK_SMALL, 254},
     {join, ZAGVIRK_STACK_JOIN, 254},
     {accepts, ZAGVIRK_STACK_ACCEPTS, 254},
     {accept_words, ZAGVIRK_STACK_ACCEPT_WORDS, 254},
+    {reach, ZAGVIRK_STACK_REACH, 254},
     {common_word, ZAGVIRK_STACK_COMMON_WORD, 254},
     {recognize, ZAGVIRK_STACK_RECOGNIZE, 254},
 };
@@ -173,8 +186,8 @@ int main(void) {
   memset(written, 'z', sizeof written);
 
   /* From the least stack to the largest: a thread may be given the stack of one that has ended, if that is larger. */
-  qsort(parts, 7, sizeof parts[0], by_stack);
-  for (i = 0; i < 7; i++) {
+  qsort(parts, 8, sizeof parts[0], by_stack);
+  for (i = 0; i < 8; i++) {
     make_word(parts[i].letters);
     wrong = in_thread(parts[i].calls, parts[i].stack);
     if (wrong != 0) return wrong;

@@ -12,7 +12,7 @@ use Rattle.decide.proofs.Tables.{good-table, rooms}
 use lib.ListN.{replicate}
 use Rattle.basics.specs.Lists.Laws.{zeros-at}
 use Rattle.subsets.specs.Rows.Laws.{kept-start}
-use Rattle.decide.proofs.Decided.{decided, covered}
+use Rattle.decide.proofs.Decided.{decided, normal-sets}
 use Rattle.decide.proofs.StageCases.{stage-end}
 use borrow.Author.Needs.{needs}
 use Rattle.decide.proofs.positions.decide.Statement.{statement}
@@ -43,7 +43,7 @@ intersection-requires : tie.Need-intersection-requires
 intersection-requires c κs = search needs
 
 returns : tie.Need-returns
-returns c = (decided ((c .before .before .before .before .before .before .before .before .before .before .before .before .before) .args .m) (((c .before .before .before .before .before .before .before .before .before .before .before .before .before) .args .list) .now) (((c .before .before .before .before .before .before .before .before .before .before .before .before .before) .args .word) .now) (((c .before .before .before .before .before .before .before .before .before .before .before .before .before) .args .targets) .now) ((c .before .before .before .before .before .before .before .before .before .before .before .before .before) .pre .0) ((c .before .before .before .before .before .before .before .before .before .before .before .before .before) .pre .2) ((c .before .before .before .before .before .before .before .before .before .before .before .before .before) .args .kinds) ((c .before .before .before .before .before .before .before .before .before .before .before .before .before) .pre .3) _ _ (stage-end (graph (((c .before .before .before .before .before .before .before .before .before .before .before .before .before) .args .targets) .now) ((c .before .before .before .before .before .before .before .before .before .before .before .before .before) .args .m .states) ((c .before .before .before .before .before .before .before .before .before .before .before .before .before) .args .kinds .buffering) ((c .before .before .before .before .before .before .before .before .before .before .before .before .before) .args .kinds .matching)) (((c .before .before .before .before .before .before .before .before .before .before .before .before .before) .args .word) .now) ((c .before .before .before .before .before .before .before .before .before .before .before .before .before) .args .kinds .initial) _ (subst (λ (t : Shape). Stage (graph (((c .before .before .before .before .before .before .before .before .before .before .before .before .before) .args .targets) .now) (t .states) (t .g) (t .h)) (((c .before .before .before .before .before .before .before .before .before .before .before .before .before) .args .word) .now) ((c .before .before .before .before .before .before .before .before .before .before .before .before .before) .args .kinds .initial) ((c .before .before .before .before) .reach-all .last .1 .1 .1 .1 .1 .0) (length (((c .before .before .before .before .before .before .before .before .before .before .before .before .before) .args .word) .now) + 1)) ((c .before .before .before .before .before .before .before .before .before) .shape-of .ensures) ((c .before .before .before .before) .reach-all .ensures .0 ((c .before .before .before .before .before .before .before .before .before .before .before .before .before) .args .kinds .initial) ((c .before .before .before .before .before .before .before .before) .start-at .ensures _ _)))) (members-is (c .intersection .ensures)), covered ((c .before .before .before .before .before .before .before .before .before .before .before .before .before) .args .m) (((c .before .before .before .before .before .before .before .before .before .before .before .before .before) .args .list) .now) (((c .before .before .before .before .before .before .before .before .before .before .before .before .before) .args .word) .now) (((c .before .before .before .before .before .before .before .before .before .before .before .before .before) .args .targets) .now) ((c .before .before .before .before .before .before .before .before .before .before .before .before .before) .pre .0) ((c .before .before .before .before .before .before .before .before .before .before .before .before .before) .pre .2) ((c .before .before .before .before .before .before .before .before .before .before .before .before .before) .args .kinds) ((c .before .before .before .before .before .before .before .before .before .before .before .before .before) .pre .3) _ (subst (λ (t : Shape). Stage (graph (((c .before .before .before .before .before .before .before .before .before .before .before .before .before) .args .targets) .now) (t .states) (t .g) (t .h)) (((c .before .before .before .before .before .before .before .before .before .before .before .before .before) .args .word) .now) ((c .before .before .before .before .before .before .before .before .before .before .before .before .before) .args .kinds .initial) ((c .before .before .before .before) .reach-all .last .1 .1 .1 .1 .1 .0) (length (((c .before .before .before .before .before .before .before .before .before .before .before .before .before) .args .word) .now) + 1)) ((c .before .before .before .before .before .before .before .before .before) .shape-of .ensures) ((c .before .before .before .before) .reach-all .ensures .0 ((c .before .before .before .before .before .before .before .before .before .before .before .before .before) .args .kinds .initial) ((c .before .before .before .before .before .before .before .before) .start-at .ensures _ _))))
+returns c = (decided ((c .before .before .before .before .before .before .before .before .before .before .before .before .before) .args .m) (((c .before .before .before .before .before .before .before .before .before .before .before .before .before) .args .list) .now) (((c .before .before .before .before .before .before .before .before .before .before .before .before .before) .args .word) .now) (((c .before .before .before .before .before .before .before .before .before .before .before .before .before) .args .targets) .now) ((c .before .before .before .before .before .before .before .before .before .before .before .before .before) .pre .0) ((c .before .before .before .before .before .before .before .before .before .before .before .before .before) .pre .2) ((c .before .before .before .before .before .before .before .before .before .before .before .before .before) .args .kinds) ((c .before .before .before .before .before .before .before .before .before .before .before .before .before) .pre .3) _ _ (stage-end (graph (((c .before .before .before .before .before .before .before .before .before .before .before .before .before) .args .targets) .now) ((c .before .before .before .before .before .before .before .before .before .before .before .before .before) .args .m .states) ((c .before .before .before .before .before .before .before .before .before .before .before .before .before) .args .kinds .buffering) ((c .before .before .before .before .before .before .before .before .before .before .before .before .before) .args .kinds .matching)) (((c .before .before .before .before .before .before .before .before .before .before .before .before .before) .args .word) .now) ((c .before .before .before .before .before .before .before .before .before .before .before .before .before) .args .kinds .initial) _ (subst (λ (t : Shape). Stage (graph (((c .before .before .before .before .before .before .before .before .before .before .before .before .before) .args .targets) .now) (t .states) (t .g) (t .h)) (((c .before .before .before .before .before .before .before .before .before .before .before .before .before) .args .word) .now) ((c .before .before .before .before .before .before .before .before .before .before .before .before .before) .args .kinds .initial) ((c .before .before .before .before) .reach-all .last .1 .1 .1 .1 .1 .0) (length (((c .before .before .before .before .before .before .before .before .before .before .before .before .before) .args .word) .now) + 1)) ((c .before .before .before .before .before .before .before .before .before) .shape-of .ensures) ((c .before .before .before .before) .reach-all .ensures .0 ((c .before .before .before .before .before .before .before .before .before .before .before .before .before) .args .kinds .initial) ((c .before .before .before .before .before .before .before .before) .start-at .ensures _ _)))) (members-is (c .intersection .ensures)), normal-sets ((c .before .before .before .before .before .before .before .before .before .before .before .before .before) .args .m) (((c .before .before .before .before .before .before .before .before .before .before .before .before .before) .args .list) .now) (((c .before .before .before .before .before .before .before .before .before .before .before .before .before) .args .word) .now) (((c .before .before .before .before .before .before .before .before .before .before .before .before .before) .args .targets) .now) ((c .before .before .before .before .before .before .before .before .before .before .before .before .before) .pre .0) ((c .before .before .before .before .before .before .before .before .before .before .before .before .before) .pre .2) ((c .before .before .before .before .before .before .before .before .before .before .before .before .before) .args .kinds) ((c .before .before .before .before .before .before .before .before .before .before .before .before .before) .pre .3) _ (subst (λ (t : Shape). Stage (graph (((c .before .before .before .before .before .before .before .before .before .before .before .before .before) .args .targets) .now) (t .states) (t .g) (t .h)) (((c .before .before .before .before .before .before .before .before .before .before .before .before .before) .args .word) .now) ((c .before .before .before .before .before .before .before .before .before .before .before .before .before) .args .kinds .initial) ((c .before .before .before .before) .reach-all .last .1 .1 .1 .1 .1 .0) (length (((c .before .before .before .before .before .before .before .before .before .before .before .before .before) .args .word) .now) + 1)) ((c .before .before .before .before .before .before .before .before .before) .shape-of .ensures) ((c .before .before .before .before) .reach-all .ensures .0 ((c .before .before .before .before .before .before .before .before .before .before .before .before .before) .args .kinds .initial) ((c .before .before .before .before .before .before .before .before) .start-at .ensures _ _))))
 
 pub decide-spec : {M : Type 1} → statement M
 decide-spec =

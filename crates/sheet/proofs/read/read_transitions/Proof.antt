@@ -1,6 +1,6 @@
 use Rattle.sheet.proofs.ReadCases.{numbersPiece, numbers-wide, numbers-are, transition-there, from-small, letter-small, to-small, transitions-done, states-few, transitions-few}
-use Rattle.sheet.proofs.WriteCases.{each-none, each-more}
-use Rattle.sheet.specs.Series.{eachBelow}
+use Rattle.basics.specs.Each.Laws.{each-none, each-more}
+use Rattle.basics.specs.Each.{eachBelow}
 use Rattle.basics.specs.Lists.{put}
 use Rattle.basics.specs.Lists.Laws.{put-three}
 use lib.ListN.{length, length-set}

@@ -1,7 +1,8 @@
-use Rattle.sheet.proofs.WriteCases.{each-none, each-more, state-piece, each-done}
+use Rattle.sheet.proofs.WriteCases.{state-piece}
+use Rattle.basics.specs.Each.Laws.{each-none, each-more, each-done}
 use Rattle.sheet.specs.Format.Laws.{state-wide}
 use Rattle.sheet.specs.Format.{stateLine}
-use Rattle.sheet.specs.Series.{eachBelow}
+use Rattle.basics.specs.Each.{eachBelow}
 use Rattle.basics.specs.Lists.{put}
 use borrow.Author.Needs.{needs}
 use lib.ListN.{length}

@@ -1,7 +1,8 @@
-use Rattle.sheet.proofs.WriteCases.{each-none, each-more, transition-piece, each-done}
+use Rattle.sheet.proofs.WriteCases.{transition-piece}
+use Rattle.basics.specs.Each.Laws.{each-none, each-more, each-done}
 use Rattle.sheet.specs.Format.Laws.{transition-wide}
 use Rattle.sheet.specs.Format.{transitionLine}
-use Rattle.sheet.specs.Series.{eachBelow}
+use Rattle.basics.specs.Each.{eachBelow}
 use Rattle.basics.specs.Lists.{put}
 use lib.ListN.{length}
 use native.Mathlib.Omega.{arith}
