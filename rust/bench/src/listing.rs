@@ -7,7 +7,6 @@ use crate::words::{print_row, rows, tables};
 use std::fs::{self, File, OpenOptions};
 use std::path::{Path, PathBuf};
 use std::process::Command;
-use zagvirk::sheet;
 
 /// The time in seconds that the faster of the two has to take at least, unless the most words take less.
 const ENOUGH: f64 = 0.03;
@@ -37,11 +36,7 @@ impl Place {
         let name = format!("zagvirk-bench-{}", std::process::id());
         let folder = std::env::temp_dir().join(name);
         fs::create_dir_all(&folder).expect("a folder");
-        let machine = &table.machine;
-        let mut text = vec![0; 16 + 11 * machine.states + 16 * machine.transitions];
-        let bytes = sheet::write(zagvirk::Table::new(machine, &table.list), &mut text)
-            .expect("a good machine");
-        fs::write(folder.join("table.txt"), &text[..bytes]).expect("table.txt");
+        fs::write(folder.join("table.txt"), table.sheet()).expect("table.txt");
         Place { folder, program }
     }
 

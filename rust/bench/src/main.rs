@@ -2,10 +2,12 @@
 //!
 //! Each section prints its own table. With names after `--`, only the sections named run: `checking`, `sheet`,
 //! `recognize` (with a run, one call a word), `words` (yes or no for a list of words in one call), `listing` (the same by
-//! the listing program, as a process), `reach` (the states that runs reach, one call a word), `survey`, `common`. A
-//! further call is measured by a function like [`checking::section`] and one more line in `main`.
+//! the listing program, as a process), `reach` (the states that runs reach, one call a word), `survey`, `common`,
+//! `command` (the command beside pcre2grep). A further call is measured by a function like [`checking::section`] and one
+//! more line in `main`.
 
 mod checking;
+mod command;
 mod common;
 mod listing;
 mod measure;
@@ -25,7 +27,7 @@ mod survey;
 mod words;
 
 fn main() {
-    let sections: [(&str, fn()); 8] = [
+    let sections: [(&str, fn()); 9] = [
         ("checking", checking::section),
         ("sheet", sheet::section),
         ("recognize", recognize::section),
@@ -34,6 +36,7 @@ fn main() {
         ("reach", reach::section),
         ("survey", survey::section),
         ("common", common::section),
+        ("command", command::section),
     ];
     let wanted: Vec<String> = std::env::args().skip(1).collect();
     for (name, section) in sections {

@@ -18,10 +18,10 @@ const CALLS: usize = 5;
 const ENOUGH: f64 = 0.02;
 
 /// Numbers that look random, the same in every run of the program.
-struct Numbers(u64);
+pub struct Numbers(pub u64);
 
 impl Numbers {
-    fn below(&mut self, bound: usize) -> usize {
+    pub fn below(&mut self, bound: usize) -> usize {
         self.0 ^= self.0 << 13;
         self.0 ^= self.0 >> 7;
         self.0 ^= self.0 << 17;
@@ -48,6 +48,16 @@ impl Table {
             list: sorted.concat(),
             letters,
         }
+    }
+
+    /// The sheet of the machine.
+    pub fn sheet(&self) -> Vec<u8> {
+        let machine = &self.machine;
+        let mut text = vec![0; 16 + 11 * machine.states + 16 * machine.transitions];
+        let table = zagvirk::Table::new(machine, &self.list);
+        let bytes = zagvirk::sheet::write(table, &mut text).expect("a good machine");
+        text.truncate(bytes);
+        text
     }
 }
 

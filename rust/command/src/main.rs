@@ -1,0 +1,7 @@
+//! The command `zagvirk`.
+
+use std::process::ExitCode;
+
+fn main() -> ExitCode {
+    command::main(std::env::args_os().skip(1))
+}
