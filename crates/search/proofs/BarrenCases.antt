@@ -12,8 +12,8 @@ use Rattle.language.specs.Bound.{accepted-not-published}
 use Rattle.pieces.specs.Bound.{wordBound}
 use Rattle.common.specs.Common.{leastCommon}
 use Rattle.common.specs.Common.Laws.{common-joined, none-common}
-use Rattle.search.specs.Joined.{Joined}
-use Rattle.search.proofs.SearchCases.{joined-good}
+use Rattle.found.specs.Joined.{Joined}
+use Rattle.found.proofs.SearchCases.{joined-good}
 
 pub barren-past : {m₁ : Machine} {l₁ : List ℕ} {m₂ : Machine} {l₂ : List ℕ} {m : Machine} {list : List ℕ} → Joined m₁ l₁ m₂ l₂ m list
     → ((w : List ℕ) → InLanguage (fsbmOf m list) w → ⊥) → wordBound < leastCommon m₁ l₁ m₂ l₂

@@ -1,4 +1,1 @@
 pub mod BarrenCases
-pub mod SearchCases
-pub mod FoundCases
-pub mod AnswerCases

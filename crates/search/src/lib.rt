@@ -1,27 +1,22 @@
 // The search for a shortest common word of a machine and a plain machine.
 //
 // common_word  the public call
-// answer       the answer, from the least weights of the product
-// best         the final state with the least number
-// write        a shortest common word with a run of each machine, written from the least weights
 ghost use mathlib.Core.Path.{_≡_};
 ghost use lib.ListN.{length};
 ghost use Rattle.blocks.specs.Settling.{Blank};
 ghost use Rattle.common.specs.Common.{CommonWord};
-ghost use Rattle.search.specs.Joined.{Joined};
+ghost use Rattle.found.specs.Joined.{Joined};
 use blocks::index;
 use blocks::sizes::MOST_KEYS;
 use blocks::sizes::MOST_PAIRS;
 use blocks::sizes::MOST_STATES;
 use blocks::sizes::NOTHING;
 use common::Common;
+use found::answer;
+use found::best;
 use fsbm::limits::LIST_LENGTH;
 use fsbm::machine::Machine;
 use least::turns;
-
-mod answer;
-pub mod best;
-mod write;
 
 // Room for the transitions of every product.
 fn no_transitions() -> [u16; LIST_LENGTH]

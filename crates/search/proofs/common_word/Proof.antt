@@ -1,5 +1,5 @@
 use native.Mathlib.Omega.{arith}
-use Rattle.search.proofs.SearchCases.{join-refuses, join-gives, fault}
+use Rattle.found.proofs.SearchCases.{join-refuses, join-gives, fault}
 use borrow.Author.Needs.{needs}
 use Rattle.search.proofs.common_word.Statement.{statement}
 use Rattle.search.proofs.common_word.Tie as tie

@@ -1,7 +1,7 @@
 use mathlib.Core.Path.{sym}
 use Rattle.fsbm.specs.Rules.{rules}
 use Rattle.blocks.specs.Works.Laws.{kind-buffering, ready-of}
-use Rattle.search.proofs.SearchCases.{joined-good, none}
+use Rattle.found.proofs.SearchCases.{joined-good, none}
 use Rattle.search.proofs.BarrenCases.{barren-past}
 use borrow.Author.Needs.{needs}
 use Rattle.search.proofs.search.Statement.{statement}

@@ -3,7 +3,7 @@ ghost use Prim.Native.Nat.{_+_, _*_, _/_, _%_, _≤_, _<_};
 ghost use mathlib.Core.Path.{_≡_};
 ghost use Rattle.pieces.specs.Pairs.{unit};
 ghost use Rattle.common.specs.Common.{CommonWord};
-ghost use Rattle.search.specs.Weighed.{Weighed};
+ghost use Rattle.found.specs.Weighed.{Weighed};
 use crate::best;
 use crate::write;
 use blocks::sizes::MOST_KEYS;

@@ -28,7 +28,7 @@ use Rattle.common.specs.declared.Common.the-variants.{Refused, NoCommonWord, Fo
 use Rattle.common.specs.Common.{leastCommon, commonAnswer, Front, CommonWord}
 use Rattle.common.specs.Contract.{contract-unchanged, contract-found}
 use Rattle.common.specs.Common.Laws.{answer-fault, answer-none, answer-word, answer-first, answer-second}
-use Rattle.search.specs.Joined.{joinedRoom, Joined}
+use Rattle.found.specs.Joined.{joinedRoom, Joined}
 
 -- Joining into a list that has room for every product
 

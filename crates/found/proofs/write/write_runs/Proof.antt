@@ -1,10 +1,10 @@
 use native.Mathlib.Omega.{arith}
 use mathlib.Core.Path.{sym}
 use Rattle.fsbm.specs.Rules.{rules}
-use Rattle.search.proofs.FoundCases.{to-split, split-runs}
+use Rattle.found.proofs.FoundCases.{to-split, split-runs}
 use borrow.Author.Needs.{needs}
-use Rattle.search.proofs.write.write_runs.Statement.{statement}
-use Rattle.search.proofs.write.write_runs.Tie as tie
+use Rattle.found.proofs.write.write_runs.Statement.{statement}
+use Rattle.found.proofs.write.write_runs.Tie as tie
 
 into-requires : tie.Need-into-requires
 into-requires c κs = search needs

@@ -2,7 +2,7 @@
 ghost use Prim.Native.Nat.{_+_, _<_};
 ghost use mathlib.Core.Path.{_≡_};
 ghost use Rattle.pieces.specs.Blocks.{costOf};
-ghost use Rattle.search.specs.Best.{Best};
+ghost use Rattle.found.specs.Best.{Best};
 use blocks::sizes::MOST_STATES;
 use blocks::sizes::NOTHING;
 use fsbm::machine;

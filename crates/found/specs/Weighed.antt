@@ -13,8 +13,8 @@ use Rattle.blocks.specs.Works.{Ready, Kind}
 use Rattle.blocks.specs.Settling.{Past}
 use Rattle.least.specs.Turns.{Limit}
 use Rattle.shortest.specs.Write.{Least}
-use Rattle.search.specs.Joined.{Joined}
-use Rattle.search.specs.Best.{Best}
+use Rattle.found.specs.Joined.{Joined}
+use Rattle.found.specs.Best.{Best}
 
 pub record Weighed (m₁ : Machine) (l₁ : List ℕ) (m₂ : Machine) (l₂ : List ℕ) (m : Machine) (list index : List ℕ) (starts ends : ℕ) (d b : List ℕ) (f : ℕ) : Type 0 where
   pub joined : Joined m₁ l₁ m₂ l₂ m list

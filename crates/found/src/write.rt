@@ -1,7 +1,7 @@
 // Writes a shortest common word with a run of each machine, from the least weights of their product.
 ghost use mathlib.Core.Path.{_≡_};
 ghost use lib.ListN.{length};
-ghost use Rattle.search.specs.Runs.{Writable, Runs};
+ghost use Rattle.found.specs.Runs.{Writable, Runs};
 use blocks::sizes::MOST_KEYS;
 use blocks::sizes::MOST_PAIRS;
 use blocks::sizes::MOST_STATES;

@@ -19,10 +19,10 @@ use Rattle.pieces.specs.Pairs.{unit}
 use Rattle.pieces.specs.Blocks.{nothing, costOf}
 use Rattle.common.specs.declared.Common.the-variants.{Refused, NoCommonWord, Found}
 use Rattle.common.specs.Common.{leastCommon, Front, CommonWord}
-use Rattle.search.specs.Runs.{Writable, Runs}
-use Rattle.search.specs.Weighed.{Weighed}
-use Rattle.search.proofs.SearchCases.{none, short-word, short-first, short-second, written}
-use Rattle.search.proofs.FoundCases.{Lengths, no-word, some-word, aim, final-state}
+use Rattle.found.specs.Runs.{Writable, Runs}
+use Rattle.found.specs.Weighed.{Weighed}
+use Rattle.found.proofs.SearchCases.{none, short-word, short-first, short-second, written}
+use Rattle.found.proofs.FoundCases.{Lengths, no-word, some-word, aim, final-state}
 
 -- a slice whose front is written
 front : (k : ℕ) (before new : List ℕ) → length new ≡ k → k ≤ length before → Front k before (new ++ drop k before)

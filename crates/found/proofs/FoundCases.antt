@@ -32,9 +32,9 @@ use Rattle.common.specs.Split.Laws.{leads-letters, split-accepts}
 use Rattle.split.specs.Split as split
 use Rattle.least.specs.Turns.{Limit}
 use Rattle.shortest.specs.Write.{Least, Aim, Shortest}
-use Rattle.search.specs.Best.{Best}
-use Rattle.search.specs.Best.Laws.{best-final, best-nothing}
-use Rattle.search.specs.Joined.{Joined}
+use Rattle.found.specs.Best.{Best}
+use Rattle.found.specs.Best.Laws.{best-final, best-nothing}
+use Rattle.found.specs.Joined.{Joined}
 
 -- what the least number of a final state says: the letters of a shortest common word and the entries of its run
 pub record Lengths (m₁ : Machine) (l₁ : List ℕ) (m₂ : Machine) (l₂ : List ℕ) (c : ℕ) : Type 0 where

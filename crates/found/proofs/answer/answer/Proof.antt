@@ -2,10 +2,10 @@ use Prim.Native.Nat.{_+_}
 use native.Mathlib.Omega.{arith}
 use mathlib.Core.Path.{sym}
 use lib.Seq.{length-take-le}
-use Rattle.search.proofs.AnswerCases.{says-none, says-word, says-first, says-second, says-found, length-fits, entries-fit, writable}
+use Rattle.found.proofs.AnswerCases.{says-none, says-word, says-first, says-second, says-found, length-fits, entries-fit, writable}
 use borrow.Author.Needs.{needs}
-use Rattle.search.proofs.answer.answer.Statement.{statement}
-use Rattle.search.proofs.answer.answer.Tie as tie
+use Rattle.found.proofs.answer.answer.Statement.{statement}
+use Rattle.found.proofs.answer.answer.Tie as tie
 
 cost-requires : tie.Need-cost-requires
 cost-requires c κs = search needs

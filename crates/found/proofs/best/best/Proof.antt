@@ -1,11 +1,11 @@
 use Prim.Native.Nat.{_-_, _≤_}
 use native.Mathlib.Omega.{arith}
 use mathlib.Core.Path.{subst}
-use Rattle.search.specs.Best.{Best}
-use Rattle.search.specs.Best.Laws.{best-none}
+use Rattle.found.specs.Best.{Best}
+use Rattle.found.specs.Best.Laws.{best-none}
 use Prim.Native.Nat.{ℕ}
-use Rattle.search.proofs.best.best.Statement.{statement}
-use Rattle.search.proofs.best.best.Tie as tie
+use Rattle.found.proofs.best.best.Statement.{statement}
+use Rattle.found.proofs.best.best.Tie as tie
 
 abbrev Inv-loop : tie.InvT-loop
 Inv-loop marks d b₀ q₀ b q = Best marks d q b × (q ≤ 64)

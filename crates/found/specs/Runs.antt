@@ -14,7 +14,7 @@ use Rattle.fsbm.specs.declared.machine.Machine.{Machine}
 use Rattle.blocks.specs.Works.{Ready, Kind}
 use Rattle.blocks.specs.Settling.{Past}
 use Rattle.shortest.specs.Write.{Aim}
-use Rattle.search.specs.Joined.{Joined}
+use Rattle.found.specs.Joined.{Joined}
 
 pub record Writable (m₁ : Machine) (l₁ : List ℕ) (m₂ : Machine) (l₂ : List ℕ) (m : Machine) (list index : List ℕ) (starts ends : ℕ) (d b : List ℕ) (f : ℕ) (word run other : List ℕ) : Type 0 where
   pub joined : Joined m₁ l₁ m₂ l₂ m list

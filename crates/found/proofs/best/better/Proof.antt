@@ -1,10 +1,10 @@
 use mathlib.Core.Path.{sym, _∙_}
 use borrow.Author.Tests.{not-true, not-false}
 use native.Mathlib.Omega.{arith}
-use Rattle.search.specs.Best.Laws.{best-passes, best-keeps, best-takes, best-top}
+use Rattle.found.specs.Best.Laws.{best-passes, best-keeps, best-takes, best-top}
 use borrow.Author.Needs.{needs}
-use Rattle.search.proofs.best.better.Statement.{statement}
-use Rattle.search.proofs.best.better.Tie as tie
+use Rattle.found.proofs.best.better.Statement.{statement}
+use Rattle.found.proofs.best.better.Tie as tie
 
 is-final-requires : tie.Need-is-final-requires
 is-final-requires c κs = search needs

@@ -18,7 +18,7 @@ use borrow.Author.Count.{below-more}
 use Rattle.basics.specs.Search.Laws.{not-both}
 use Rattle.fsbm.specs.Machine.{final}
 use Rattle.pieces.specs.Blocks.{nothing, costOf}
-use Rattle.search.specs.Best.{noState, Best}
+use Rattle.found.specs.Best.{noState, Best}
 
 pub cost-past : (d : List ℕ) (q : ℕ) → 64 ≤ q → costOf d q ≡ nothing
 unfolding costOf

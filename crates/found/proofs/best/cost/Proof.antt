@@ -1,9 +1,9 @@
 use mathlib.Core.Path.{sym}
-use Rattle.search.specs.Best.Laws.{cost-past, cost-at}
+use Rattle.found.specs.Best.Laws.{cost-past, cost-at}
 use native.Mathlib.Omega.{arith}
 use borrow.Author.Needs.{needs}
-use Rattle.search.proofs.best.cost.Statement.{statement}
-use Rattle.search.proofs.best.cost.Tie as tie
+use Rattle.found.proofs.best.cost.Statement.{statement}
+use Rattle.found.proofs.best.cost.Tie as tie
 
 returns : tie.Need-returns
 returns c = sym (cost-past (((c .before) .args .d) .now) ((c .before) .args .q) (c .if1 .taken))

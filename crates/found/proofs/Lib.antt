@@ -1,0 +1,3 @@
+pub mod SearchCases
+pub mod FoundCases
+pub mod AnswerCases
