@@ -32,15 +32,15 @@
  * is 0, records and answers may change with the minor version: compile again then.
  */
 #define ZAGVIRK_VERSION_MAJOR 0
-#define ZAGVIRK_VERSION_MINOR 3
+#define ZAGVIRK_VERSION_MINOR 4
 #define ZAGVIRK_VERSION_PATCH 0
 #define ZAGVIRK_VERSION (10000 * ZAGVIRK_VERSION_MAJOR + 100 * ZAGVIRK_VERSION_MINOR + ZAGVIRK_VERSION_PATCH)
 
 /* The stack, in bytes, of a thread that makes a call; no call uses a heap. Measured on x86-64 Linux and rounded up, not
  * proved: the least threads that ran the calls on the largest inputs had 464 KB (zagvirk_recognize), 220 KB
  * (zagvirk_common_word), 212 KB (zagvirk_reach), 208 KB (zagvirk_accept_words), 140 KB (zagvirk_accepts), 80 KB
- * (zagvirk_join) and for every other call 16 KB, the least that a thread may have there; these take below 1 KB
- * themselves. What the caller's own functions need comes on top.
+ * (zagvirk_join), 32 KB (zagvirk_read_sheet) and for every other call 16 KB, the least that a thread may have there;
+ * these take below 1 KB themselves. What the caller's own functions need comes on top.
  */
 #define ZAGVIRK_STACK_RECOGNIZE (480 * 1024)
 #define ZAGVIRK_STACK_COMMON_WORD (240 * 1024)
@@ -48,6 +48,7 @@
 #define ZAGVIRK_STACK_ACCEPT_WORDS (224 * 1024)
 #define ZAGVIRK_STACK_ACCEPTS (160 * 1024)
 #define ZAGVIRK_STACK_JOIN (96 * 1024)
+#define ZAGVIRK_STACK_READ_SHEET (48 * 1024)
 #define ZAGVIRK_STACK_SMALL (16 * 1024) /* every other call */
 
 #ifdef __cplusplus
@@ -183,7 +184,7 @@ typedef struct {
  * Refuses at the first fault in reading order, in each line in this order: 1, 2, then 3 (line one), 4 (a state's line)
  * or 5 (a transition's line), then 6; after all lines 7, then 15.
  *
- * Time: in proportion to the sheet's bytes. Stack: ZAGVIRK_STACK_SMALL.
+ * Time: each byte of the sheet is looked at once. Stack: ZAGVIRK_STACK_READ_SHEET.
  */
 zagvirk_sheet_read zagvirk_read_sheet(const uint8_t *sheet, size_t sheet_len, uint16_t *list, size_t list_len);
 

@@ -17,6 +17,10 @@ pub mod Laws
 abbrev pub noNumber : ℕ
 noNumber = 10000000000
 
+-- the number in a column of spaces alone: none
+abbrev pub blankNumber : ℕ
+blankNumber = noNumber
+
 -- bytes 48 to 57 are the digits 0 to 9, byte 32 is the space
 abbrev pub isDigit : ℕ → Bool
 isDigit b = leb 48 b && leb b 57
@@ -41,9 +45,9 @@ unfoldable pub passFrom : Pass → List ℕ → Pass
 passFrom p [] = p
 passFrom p (b ∷ l) = passFrom (next p b) l
 
--- what a pass has found at the column's end; a column of spaces alone holds no number
+-- what a pass has found at the column's end
 unfoldable pub found : Pass → ℕ
-found blank = noNumber
+found blank = blankNumber
 found nought = 0
 found (digits v) = v
 found broken = noNumber

@@ -1,1 +1,2 @@
 pub mod Column
+pub mod Held

@@ -1,8 +1,7 @@
 // Columns: decimal numbers of a fixed width, right-justified, padded on the left with spaces.
 //
+// Held              what a pass over a column holds after some of its bytes
 // number            the number in a column
-// number_in_five    the number in a column of five bytes
-// short_number      the number below 1000 in a column of five bytes that has one
 // write_number      a number written as a column of five bytes
 // write_short       the same for a number below 1000, write_shorter for one below 100
 ghost use Prim.Native.Nat.{_+_, _-_, _/_, _%_, _<_, _≤_};
@@ -10,59 +9,25 @@ ghost use mathlib.Core.List.{[], _∷_};
 ghost use mathlib.Core.Path.{_≡_};
 ghost use lib.ListN.{length, take, drop};
 ghost use Rattle.basics.specs.Lists.{put};
-ghost use Rattle.columns.specs.Column.{isDigit, digits, passFrom, found, columnNumber, digitOr, columnOf};
+ghost use Rattle.columns.specs.Column.{noNumber, isDigit, columnNumber, digitOr, columnOf};
+ghost use Rattle.columns.specs.Held.{held, heldNext, soFar, heldNumber};
 
 // The answer of number where there is none: more than any column of ten bytes holds.
 pub const NO_NUMBER: usize = 10000000000;
 
-// The number that goes on with the digits of the bytes from at to end, its first digit read already.
-fn more_digits(bytes: &[u8], at: usize, end: usize, first: usize) -> usize
-    requires { ⌜ (at ≤ end) × (end ≤ length (now bytes)) × (end ≤ at + 9) × (first < 10) ⌝ }
-    ensures { λ r. ⌜ r ≡ found (passFrom (digits first) (take (end - at) (drop at (now (bytes .entry))))) ⌝ }
-{
-    let mut v = first;
-    let mut i = at;
-    while i < end {
-        let b = bytes[i];
-        if b < 48 {
-            return NO_NUMBER;
-        }
-        if 57 < b {
-            return NO_NUMBER;
-        }
-        v = v * 10 + (b - 48) as usize;
-        i += 1;
-    }
-    v
-}
+// The number in a column of spaces alone: none.
+const BLANK_NUMBER: usize = NO_NUMBER;
 
-// The number in the column of at most ten bytes that starts at byte at; NO_NUMBER where they are not a column.
-pub fn number(bytes: &[u8], at: usize, width: usize) -> usize
-    requires { ⌜ (at + width ≤ length (now bytes)) × (width ≤ 10) ⌝ }
-    ensures { λ r. ⌜ r ≡ columnNumber (take width (drop at (now (bytes .entry)))) ⌝ }
-{
-    let end = at + width;
-    let mut i = at;
-    while i < end {
-        let b = bytes[i];
-        if b != 32 {
-            if b < 48 {
-                return NO_NUMBER;
-            }
-            if 57 < b {
-                return NO_NUMBER;
-            }
-            if b == 48 {
-                if i + 1 == end {
-                    return 0;
-                }
-                return NO_NUMBER;
-            }
-            return more_digits(bytes, i + 1, end, (b - 48) as usize);
-        }
-        i += 1;
-    }
-    NO_NUMBER
+// What a pass over a column holds after some of its bytes, from the first on: the number so far and what may follow.
+pub enum Held {
+    // spaces alone
+    Blank,
+    // spaces and a single 0, which nothing may follow
+    Nought,
+    // spaces and the digits of this number, which is above 0; digits may follow
+    Digits(usize),
+    // no column begins so
+    Broken,
 }
 
 // Whether a byte is a digit.
@@ -75,80 +40,81 @@ fn is_digit(b: u8) -> bool
     b <= 57
 }
 
-// The number in a column of one byte; NO_NUMBER where there is none.
-fn number_in_one(a: u8) -> usize
-    ensures { λ r. ⌜ r ≡ columnNumber (a ∷ []) ⌝ }
-{
-    if !is_digit(a) {
-        return NO_NUMBER;
-    }
-    (a - 48) as usize
-}
-
-// The number in a column of two bytes; NO_NUMBER where there is none.
-fn number_in_two(a: u8, b: u8) -> usize
-    ensures { λ r. ⌜ r ≡ columnNumber (a ∷ b ∷ []) ⌝ }
-{
-    if a == 32 {
-        return number_in_one(b);
-    }
-    if a == 48 {
-        return NO_NUMBER;
-    }
-    if !is_digit(a) {
-        return NO_NUMBER;
-    }
-    if !is_digit(b) {
-        return NO_NUMBER;
-    }
-    (a - 48) as usize * 10 + (b - 48) as usize
-}
-
-// The number in a column of three bytes; NO_NUMBER where there is none.
-fn number_in_three(a: u8, b: u8, c: u8) -> usize
-    ensures { λ r. ⌜ r ≡ columnNumber (a ∷ b ∷ c ∷ []) ⌝ }
-{
-    if a == 32 {
-        return number_in_two(b, c);
-    }
-    if a == 48 {
-        return NO_NUMBER;
-    }
-    if !is_digit(a) {
-        return NO_NUMBER;
-    }
-    if !is_digit(b) {
-        return NO_NUMBER;
-    }
-    if !is_digit(c) {
-        return NO_NUMBER;
-    }
-    ((a - 48) as usize * 10 + (b - 48) as usize) * 10 + (c - 48) as usize
-}
-
-// The number in the column of five bytes that starts at byte at; NO_NUMBER where they are not a column. Faster than number where
-// the column begins with two spaces.
-pub fn number_in_five(bytes: &[u8], at: usize) -> usize
-    requires { ⌜ at + 5 ≤ length (now bytes) ⌝ }
-    ensures { λ r. ⌜ r ≡ columnNumber (take 5 (drop at (now (bytes .entry)))) ⌝ }
-{
-    if bytes[at] == 32 {
-        if bytes[at + 1] == 32 {
-            return number_in_three(bytes[at + 2], bytes[at + 3], bytes[at + 4]);
+impl Held {
+    // What is held after one byte more.
+    pub fn next(self, b: u8) -> Held
+        requires { ⌜ soFar self ≤ noNumber ⌝ }
+        ensures { λ r. ⌜ r ≡ heldNext self b ⌝ }
+    {
+        match self {
+            Held::Blank => first(b),
+            Held::Nought => Held::Broken,
+            Held::Digits(v) => more(v, b),
+            Held::Broken => Held::Broken,
         }
     }
-    number(bytes, at, 5)
+
+    // The number of a column that ends here; NO_NUMBER where it holds none.
+    pub fn number(self) -> usize
+        ensures { λ r. ⌜ r ≡ heldNumber self ⌝ }
+    {
+        match self {
+            Held::Blank => BLANK_NUMBER,
+            Held::Nought => 0,
+            Held::Digits(v) => v,
+            Held::Broken => NO_NUMBER,
+        }
+    }
 }
 
-// The number in the column of five bytes that starts at byte at, which holds one below 1000: a space counts as the digit 0.
-pub fn short_number(bytes: &[u8], at: usize) -> u16
-    requires { ⌜ (at + 5 ≤ length (now bytes)) × (columnNumber (take 5 (drop at (now bytes))) < 1000) ⌝ }
-    ensures { λ r. ⌜ r ≡ columnNumber (take 5 (drop at (now (bytes .entry)))) ⌝ }
+// What is held after the first byte that may be no space.
+fn first(b: u8) -> Held
+    ensures { λ r. ⌜ r ≡ heldNext Held.Blank b ⌝ }
 {
-    let hundreds = (bytes[at + 2] % 16) as u16;
-    let tens = (bytes[at + 3] % 16) as u16;
-    let ones = (bytes[at + 4] % 16) as u16;
-    (hundreds * 10 + tens) * 10 + ones
+    if b == 32 {
+        return Held::Blank;
+    }
+    if b == 48 {
+        return Held::Nought;
+    }
+    if is_digit(b) {
+        return Held::Digits((b - 48) as usize);
+    }
+    Held::Broken
+}
+
+// What is held after the digits of v and one byte more.
+fn more(v: usize, b: u8) -> Held
+    requires { ⌜ v ≤ noNumber ⌝ }
+    ensures { λ r. ⌜ r ≡ heldNext (Held.Digits v) b ⌝ }
+{
+    if !is_digit(b) {
+        return Held::Broken;
+    }
+    Held::Digits(v * 10 + (b - 48) as usize)
+}
+
+// What a pass over the bytes from at on holds after some of them, at most ten.
+fn pass(bytes: &[u8], at: usize, width: usize) -> Held
+    requires { ⌜ (at + width ≤ length (now bytes)) × (width ≤ 10) ⌝ }
+    ensures { λ r. ⌜ r ≡ held (take width (drop at (now (bytes .entry)))) ⌝ }
+{
+    let mut h = Held::Blank;
+    let mut i: usize = 0;
+    while i < width {
+        h = h.next(bytes[at + i]);
+        i += 1;
+    }
+    h
+}
+
+// The number in the column of at most ten bytes that starts at byte at; NO_NUMBER where they are not a column. Each byte is looked at
+// once, from the first on.
+pub fn number(bytes: &[u8], at: usize, width: usize) -> usize
+    requires { ⌜ (at + width ≤ length (now bytes)) × (width ≤ 10) ⌝ }
+    ensures { λ r. ⌜ r ≡ columnNumber (take width (drop at (now (bytes .entry)))) ⌝ }
+{
+    pass(bytes, at, width).number()
 }
 
 // Five bytes, stored from byte at on.

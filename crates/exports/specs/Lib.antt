@@ -1,4 +1,5 @@
 pub mod CommonWords
+pub mod Comparison
 pub mod Products
 pub mod ReachedStates
 pub mod Recognize

@@ -1,3 +1,4 @@
 pub mod FaultCases
+pub mod PartCases
 pub mod ReadCases
 pub mod WriteCases

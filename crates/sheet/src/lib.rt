@@ -2,8 +2,10 @@
 //
 // read    the public call read_sheet; Sheet, its answer
 // write   the public call write_sheet; Written, its answer
-// faults  the first fault of a sheet in reading order
+// parts   the three parts of a sheet, each read to its first fault or to its end
+// faults  the faults of the numbers of one line
 pub mod faults;
+pub mod parts;
 pub mod read;
 pub mod write;
 

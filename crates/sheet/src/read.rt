@@ -1,18 +1,25 @@
 // The reader of sheets.
 ghost use Prim.Native.Nat.{_*_, _≤_};
 ghost use mathlib.Core.Path.{_≡_};
-ghost use mathlib.Core.List.{_++_};
-ghost use lib.ListN.{length, drop};
+ghost use lib.ListN.{length};
+ghost use Rattle.basics.specs.Lists.{put};
 ghost use Rattle.fsbm.specs.Answers.{refusal, noMachine};
-ghost use Rattle.sheet.specs.Reading.{columnAt, firstFault, marksOf, transitionsOf, readAnswer, readList};
+ghost use Rattle.sheet.specs.Reading.{readAnswer, readList};
+ghost use Rattle.sheet.specs.Parts.{HeaderRead};
 use crate::HEADER_LENGTH;
 use crate::STATE_LENGTH;
 use crate::TRANSITION_LENGTH;
-use crate::faults;
+use crate::parts;
+use crate::parts::Header;
 use fsbm::answer::Refusal;
+use fsbm::limits::LIST_LENGTH;
 use fsbm::limits::MAX_STATES;
 use fsbm::machine::Machine;
-use fsbm::machine::Marks;
+
+// A table of at most so many transitions is read with little memory to clear, and the numbers of these, three for each.
+const FEW_TRANSITIONS: usize = 64;
+
+const FEW_LENGTH: usize = 192;
 
 // The answer of read_sheet: refusal.number is 0 where the sheet was read. After a refusal every field of the machine is 0.
 pub struct Sheet {
@@ -35,58 +42,44 @@ fn refused(number: u8, needed: usize) -> Sheet
     }
 }
 
-// The marks of the states, and 0 past the last one, of a sheet without fault.
-fn read_marks(sheet: &[u8], states: usize) -> Marks
-    requires { ⌜ (firstFault (now sheet) ≡ 0) × (states ≡ columnAt (now sheet) 0) ⌝ }
-    ensures { λ r. ⌜ r ≡ marksOf (now (sheet .entry)) (columnAt (now (sheet .entry)) 0) ⌝ }
+// Copies the numbers to the front of the list.
+fn copy(from: &[u16], list: &mut [u16])
+    requires { ⌜ length (now from) ≤ length (now list) ⌝ }
+    ensures { λ r. ⌜ now (list .exit) ≡ put 0 (now (list .entry)) (now (from .entry)) ⌝ }
 {
-    let mut marks: Marks = [0; MAX_STATES];
-    let mut at: usize = 21;
-    let mut q: usize = 0;
-    while q < states {
-        marks[q] = faults::short_column(sheet, at) as u8;
-        at += STATE_LENGTH;
-        q += 1;
-    }
-    marks
-}
-
-// The transitions of a sheet without fault, written to the front of the list.
-fn read_transitions(sheet: &[u8], states: usize, transitions: usize, list: &mut [u16])
-    requires { ⌜ (firstFault (now sheet) ≡ 0) × (states ≡ columnAt (now sheet) 0) × (transitions ≡ columnAt (now sheet) 10) × (transitions * 3 ≤ length (now list)) ⌝ }
-    ensures { λ r. ⌜ now (list .exit) ≡ transitionsOf (now (sheet .entry)) ++ drop (columnAt (now (sheet .entry)) 10 * 3) (now (list .entry)) ⌝ }
-{
-    let mut at: usize = HEADER_LENGTH + STATE_LENGTH * states;
-    let mut k: usize = 0;
-    while k < transitions {
-        let i = k * 3;
-        list[i] = faults::short_column(sheet, at) as u16;
-        list[i + 1] = faults::short_column(sheet, at + 5) as u16;
-        list[i + 2] = faults::short_column(sheet, at + 10) as u16;
-        at += TRANSITION_LENGTH;
-        k += 1;
+    let mut i: usize = 0;
+    while i < from.len() {
+        list[i] = from[i];
+        i += 1;
     }
 }
 
-// The public call that reads a sheet: its machine, with the transitions at the front of the list, three numbers each. It refuses
-// the first fault in reading order, 1 to 7, then 15 (the list is too short) with the length needed. A refusal leaves the list as
-// it was; so does a sheet that is read with all that stands past its transitions.
-// Time: the sheet once to find a fault, and the digits of a sheet without fault once more to write the list. Memory: the machine.
-pub fn read_sheet(sheet: &[u8], list: &mut [u16]) -> Sheet
+// What is answered to a sheet whose line one has no fault. The transitions are read to kept; the list is written once nothing can be
+// refused any more.
+fn read_rest(sheet: &[u8], header: Header, kept: &mut [u16], list: &mut [u16]) -> Sheet
+    requires { ⌜ HeaderRead (now sheet) header × (header .fault ≡ 0) × (header .transitions * 3 ≤ length (now kept)) ⌝ }
     ensures { λ r. ⌜ (r ≡ readAnswer (now (sheet .entry)) (length (now (list .entry)))) × (now (list .exit) ≡ readList (now (sheet .entry)) (now (list .entry))) ⌝ }
 {
-    let fault = faults::first_fault(sheet);
+    let states = header.states;
+    let letters = header.letters;
+    let transitions = header.transitions;
+    let marked = parts::read_states(sheet, states);
+    if marked.fault != 0 {
+        return refused(marked.fault, 0);
+    }
+    let fault = parts::read_transitions(sheet, states, letters, transitions, kept);
     if fault != 0 {
         return refused(fault, 0);
     }
-    let states = faults::short_column(sheet, 0);
-    let letters = faults::short_column(sheet, 5);
-    let transitions = faults::column(sheet, 10);
-    if list.len() < transitions * 3 {
-        return refused(15, transitions * 3);
+    if HEADER_LENGTH + STATE_LENGTH * states + TRANSITION_LENGTH * transitions < sheet.len() {
+        return refused(7, 0);
     }
-    let marks = read_marks(sheet, states);
-    read_transitions(sheet, states, transitions, list);
+    let n = transitions * 3;
+    if list.len() < n {
+        return refused(15, n);
+    }
+    copy(&kept[..n], list);
+    let marks = marked.marks;
     Sheet {
         refusal: Refusal {
             number: 0,
@@ -99,4 +92,39 @@ pub fn read_sheet(sheet: &[u8], list: &mut [u16]) -> Sheet
             marks,
         },
     }
+}
+
+// The same for a table of few transitions.
+fn read_few(sheet: &[u8], header: Header, list: &mut [u16]) -> Sheet
+    requires { ⌜ HeaderRead (now sheet) header × (header .fault ≡ 0) × (header .transitions ≤ 64) ⌝ }
+    ensures { λ r. ⌜ (r ≡ readAnswer (now (sheet .entry)) (length (now (list .entry)))) × (now (list .exit) ≡ readList (now (sheet .entry)) (now (list .entry))) ⌝ }
+{
+    let mut kept = [0u16; FEW_LENGTH];
+    read_rest(sheet, header, &mut kept, list)
+}
+
+// The same for a table of any size.
+fn read_many(sheet: &[u8], header: Header, list: &mut [u16]) -> Sheet
+    requires { ⌜ HeaderRead (now sheet) header × (header .fault ≡ 0) ⌝ }
+    ensures { λ r. ⌜ (r ≡ readAnswer (now (sheet .entry)) (length (now (list .entry)))) × (now (list .exit) ≡ readList (now (sheet .entry)) (now (list .entry))) ⌝ }
+{
+    let mut kept = [0u16; LIST_LENGTH];
+    read_rest(sheet, header, &mut kept, list)
+}
+
+// The public call that reads a sheet: its machine, with the transitions at the front of the list, three numbers each. It refuses
+// the first fault in reading order, 1 to 7, then 15 (the list is too short) with the length needed. A refusal leaves the list as
+// it was; so does a sheet that is read with all that stands past its transitions.
+// Time: each byte of the sheet once. Memory: the machine and its transitions, 24 KB; 400 bytes for at most 64 transitions.
+pub fn read_sheet(sheet: &[u8], list: &mut [u16]) -> Sheet
+    ensures { λ r. ⌜ (r ≡ readAnswer (now (sheet .entry)) (length (now (list .entry)))) × (now (list .exit) ≡ readList (now (sheet .entry)) (now (list .entry))) ⌝ }
+{
+    let header = parts::read_header(sheet);
+    if header.fault != 0 {
+        return refused(header.fault, 0);
+    }
+    if header.transitions <= FEW_TRANSITIONS {
+        return read_few(sheet, header, list);
+    }
+    read_many(sheet, header, list)
 }

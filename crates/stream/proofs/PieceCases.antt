@@ -1,6 +1,5 @@
 -- The definitions of specs/Pieces.antt in the form that the functions meet them, over plain variables.
 --
--- copied-more, copied              == the loop of copy
 -- refused-written                  == the three parts of a refused sheet's line
 -- kept-full, kept-more             == the ways through keep
 -- byte-full, byte-end, byte-more   == the ways through take_byte
@@ -35,26 +34,6 @@ use Rattle.stream.specs.declared.Held.{Held}
 use Rattle.stream.specs.declared.Taken.{Taken}
 
 -- copy
-
-module _ (bytes l out : List ℕ) (i : ℕ) (fits : length bytes ≤ length l) (so-far : out ≡ put 0 l (take i bytes)) where
-  pub copied-more : i < length bytes → set out i (getD bytes i 0) ≡ put 0 l (take (i + 1) bytes)
-  copied-more h =
-      ap (λ (z : List ℕ). set z i (getD bytes i 0)) so-far
-      ∙ (ap (λ (z : ℕ). set (put 0 l (take i bytes)) z (getD bytes i 0)) at-i
-      ∙ (put-next 0 l (take i bytes) (getD bytes i 0) inside
-      ∙ (ap (put 0 l) (sym (take-suc bytes i 0 h)) ∙ ap (λ (z : ℕ). put 0 l (take z bytes)) (sym (add-one i)))))
-    where
-      long : length (take i bytes) ≡ i
-      long = length-take-le i bytes (omega arith)
-
-      at-i : i ≡ 0 + length (take i bytes)
-      at-i = omega (arith, long)
-
-      inside : 0 + length (take i bytes) < length l
-      inside = omega (arith, long)
-
-  pub copied : length bytes ≤ i → out ≡ put 0 l bytes
-  copied h = so-far ∙ ap (put 0 l) (take-all i bytes h)
 
 pub refused-written : (l o₁ o₂ : List ℕ) (n : ℕ) → 19 ≤ length l → o₁ ≡ put 0 l sheetRefused → o₂ ≡ put 13 o₁ (columnOf 5 n) → set o₂ 18 10 ≡ put 0 l (refusedSheet n)
 unfolding refusedSheet sheetRefused

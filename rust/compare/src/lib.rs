@@ -3,6 +3,7 @@
 
 pub mod c;
 pub mod calls;
+pub mod columns;
 pub mod copy_chains;
 pub mod dense;
 pub mod kept;

@@ -46,6 +46,9 @@ pub fn columns(line: &[u8]) -> Result<Vec<usize>, Refusal> {
     if line.len() > LONGEST_LINE {
         return Err(Refusal::of(9));
     }
+    if line.len() % 5 != 0 {
+        return Err(Refusal::of(2));
+    }
     let mut numbers = Vec::new();
     for bytes in line.chunks(5) {
         numbers.push(sheet::column(bytes).ok_or(Refusal::of(2))?);

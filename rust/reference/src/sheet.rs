@@ -2,12 +2,9 @@
 
 use crate::{Record, Refusal, BUFFERING, MATCHING};
 
-/// The number in a column of five bytes, right-justified, padded on the left with spaces, without leading zeros;
+/// The number in a column of any width, right-justified, padded on the left with spaces, without leading zeros;
 /// nothing if the column is not so.
 pub fn column(bytes: &[u8]) -> Option<usize> {
-    if bytes.len() != 5 {
-        return None;
-    }
     let text = std::str::from_utf8(bytes).ok()?;
     let digits = text.trim_start_matches(' ');
     if digits.is_empty() || !digits.bytes().all(|byte| byte.is_ascii_digit()) {

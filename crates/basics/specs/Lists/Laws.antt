@@ -5,6 +5,7 @@
 -- put-put              == a part, and then another behind it, are the two put as one
 -- put-next             == a store behind a part that was put makes it longer
 -- put-one, put-three   == one store, and three stores in a row, put a part
+-- copied-more, copied  == a loop that copies a list to the front of another
 -- set-cases            == what holds of the element that is stored, and of the others as they were, holds of all
 -- set-next             == the same of the elements up to the one that is stored
 -- drop-set             == the list from an index on, once something is stored at it: that, and what stood behind it
@@ -17,7 +18,7 @@ use native.Mathlib.Decide.{ℕ-discrete}
 use native.Mathlib.Nat.{add-zero, zero-add}
 use native.Mathlib.Numerals.{add-one, add-two}
 use lib.ListN.{length, getD, set, take, drop, replicate, length-set, length-append, length-drop, take-append-drop}
-use lib.Seq.{take-at, drop-at, drop-drop, drop-cons, drop-set-lt, getD-set-same, getD-set-other, length-take-le, sets-eq}
+use lib.Seq.{take-at, drop-at, drop-drop, drop-cons, drop-set-lt, getD-set-same, getD-set-other, length-take-le, sets-eq, take-all, take-suc}
 use Rattle.basics.specs.Lists.{put}
 
 module _ {A : Type 0} where
@@ -66,6 +67,26 @@ module _ {A : Type 0} where
   pub put-three : (l : List A) (i : ℕ) (a b c : A) → i + 3 ≤ length l → set (set (set l i a) (i + 1) b) (i + 2) c ≡ put i l (a ∷ b ∷ c ∷ [])
   unfolding put
   put-three l i a b c h = simp (add-one i, add-two i) (sets-eq (a ∷ b ∷ c ∷ []) l i h)
+
+module _ (from l to : List ℕ) (i : ℕ) (fits : length from ≤ length l) (so-far : to ≡ put 0 l (take i from)) where
+  pub copied-more : i < length from → set to i (getD from i 0) ≡ put 0 l (take (i + 1) from)
+  copied-more h =
+      ap (λ (z : List ℕ). set z i (getD from i 0)) so-far
+      ∙ (ap (λ (z : ℕ). set (put 0 l (take i from)) z (getD from i 0)) at-i
+      ∙ (put-next 0 l (take i from) (getD from i 0) inside
+      ∙ (ap (put 0 l) (sym (take-suc from i 0 h)) ∙ ap (λ (z : ℕ). put 0 l (take z from)) (sym (add-one i)))))
+    where
+      long : length (take i from) ≡ i
+      long = length-take-le i from (omega arith)
+
+      at-i : i ≡ 0 + length (take i from)
+      at-i = omega (arith, long)
+
+      inside : 0 + length (take i from) < length l
+      inside = omega (arith, long)
+
+  pub copied : length from ≤ i → to ≡ put 0 l from
+  copied h = so-far ∙ ap (put 0 l) (take-all i from h)
 
 module _ {A : Type 0} (l : List A) (i : ℕ) (v d : A) (inside : i < length l) where
   pub set-cases : (P : ℕ → A → Type 0) → P i v → ((k : ℕ) → (k ≡ i → ⊥) → P k (getD l k d)) → (k : ℕ) → P k (getD (set l i v) k d)

@@ -1,4 +1,4 @@
-use Rattle.columns.proofs.Passes.{space, digit-of}
+use Rattle.columns.proofs.Written.{space, digit-of}
 use native.Mathlib.Omega.{arith}
 use Rattle.columns.proofs.digit_or_space.Statement.{statement}
 use Rattle.columns.proofs.digit_or_space.Tie as tie

@@ -1,6 +1,6 @@
 use lib.ListN.{length-set}
 use native.Mathlib.Omega.{arith}
-use Rattle.columns.proofs.Passes.{five-put}
+use Rattle.columns.proofs.Written.{five-put}
 use borrow.Author.Needs.{needs}
 use Rattle.columns.proofs.store.Statement.{statement}
 use Rattle.columns.proofs.store.Tie as tie

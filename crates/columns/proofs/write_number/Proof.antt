@@ -1,6 +1,6 @@
 use Prim.Native.Nat.{_/_}
 use native.Mathlib.Omega.{arith}
-use Rattle.columns.proofs.Passes.{column-five, space, digit-of}
+use Rattle.columns.proofs.Written.{column-five, space, digit-of}
 use borrow.Author.Needs.{needs}
 use Rattle.columns.proofs.write_number.Statement.{statement}
 use Rattle.columns.proofs.write_number.Tie as tie

@@ -4,6 +4,12 @@
 -- number-of-column == a number that fits the width, written and read, is itself
 -- column-of-number == a column that holds a number is the column of that number
 -- passFrom-append  == a pass over two parts is a pass over the second from where the first left it
+-- pass-broken      == a pass that is broken stays so
+-- pass-spaces, pass-nought, pass-digits == what a pass holds after spaces, after the column of 0, after that of a number above 0
+-- digit-range      == the bytes that are digits
+-- Told p k l       == what a pass that holds p after k bytes l says of them
+-- told             == a pass over all bytes says it
+-- column-padded    == a column above 0 is its digits behind spaces
 use Prim.Native.Nat.{ℕ, zero, suc, _+_, _*_, _-_, _/_, _%_, _<_, _≤_, _^_}
 use mathlib.Core.Path.{_≡_, refl, sym, ap, _∙_, subst}
 use mathlib.Core.Logic.{_⊎_, inl, inr}
@@ -22,6 +28,11 @@ pub passFrom-append : (p : Pass) (l r : List ℕ) → passFrom p (l ++ r) ≡ pa
 unfolding passFrom
 passFrom-append p [] r = refl
 passFrom-append p (b ∷ l) r = passFrom-append (next p b) l r
+
+pub pass-broken : (l : List ℕ) → passFrom broken l ≡ broken
+unfolding passFrom next
+pass-broken [] = refl
+pass-broken (b ∷ l) = pass-broken l
 
 padded-length : (w q : ℕ) → length (padded w q) ≡ w
 unfolding padded
@@ -71,81 +82,107 @@ next-digit v d h =
 -- Writing and then reading
 
 -- what a pass holds after the digits of q: nothing but spaces where q is 0
-heldOf : ℕ → Pass
-heldOf zero = blank
-heldOf (suc v) = digits (suc v)
+spacesOr : ℕ → Pass
+spacesOr zero = blank
+spacesOr (suc v) = digits (suc v)
 
-next-held : (v : ℕ) → next (heldOf (v / 10)) (digitOr v) ≡ heldOf v
-unfolding heldOf
-next-held zero = ap (λ (b : ℕ). next blank b) digitOr-zero ∙ next-space
-next-held (suc u) = at (v / 10) refl
+next-spaces : (v : ℕ) → next (spacesOr (v / 10)) (digitOr v) ≡ spacesOr v
+unfolding spacesOr
+next-spaces zero = ap (λ (b : ℕ). next blank b) digitOr-zero ∙ next-space
+next-spaces (suc u) = at (v / 10) refl
   where
     v : ℕ
     v = suc u
 
-    at : (t : ℕ) → v / 10 ≡ t → next (heldOf (v / 10)) (digitOr v) ≡ digits v
+    at : (t : ℕ) → v / 10 ≡ t → next (spacesOr (v / 10)) (digitOr v) ≡ digits v
     at zero e =
-        ap (λ (z : ℕ). next (heldOf z) (digitOr v)) e
+        ap (λ (z : ℕ). next (spacesOr z) (digitOr v)) e
         ∙ (ap (λ (b : ℕ). next blank b) (digitOr-more v (omega arith))
         ∙ (next-first (v % 10) (omega arith) (omega arith) ∙ ap digits (omega arith)))
     at (suc t) e =
-        ap (λ (z : ℕ). next (heldOf z) (digitOr v)) e
+        ap (λ (z : ℕ). next (spacesOr z) (digitOr v)) e
         ∙ (ap (λ (b : ℕ). next (digits (suc t)) b) (digitOr-more v (omega arith))
         ∙ (next-digit (suc t) (v % 10) (omega arith) ∙ ap digits (omega arith)))
 
 fits-less : (w v : ℕ) → v < 10 ^ suc w → v / 10 < 10 ^ w
 fits-less w v h = let g : v < 10 ^ w * 10 = rw pow-suc at h in omega arith
 
-pass-padded : (w v : ℕ) → v < 10 ^ w → passFrom blank (padded w v) ≡ heldOf v
-unfolding padded passFrom heldOf
+pass-padded : (w v : ℕ) → v < 10 ^ w → passFrom blank (padded w v) ≡ spacesOr v
+unfolding padded passFrom spacesOr
 pass-padded zero zero h = refl
 pass-padded zero (suc v) h = absurd (omega arith)
 pass-padded (suc w) v h =
     passFrom-append blank (padded w (v / 10)) (digitOr v ∷ [])
-    ∙ (ap (λ (p : Pass). next p (digitOr v)) (pass-padded w (v / 10) (fits-less w v h)) ∙ next-held v)
+    ∙ (ap (λ (p : Pass). next p (digitOr v)) (pass-padded w (v / 10) (fits-less w v h)) ∙ next-spaces v)
 
-found-last : (v d : ℕ) → d < 10 → found (next (heldOf v) (48 + d)) ≡ v * 10 + d
-unfolding found heldOf
-found-last zero zero h = ap found next-nought
-found-last zero (suc d) h = ap found (next-first (suc d) (omega arith) h) ∙ omega arith
-found-last (suc v) d h = ap found (next-digit (suc v) d h)
+-- what a pass holds after the column of n
+columnPass : ℕ → Pass
+columnPass zero = nought
+columnPass (suc v) = digits (suc v)
+
+next-last : (n : ℕ) → next (spacesOr (n / 10)) (48 + n % 10) ≡ columnPass n
+unfolding spacesOr columnPass
+next-last zero = next-nought
+next-last (suc v) = ap (λ (b : ℕ). next (spacesOr (suc v / 10)) b) (sym (digitOr-more (suc v) (omega arith))) ∙ next-spaces (suc v)
+
+pass-column : (w n : ℕ) → n < 10 ^ suc w → passFrom blank (columnOf (suc w) n) ≡ columnPass n
+unfolding columnOf passFrom
+pass-column w n h =
+    passFrom-append blank (padded w (n / 10)) ((48 + n % 10) ∷ [])
+    ∙ (ap (λ (p : Pass). next p (48 + n % 10)) (pass-padded w (n / 10) (fits-less w n h)) ∙ next-last n)
+
+pub pass-spaces : (w : ℕ) → passFrom blank (padded w 0) ≡ blank
+unfolding spacesOr
+pass-spaces w = pass-padded w 0 (one-le-pow w 10 (omega arith))
+
+pub pass-nought : (w : ℕ) → 0 < w → passFrom blank (columnOf w 0) ≡ nought
+unfolding columnPass
+pass-nought zero p = absurd (omega arith)
+pass-nought (suc w) p = pass-column w 0 (one-le-pow (suc w) 10 (omega arith))
+
+pub pass-digits : (w v : ℕ) → 0 < v → v < 10 ^ w → passFrom blank (columnOf w v) ≡ digits v
+unfolding columnPass
+pass-digits w zero p h = absurd (omega arith)
+pass-digits zero (suc v) p h = absurd (omega arith)
+pass-digits (suc w) (suc v) p h = pass-column w (suc v) h
+
+found-column : (n : ℕ) → found (columnPass n) ≡ n
+unfolding found columnPass
+found-column zero = refl
+found-column (suc v) = refl
 
 pub number-of-column : (w n : ℕ) → n < 10 ^ suc w → columnNumber (columnOf (suc w) n) ≡ n
-unfolding columnNumber columnOf passFrom
-number-of-column w n h =
-    ap found
-    (passFrom-append blank (padded w (n / 10)) ((48 + n % 10) ∷ [])
-    ∙ ap (λ (p : Pass). next p (48 + n % 10)) (pass-padded w (n / 10) (fits-less w n h)))
-    ∙ (found-last (n / 10) (n % 10) (omega arith) ∙ omega arith)
+unfolding columnNumber
+number-of-column w n h = ap found (pass-column w n h) ∙ found-column n
 
 -- Reading and then writing
 
 -- what a pass that holds p after k bytes l says of them
-Held : Pass → ℕ → List ℕ → Type 0
-Held blank k l = l ≡ padded k 0
-Held nought k l = l ≡ columnOf k 0
-Held (digits v) k l = (l ≡ padded k v) × (0 < v) × (v < 10 ^ k)
-Held broken k l = Unit {0}
+unfoldable pub Told : Pass → ℕ → List ℕ → Type 0
+Told blank k l = l ≡ padded k 0
+Told nought k l = (0 < k) × (l ≡ columnOf k 0)
+Told (digits v) k l = (l ≡ padded k v) × (0 < v) × (v < 10 ^ k)
+Told broken k l = Unit {0}
 
-digit-of : (b : ℕ) → isDigit b ≡ true → (48 ≤ b) × (b ≤ 57)
-digit-of b e = let s = and-true (leb 48 b) (leb b 57) e in (leb-true _ _ (s .0), leb-true _ _ (s .1))
+pub digit-range : (b : ℕ) → isDigit b ≡ true → (48 ≤ b) × (b ≤ 57)
+digit-range b e = let s = and-true (leb 48 b) (leb b 57) e in (leb-true _ _ (s .0), leb-true _ _ (s .1))
 
-held-digit : (k v d : ℕ) → d < 10 → 0 < v * 10 + d → padded (suc k) (v * 10 + d) ≡ padded k v ++ ((48 + d) ∷ [])
+padded-digit : (k v d : ℕ) → d < 10 → 0 < v * 10 + d → padded (suc k) (v * 10 + d) ≡ padded k v ++ ((48 + d) ∷ [])
 unfolding padded
-held-digit k v d h p =
+padded-digit k v d h p =
     ap (λ (q : ℕ). padded k q ++ (digitOr (v * 10 + d) ∷ [])) (omega arith)
     ∙ ap (λ (b : ℕ). padded k v ++ (b ∷ [])) (digitOr-more (v * 10 + d) p ∙ ap (λ (r : ℕ). 48 + r) (omega arith))
 
-held-next : (p : Pass) (k : ℕ) (l : List ℕ) (b : ℕ) → Held p k l → Held (next p b) (suc k) (l ++ (b ∷ []))
-unfolding Held next padded columnOf
-held-next blank k l b e = at (true-or-false (eqb b 32)) (true-or-false (eqb b 48)) (true-or-false (isDigit b))
+told-next : (p : Pass) (k : ℕ) (l : List ℕ) (b : ℕ) → Told p k l → Told (next p b) (suc k) (l ++ (b ∷ []))
+unfolding Told next padded columnOf
+told-next blank k l b e = at (true-or-false (eqb b 32)) (true-or-false (eqb b 48)) (true-or-false (isDigit b))
   where
     Goal : Pass → Type 0
-    Goal p = Held p (suc k) (l ++ (b ∷ []))
+    Goal p = Told p (suc k) (l ++ (b ∷ []))
 
     first : (d : ℕ) → 0 < d → d < 10 → b ≡ 48 + d → Goal (digits d)
     first d p h q = (
-      ap (λ (x : List ℕ). x ++ (b ∷ [])) e ∙ (ap (λ (c : ℕ). padded k 0 ++ (c ∷ [])) q ∙ (sym (held-digit k 0 d h (omega arith)) ∙ ap (λ (v : ℕ). padded (suc k) v) (omega arith))),
+      ap (λ (x : List ℕ). x ++ (b ∷ [])) e ∙ (ap (λ (c : ℕ). padded k 0 ++ (c ∷ [])) q ∙ (sym (padded-digit k 0 d h (omega arith)) ∙ ap (λ (v : ℕ). padded (suc k) v) (omega arith))),
       p,
       (let g : 0 < 10 ^ k = one-le-pow k 10 (omega arith) in rw pow-suc (omega arith)),
     )
@@ -156,57 +193,58 @@ held-next blank k l b e = at (true-or-false (eqb b 32)) (true-or-false (eqb b 48
         (ap (λ (x : List ℕ). x ++ (b ∷ [])) e ∙ ap (λ (c : ℕ). padded k 0 ++ (c ∷ [])) (eqb-true b 32 s ∙ sym digitOr-zero))
     at (inr s) (inl n) d =
         subst Goal (sym (ap (λ (c : ℕ). next blank c) (eqb-true b 48 n) ∙ next-nought))
-        (ap (λ (x : List ℕ). x ++ (b ∷ [])) e ∙ ap (λ (c : ℕ). padded k 0 ++ (c ∷ [])) (eqb-true b 48 n))
+        (omega arith, ap (λ (x : List ℕ). x ++ (b ∷ [])) e ∙ ap (λ (c : ℕ). padded k 0 ++ (c ∷ [])) (eqb-true b 48 n))
     at (inr s) (inr n) (inl d) =
-        let r = digit-of b d in
+        let r = digit-range b d in
         let z : b ≡ 48 → ⊥ = eqb-false b 48 n in
         let q : b ≡ 48 + (b - 48) = omega arith in
         let m : 0 < b - 48 = omega arith in
         subst Goal (sym (ap (λ (c : ℕ). next blank c) q ∙ next-first (b - 48) m (omega arith))) (first (b - 48) m (omega arith) q)
     at (inr s) (inr n) (inr d) = let q : next blank b ≡ broken = simp (s, n, d) in subst Goal (sym q) tt
-held-next nought k l b e = tt
-held-next (digits v) k l b e = at (true-or-false (isDigit b))
+told-next nought k l b e = tt
+told-next (digits v) k l b e = at (true-or-false (isDigit b))
   where
     Goal : Pass → Type 0
-    Goal p = Held p (suc k) (l ++ (b ∷ []))
+    Goal p = Told p (suc k) (l ++ (b ∷ []))
 
     at : (isDigit b ≡ true) ⊎ (isDigit b ≡ false) → Goal (next (digits v) b)
     at (inl d) =
-        let r = digit-of b d in
+        let r = digit-range b d in
         let q : b ≡ 48 + (b - 48) = omega arith in
         let p : 0 < v = e .1 in
         let f : v < 10 ^ k = e .2 in
         subst Goal (sym (ap (λ (c : ℕ). next (digits v) c) q ∙ next-digit v (b - 48) (omega arith))) (
-          ap (λ (x : List ℕ). x ++ (b ∷ [])) (e .0) ∙ (ap (λ (c : ℕ). padded k v ++ (c ∷ [])) q ∙ sym (held-digit k v (b - 48) (omega arith) (omega arith))),
+          ap (λ (x : List ℕ). x ++ (b ∷ [])) (e .0) ∙ (ap (λ (c : ℕ). padded k v ++ (c ∷ [])) q ∙ sym (padded-digit k v (b - 48) (omega arith) (omega arith))),
           omega arith,
           rw pow-suc (omega arith),
         )
     at (inr d) = subst Goal (sym (ap (λ (z : Bool). cond z (digits (v * 10 + (b - 48))) broken) d)) tt
-held-next broken k l b e = tt
+told-next broken k l b e = tt
 
-held-from : (p : Pass) (k : ℕ) (l r : List ℕ) → Held p k l → Held (passFrom p r) (k + length r) (l ++ r)
+told-from : (p : Pass) (k : ℕ) (l r : List ℕ) → Told p k l → Told (passFrom p r) (k + length r) (l ++ r)
 unfolding passFrom
-held-from p k l [] h = subst (λ (x : List ℕ). Held p (k + 0) x) (sym (append-nil l)) (subst (λ (n : ℕ). Held p n l) (omega arith) h)
-held-from p k l (b ∷ r) h =
-    subst (λ (x : List ℕ). Held (passFrom (next p b) r) (k + suc (length r)) x) (append-assoc l (b ∷ []) r)
-    (subst (λ (n : ℕ). Held (passFrom (next p b) r) n ((l ++ (b ∷ [])) ++ r)) (omega arith) (held-from (next p b) (suc k) (l ++ (b ∷ [])) r (held-next p k l b h)))
+told-from p k l [] h = subst (λ (x : List ℕ). Told p (k + 0) x) (sym (append-nil l)) (subst (λ (n : ℕ). Told p n l) (omega arith) h)
+told-from p k l (b ∷ r) h =
+    subst (λ (x : List ℕ). Told (passFrom (next p b) r) (k + suc (length r)) x) (append-assoc l (b ∷ []) r)
+    (subst (λ (n : ℕ). Told (passFrom (next p b) r) n ((l ++ (b ∷ [])) ++ r)) (omega arith) (told-from (next p b) (suc k) (l ++ (b ∷ [])) r (told-next p k l b h)))
 
-held : (l : List ℕ) → Held (passFrom blank l) (length l) l
-unfolding Held padded
-held l = subst (λ (n : ℕ). Held (passFrom blank l) n l) (omega arith) (held-from blank 0 [] l refl)
+pub told : (l : List ℕ) → Told (passFrom blank l) (length l) l
+unfolding Told padded
+told l = subst (λ (n : ℕ). Told (passFrom blank l) n l) (omega arith) (told-from blank 0 [] l refl)
+
+pub column-padded : (k v : ℕ) → 0 < v → v < 10 ^ k → columnOf k v ≡ padded k v
+unfolding columnOf padded
+column-padded zero v p f = absurd (omega arith)
+column-padded (suc k) v p f = ap (λ (b : ℕ). padded k (v / 10) ++ (b ∷ [])) (sym (digitOr-more v p))
 
 -- a pass that found a number
-column-found : (p : Pass) (k : ℕ) (l : List ℕ) → Held p k l → (found p ≡ noNumber → ⊥) → (columnOf k (found p) ≡ l) × (found p < 10 ^ k)
-unfolding Held found columnOf padded
+column-found : (p : Pass) (k : ℕ) (l : List ℕ) → Told p k l → (found p ≡ noNumber → ⊥) → columnOf k (found p) ≡ l
+unfolding Told found
 column-found blank k l h n = absurd (n refl)
-column-found nought k l h n = (sym h, one-le-pow k 10 (omega arith))
-column-found (digits v) k l h n = (at k (h .1) (h .2) ∙ sym (h .0), h .2)
-  where
-    at : (j : ℕ) → 0 < v → v < 10 ^ j → columnOf j v ≡ padded j v
-    at zero p f = absurd (omega arith)
-    at (suc j) p f = ap (λ (b : ℕ). padded j (v / 10) ++ (b ∷ [])) (sym (digitOr-more v p))
+column-found nought k l h n = sym (h .1)
+column-found (digits v) k l h n = column-padded k v (h .1) (h .2) ∙ sym (h .0)
 column-found broken k l h n = absurd (n refl)
 
 pub column-of-number : (l : List ℕ) → (columnNumber l ≡ noNumber → ⊥) → columnOf (length l) (columnNumber l) ≡ l
 unfolding columnNumber
-column-of-number l n = column-found (passFrom blank l) (length l) l (held l) n .0
+column-of-number l n = column-found (passFrom blank l) (length l) l (told l) n

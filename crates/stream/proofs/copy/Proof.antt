@@ -3,8 +3,7 @@ use mathlib.Core.Path.{_≡_, refl, _∙_}
 use native.Mathlib.Omega.{arith}
 use lib.ListN.{length, take, length-set}
 use Rattle.basics.specs.Lists.{put}
-use Rattle.basics.specs.Lists.Laws.{put-none}
-use Rattle.stream.proofs.PieceCases.{copied-more, copied}
+use Rattle.basics.specs.Lists.Laws.{put-none, copied-more, copied}
 use Rattle.stream.proofs.copy.Statement.{statement}
 use Rattle.stream.proofs.copy.Tie as tie
 

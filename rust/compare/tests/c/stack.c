@@ -126,8 +126,12 @@ static void *small(void *wrong) {
   if (zagvirk_check_run(t, t_list, 18, word, LONGEST, run, LONGEST + 6).accepting != 1) *(int *)wrong = 7;
   sheet_bytes = zagvirk_write_sheet(largest, largest_list, 12000, sheet, sizeof sheet).bytes;
   if (sheet_bytes != sizeof sheet) *(int *)wrong = 8;
-  if (zagvirk_read_sheet(sheet, sheet_bytes, list, 12000).machine.transitions != 4000) *(int *)wrong = 9;
   if (zagvirk_translate(written, 255, word, 255).letters != 255) *(int *)wrong = 10;
+  return NULL;
+}
+
+static void *read_sheet(void *wrong) {
+  if (zagvirk_read_sheet(sheet, sheet_bytes, list, 12000).machine.transitions != 4000) *(int *)wrong = 9;
   return NULL;
 }
 
@@ -153,9 +157,10 @@ typedef struct {
   size_t letters;
 } part;
 
-static part parts[8] = {
+static part parts[] = {
     {small, ZAGVIRK_STACK_SMALL, LONGEST},
     {list_copies, ZAGVIRK_STACK_SMALL, 254},
+    {read_sheet, ZAGVIRK_STACK_READ_SHEET, 254},
     {join, ZAGVIRK_STACK_JOIN, 254},
     {accepts, ZAGVIRK_STACK_ACCEPTS, 254},
     {accept_words, ZAGVIRK_STACK_ACCEPT_WORDS, 254},
@@ -163,6 +168,8 @@ static part parts[8] = {
     {common_word, ZAGVIRK_STACK_COMMON_WORD, 254},
     {recognize, ZAGVIRK_STACK_RECOGNIZE, 254},
 };
+
+#define PARTS (sizeof parts / sizeof parts[0])
 
 static int by_stack(const void *first, const void *second) {
   size_t a = ((const part *)first)->stack, b = ((const part *)second)->stack;
@@ -186,8 +193,8 @@ int main(void) {
   memset(written, 'z', sizeof written);
 
   /* From the least stack to the largest: a thread may be given the stack of one that has ended, if that is larger. */
-  qsort(parts, 8, sizeof parts[0], by_stack);
-  for (i = 0; i < 8; i++) {
+  qsort(parts, PARTS, sizeof parts[0], by_stack);
+  for (i = 0; i < PARTS; i++) {
     make_word(parts[i].letters);
     wrong = in_thread(parts[i].calls, parts[i].stack);
     if (wrong != 0) return wrong;

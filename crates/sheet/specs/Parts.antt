@@ -1,0 +1,30 @@
+-- What the reader promises of each part of a sheet: its first fault, and where there is none what the part says.
+--
+-- HeaderRead s r                          == r is what line one holds
+-- StatesRead s n r                        == r is what the lines of the n states hold
+-- TransitionsRead s states letters n kept fault after == fault is the first of the lines of the n transitions; where there is none, their numbers stand
+--                                            at the front of what was kept
+use Prim.Native.Nat.{ℕ}
+use mathlib.Core.Path.{_≡_}
+use mathlib.Core.List.{List}
+use Rattle.basics.specs.Lists.{put}
+use Rattle.basics.specs.Each.{eachBelow}
+use Rattle.sheet.specs.declared.parts.Header.{Header}
+use Rattle.sheet.specs.declared.parts.States.{States}
+use Rattle.sheet.specs.Format.{transitionStart}
+use Rattle.sheet.specs.Series.{firstOf}
+use Rattle.sheet.specs.Reading.{columnAt, headerFault, stateFault, transitionFault, marksOf, numbersIn}
+
+pub record HeaderRead (s : List ℕ) (r : Header) : Type 0 where
+  pub fault : r .fault ≡ headerFault s
+  pub states : r .fault ≡ 0 → r .states ≡ columnAt s 0
+  pub letters : r .fault ≡ 0 → r .letters ≡ columnAt s 5
+  pub transitions : r .fault ≡ 0 → r .transitions ≡ columnAt s 10
+
+pub record StatesRead (s : List ℕ) (n : ℕ) (r : States) : Type 0 where
+  pub fault : r .fault ≡ firstOf n (stateFault s)
+  pub marks : r .fault ≡ 0 → r .marks ≡ marksOf s n
+
+pub record TransitionsRead (s : List ℕ) (states letters n : ℕ) (kept : List ℕ) (fault : ℕ) (after : List ℕ) : Type 0 where
+  pub first : fault ≡ firstOf n (transitionFault s states letters)
+  pub numbers : fault ≡ 0 → after ≡ put 0 kept (eachBelow n (λ k. numbersIn s (transitionStart states k)))
