@@ -184,7 +184,7 @@ typedef struct {
  * Refuses at the first fault in reading order, in each line in this order: 1, 2, then 3 (line one), 4 (a state's line)
  * or 5 (a transition's line), then 6; after all lines 7, then 15.
  *
- * Time: each byte of the sheet is looked at once. Stack: ZAGVIRK_STACK_READ_SHEET.
+ * Time: each byte of the sheet is looked at once at most. Stack: ZAGVIRK_STACK_READ_SHEET.
  */
 zagvirk_sheet_read zagvirk_read_sheet(const uint8_t *sheet, size_t sheet_len, uint16_t *list, size_t list_len);
 

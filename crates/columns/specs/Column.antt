@@ -1,11 +1,19 @@
 -- How one column is read and written: a decimal number, right-justified, padded on the left with spaces, no leading zero but in 0
 -- itself (document 01, "The sheet"). Everything that reads or writes columns cites these definitions and the laws in
--- specs/Column/Laws.antt; the width is the length of the list.
+-- specs/Column/Laws.antt; the width is the length of the list. How a column is read is defined here as it was before the code made one
+-- pass (document 02, change 4); what that pass holds stands in specs/Held.antt and is compared with this by its law as-before.
 --
--- Pass               == what a pass over a column holds after some of its bytes
--- next p b           == what it holds after one byte more
--- passFrom p l       == what it holds after the bytes l
+-- widestColumn       == the most bytes of a column that the code reads
+-- noNumber           == stands for a number where there is none
+-- blankNumber        == the number in a column of spaces alone
+-- isDigit b          == whether the byte b is a digit
+-- Pass               == what has been seen after some bytes of a column
+-- next p b           == the same after one byte more
+-- passFrom p l       == the same after the bytes l more
+-- found p            == the number of a column that ends so
 -- columnNumber l     == the number that the bytes l are; noNumber where they are not a column
+-- digitOr q          == the last digit of q, or a space where q is 0
+-- padded w q         == the digits of q at the end of w bytes, spaces before them; spaces alone where q is 0
 -- columnOf w n       == the column of w bytes that holds n
 use Prim.Native.Nat.{ℕ, zero, suc, _+_, _*_, _-_, _/_, _%_}
 use mathlib.Core.List.{List, [], _∷_, _++_}
@@ -13,11 +21,14 @@ use mathlib.Core.Bool.{Bool, cond, _&&_}
 use lib.Dec.{leb, eqb}
 pub mod Laws
 
--- stands for a number where there is none: more than any column of ten bytes holds
+abbrev pub widestColumn : ℕ
+widestColumn = 10
+
+-- more than any column of widestColumn bytes holds
 abbrev pub noNumber : ℕ
 noNumber = 10000000000
 
--- the number in a column of spaces alone: none
+-- none
 abbrev pub blankNumber : ℕ
 blankNumber = noNumber
 
@@ -55,11 +66,9 @@ found broken = noNumber
 unfoldable pub columnNumber : List ℕ → ℕ
 columnNumber l = found (passFrom blank l)
 
--- the last digit of q, or a space where q is 0
 unfoldable pub digitOr : ℕ → ℕ
 digitOr q = cond (eqb q 0) 32 (48 + q % 10)
 
--- the digits of q at the end of w bytes, spaces before them
 unfoldable pub padded : ℕ → ℕ → List ℕ
 padded zero q = []
 padded (suc w) q = padded w (q / 10) ++ (digitOr q ∷ [])

@@ -1,9 +1,10 @@
 -- What one pass over a column, from its first byte on, holds after some of its bytes (document 02, change 4): told by these bytes alone, with no
--- word of a pass. Held is the code's type. That the pass of the code holds it, and that its number is that of specs/Column.antt, stands in
--- specs/Held/Laws.antt.
+-- word of a pass. Held is the code's type, heldNext and heldNumber are what its two methods promise. How these go together, what is meant by what
+-- is held, and that the number is that of specs/Column.antt, stands in specs/Held/Laws.antt.
 --
 -- unpadded l       == the bytes l without the spaces at their front
 -- valueFrom v l    == the number whose digits are those of v and then the bytes l
+-- heldDigits l     == what is held after the bytes l, behind the spaces
 -- held l           == what is held after the bytes l
 -- heldNext h b     == what is held after one byte more
 -- soFar h          == the number so far; 0 where there are no digits
@@ -30,7 +31,7 @@ unfoldable pub valueFrom : ℕ → List ℕ → ℕ
 valueFrom v [] = v
 valueFrom v (b ∷ l) = valueFrom (v * 10 + (b - 48)) l
 
--- behind the spaces: nothing; a single 0; digits, the first of them not 0; anything else
+-- nothing; a single 0; digits, the first of them not 0; anything else
 unfoldable pub heldDigits : List ℕ → Held
 heldDigits [] = Blank
 heldDigits (b ∷ l) =

@@ -9,10 +9,13 @@ ghost use mathlib.Core.List.{[], _∷_};
 ghost use mathlib.Core.Path.{_≡_};
 ghost use lib.ListN.{length, take, drop};
 ghost use Rattle.basics.specs.Lists.{put};
-ghost use Rattle.columns.specs.Column.{noNumber, isDigit, columnNumber, digitOr, columnOf};
+ghost use Rattle.columns.specs.Column.{widestColumn, noNumber, isDigit, columnNumber, digitOr, columnOf};
 ghost use Rattle.columns.specs.Held.{held, heldNext, soFar, heldNumber};
 
-// The answer of number where there is none: more than any column of ten bytes holds.
+// The most bytes of a column.
+pub const WIDEST: usize = 10;
+
+// The answer of number where there is none: more than any column of WIDEST bytes holds.
 pub const NO_NUMBER: usize = 10000000000;
 
 // The number in a column of spaces alone: none.
@@ -41,7 +44,7 @@ fn is_digit(b: u8) -> bool
 }
 
 impl Held {
-    // What is held after one byte more.
+    // What is held after one byte more. The number so far is at most NO_NUMBER.
     pub fn next(self, b: u8) -> Held
         requires { ⌜ soFar self ≤ noNumber ⌝ }
         ensures { λ r. ⌜ r ≡ heldNext self b ⌝ }
@@ -67,7 +70,7 @@ impl Held {
     }
 }
 
-// What is held after the first byte that may be no space.
+// What is held after spaces alone and one byte more.
 fn first(b: u8) -> Held
     ensures { λ r. ⌜ r ≡ heldNext Held.Blank b ⌝ }
 {
@@ -83,7 +86,7 @@ fn first(b: u8) -> Held
     Held::Broken
 }
 
-// What is held after the digits of v and one byte more.
+// What is held after the digits of v and one byte more. v is at most NO_NUMBER.
 fn more(v: usize, b: u8) -> Held
     requires { ⌜ v ≤ noNumber ⌝ }
     ensures { λ r. ⌜ r ≡ heldNext (Held.Digits v) b ⌝ }
@@ -94,9 +97,9 @@ fn more(v: usize, b: u8) -> Held
     Held::Digits(v * 10 + (b - 48) as usize)
 }
 
-// What a pass over the bytes from at on holds after some of them, at most ten.
+// What a pass over the bytes from at on holds after width of them, at most WIDEST.
 fn pass(bytes: &[u8], at: usize, width: usize) -> Held
-    requires { ⌜ (at + width ≤ length (now bytes)) × (width ≤ 10) ⌝ }
+    requires { ⌜ (at + width ≤ length (now bytes)) × (width ≤ widestColumn) ⌝ }
     ensures { λ r. ⌜ r ≡ held (take width (drop at (now (bytes .entry)))) ⌝ }
 {
     let mut h = Held::Blank;
@@ -108,10 +111,10 @@ fn pass(bytes: &[u8], at: usize, width: usize) -> Held
     h
 }
 
-// The number in the column of at most ten bytes that starts at byte at; NO_NUMBER where they are not a column. Each byte is looked at
-// once, from the first on.
+// The number in the column of width bytes, at most WIDEST, that starts at byte at; NO_NUMBER where they are not a column. Each byte is
+// looked at once, from the first on.
 pub fn number(bytes: &[u8], at: usize, width: usize) -> usize
-    requires { ⌜ (at + width ≤ length (now bytes)) × (width ≤ 10) ⌝ }
+    requires { ⌜ (at + width ≤ length (now bytes)) × (width ≤ widestColumn) ⌝ }
     ensures { λ r. ⌜ r ≡ columnNumber (take width (drop at (now (bytes .entry)))) ⌝ }
 {
     pass(bytes, at, width).number()

@@ -2,15 +2,13 @@
 ghost use mathlib.Core.Path.{_≡_};
 ghost use Rattle.exports.specs.Comparison.{columnOrNone};
 
-// The most bytes of a column.
-const WIDEST_COLUMN: usize = 10;
-
-// The number in a column of at most ten bytes; columns::NO_NUMBER where they are not a column, or are more.
+// The number in a column of at most columns::WIDEST bytes; columns::NO_NUMBER where they are not a column, or are more.
+// Time: each byte once. Memory: constant.
 #[no_mangle]
 pub extern "C" fn zagvirk_column(bytes: &[u8]) -> usize
     ensures { λ r. ⌜ r ≡ columnOrNone (now (bytes .entry)) ⌝ }
 {
-    if WIDEST_COLUMN < bytes.len() {
+    if columns::WIDEST < bytes.len() {
         return columns::NO_NUMBER;
     }
     columns::number(bytes, 0, bytes.len())

@@ -1,10 +1,19 @@
 -- The parts of a sheet as the reader meets them.
 --
 -- ColumnsRead s i c numbers == the first c columns of the line at byte i are as described, and these are their numbers
+-- columns-none, columns-next == none is read yet; one column more
 -- line-..                   == the fault of a line: too short, a bad column, a bad end, none
--- header-..                 == line one: a fault of the line, or its counts
--- state-.., StatesTo        == a state's line, by its fault; what holds once q states are read
--- transition-.., TransitionsTo == a transition's line, by its fault; what holds once k transitions are read
+-- from-zero                 == a column of line one, by its place
+-- header-bad, header-read   == line one: a fault of the line, or its counts
+-- StatesTo s q i marks      == what holds once q states are read
+-- states-none, state-next, states-done == before the first, one state more, after the last
+-- state-line, state-mark    == a state's line has a fault: of the line, of its numbers
+-- mark-small                == a mark without fault is small
+-- numbersPiece, lineOfNumbers == a transition's numbers in the list, and as the code holds them
+-- TransitionsTo s states letters k i kept after before == what holds once k transitions are read
+-- transitions-none, transition-next, transitions-done == before the first, one transition more, after the last
+-- transition-line, transition-order == a transition's line has a fault: of the line, of its numbers
+-- numbers-small             == the numbers of a transition without fault are small
 use Prim.Native.Nat.{ℕ, zero, suc, _+_, _*_, _-_, _<_, _≤_}
 use mathlib.Core.Path.{_≡_, refl, sym, ap, _∙_, subst}
 use mathlib.Core.List.{List, [], _∷_, _++_}
@@ -231,13 +240,13 @@ pub transitions-done : (s : List ℕ) (states letters n k i : ℕ) (kept after :
     → TransitionsRead s states letters n kept 0 after
 transitions-done s states letters n k i kept after before t e =
     record {
-      first = sym (t .none) ∙ ap (λ (j : ℕ). firstOf j (transitionFault s states letters)) e;
+      fault = sym (t .none) ∙ ap (λ (j : ℕ). firstOf j (transitionFault s states letters)) e;
       numbers = λ z. t .are ∙ ap (λ (j : ℕ). put 0 kept (eachBelow j (numbersPiece s states))) e;
     }
 
 module _ (s : List ℕ) (states letters n k i : ℕ) (kept after : List ℕ) (before : Line) (so-far : TransitionsTo s states letters k i kept after before) (inside : k < n) where
   transition-bad : (v : ℕ) → (v ≡ 0 → ⊥) → transitionFault s states letters k ≡ v → TransitionsRead s states letters n kept v after
-  transition-bad v z e = record { first = first-at n (transitionFault s states letters) k v z (so-far .none) e inside; numbers = λ d. absurd (z d) }
+  transition-bad v z e = record { fault = first-at n (transitionFault s states letters) k v z (so-far .none) e inside; numbers = λ d. absurd (z d) }
 
   line-at : lineFault s 3 i ≡ lineFault s 3 (transitionStart states k)
   line-at = ap (λ (j : ℕ). lineFault s 3 j) (so-far .start)

@@ -1,9 +1,9 @@
 -- What the reader promises of each part of a sheet: its first fault, and where there is none what the part says.
 --
--- HeaderRead s r                          == r is what line one holds
--- StatesRead s n r                        == r is what the lines of the n states hold
--- TransitionsRead s states letters n kept fault after == fault is the first of the lines of the n transitions; where there is none, their numbers stand
---                                            at the front of what was kept
+-- HeaderRead s r       == r is what line one holds
+-- StatesRead s n r     == r is what the lines of the n states hold
+-- TransitionsRead s states letters n kept v after == v is the first fault of the lines of the n transitions; where there is none, kept has become
+--                         after, with their numbers at its front
 use Prim.Native.Nat.{ℕ}
 use mathlib.Core.Path.{_≡_}
 use mathlib.Core.List.{List}
@@ -25,6 +25,6 @@ pub record StatesRead (s : List ℕ) (n : ℕ) (r : States) : Type 0 where
   pub fault : r .fault ≡ firstOf n (stateFault s)
   pub marks : r .fault ≡ 0 → r .marks ≡ marksOf s n
 
-pub record TransitionsRead (s : List ℕ) (states letters n : ℕ) (kept : List ℕ) (fault : ℕ) (after : List ℕ) : Type 0 where
-  pub first : fault ≡ firstOf n (transitionFault s states letters)
-  pub numbers : fault ≡ 0 → after ≡ put 0 kept (eachBelow n (λ k. numbersIn s (transitionStart states k)))
+pub record TransitionsRead (s : List ℕ) (states letters n : ℕ) (kept : List ℕ) (v : ℕ) (after : List ℕ) : Type 0 where
+  pub fault : v ≡ firstOf n (transitionFault s states letters)
+  pub numbers : v ≡ 0 → after ≡ put 0 kept (eachBelow n (λ k. numbersIn s (transitionStart states k)))

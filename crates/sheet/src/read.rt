@@ -16,9 +16,10 @@ use fsbm::limits::LIST_LENGTH;
 use fsbm::limits::MAX_STATES;
 use fsbm::machine::Machine;
 
-// A table of at most so many transitions is read with little memory to clear, and the numbers of these, three for each.
+// At most so many transitions are kept in a smaller array, which takes less time to clear.
 const FEW_TRANSITIONS: usize = 64;
 
+// The numbers of so many transitions, three for each.
 const FEW_LENGTH: usize = 192;
 
 // The answer of read_sheet: refusal.number is 0 where the sheet was read. After a refusal every field of the machine is 0.
@@ -94,7 +95,7 @@ fn read_rest(sheet: &[u8], header: Header, kept: &mut [u16], list: &mut [u16]) -
     }
 }
 
-// The same for a table of few transitions.
+// The same for a table of few transitions, which are kept in a small array.
 fn read_few(sheet: &[u8], header: Header, list: &mut [u16]) -> Sheet
     requires { ⌜ HeaderRead (now sheet) header × (header .fault ≡ 0) × (header .transitions ≤ 64) ⌝ }
     ensures { λ r. ⌜ (r ≡ readAnswer (now (sheet .entry)) (length (now (list .entry)))) × (now (list .exit) ≡ readList (now (sheet .entry)) (now (list .entry))) ⌝ }
@@ -103,7 +104,7 @@ fn read_few(sheet: &[u8], header: Header, list: &mut [u16]) -> Sheet
     read_rest(sheet, header, &mut kept, list)
 }
 
-// The same for a table of any size.
+// The same for a table of any number of transitions.
 fn read_many(sheet: &[u8], header: Header, list: &mut [u16]) -> Sheet
     requires { ⌜ HeaderRead (now sheet) header × (header .fault ≡ 0) ⌝ }
     ensures { λ r. ⌜ (r ≡ readAnswer (now (sheet .entry)) (length (now (list .entry)))) × (now (list .exit) ≡ readList (now (sheet .entry)) (now (list .entry))) ⌝ }
@@ -114,8 +115,8 @@ fn read_many(sheet: &[u8], header: Header, list: &mut [u16]) -> Sheet
 
 // The public call that reads a sheet: its machine, with the transitions at the front of the list, three numbers each. It refuses
 // the first fault in reading order, 1 to 7, then 15 (the list is too short) with the length needed. A refusal leaves the list as
-// it was; so does a sheet that is read with all that stands past its transitions.
-// Time: each byte of the sheet once. Memory: the machine and its transitions, 24 KB; 400 bytes for at most 64 transitions.
+// it was, and what stands in the list past the transitions stays as it was.
+// Time: each byte of the sheet once at most. Memory: the machine, and 24 KB that keep its transitions.
 pub fn read_sheet(sheet: &[u8], list: &mut [u16]) -> Sheet
     ensures { λ r. ⌜ (r ≡ readAnswer (now (sheet .entry)) (length (now (list .entry)))) × (now (list .exit) ≡ readList (now (sheet .entry)) (now (list .entry))) ⌝ }
 {

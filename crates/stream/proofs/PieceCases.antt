@@ -33,7 +33,7 @@ use Rattle.stream.specs.Calls.{pendingOf, ended, openAnswer, Lent, ByteK
 use Rattle.stream.specs.declared.Held.{Held}
 use Rattle.stream.specs.declared.Taken.{Taken}
 
--- copy
+-- The line of a refused sheet
 
 pub refused-written : (l o₁ o₂ : List ℕ) (n : ℕ) → 19 ≤ length l → o₁ ≡ put 0 l sheetRefused → o₂ ≡ put 13 o₁ (columnOf 5 n) → set o₂ 18 10 ≡ put 0 l (refusedSheet n)
 unfolding refusedSheet sheetRefused

@@ -78,7 +78,7 @@ fn write_header(out: &mut [u8])
 // Reads the sheet into the list, and writes to the front of out what is printed ahead of any input: the header, or the line of a
 // refused sheet with the number of its first fault in reading order, 1 to 7, after which no more is printed. The list has at least
 // 12,000 elements, so that 15 cannot come; the list of a refused sheet stays as it was.
-// Time: the sheet twice. Memory: none but what is lent.
+// Time: the sheet once. Memory: what is lent, and that of reading the sheet.
 pub fn open(sheet: &[u8], list: &mut [u16], out: &mut [u8]) -> Opened
     requires { ⌜ (12000 ≤ length (now list)) × (19 ≤ length (now out)) ⌝ }
     ensures { λ r. ⌜ (r ≡ openAnswer (now (sheet .entry)) (length (now (list .entry)))) × (now (list .exit) ≡ readList (now (sheet .entry)) (now (list .entry))) × (now (out .exit) ≡ put 0 (now (out .entry)) (opening (now (sheet .entry)))) ⌝ }

@@ -446,6 +446,37 @@ fn limits() {
     counts.report("read, limits and one past them");
 }
 
+/// The reader keeps at most 64 transitions in a smaller array than more of them.
+#[test]
+fn around_the_smaller_array() {
+    let mut counts = Counts::default();
+    let mut gives = |sheet: &[u8], length: usize, refusal: u8| {
+        assert_eq!(reads(sheet, length), refusal);
+        counts.add(refusal);
+    };
+    let (marks, all) = largest();
+    for number in [62, 63, 64, 65, 66] {
+        let transitions = &all[..number];
+        let needed = 3 * number;
+        let good = text([64, 250, number], &marks, transitions);
+        for length in 0..needed + 4 {
+            gives(&good, length, if length < needed { 15 } else { 0 });
+        }
+        gives(&good[..good.len() - 1], needed, 1);
+        for length in [0, needed, needed + 5] {
+            gives(&[&good[..], b"\n"].concat(), length, 7);
+        }
+        for (changed, refusal) in [([64, 250, 0], 5), ([0, 251, 0], 5), (transitions[number - 2], 6)] {
+            let mut other = transitions.to_vec();
+            other[number - 1] = changed;
+            gives(&text([64, 250, number], &marks, &other), needed, refusal);
+        }
+        let more = text([64, 250, number], &marks, &all[..number + 1]);
+        gives(&more, needed + 3, 7);
+    }
+    counts.report("read, 62 to 66 transitions");
+}
+
 #[test]
 fn every_list_too_short() {
     let mut counts = Counts::default();

@@ -7,9 +7,7 @@
 -- pass-broken      == a pass that is broken stays so
 -- pass-spaces, pass-nought, pass-digits == what a pass holds after spaces, after the column of 0, after that of a number above 0
 -- digit-range      == the bytes that are digits
--- Told p k l       == what a pass that holds p after k bytes l says of them
--- told             == a pass over all bytes says it
--- column-padded    == a column above 0 is its digits behind spaces
+-- spaces-passed, nought-passed, digits-passed == the way back: what the bytes are by what a pass over them holds
 use Prim.Native.Nat.{ℕ, zero, suc, _+_, _*_, _-_, _/_, _%_, _<_, _≤_, _^_}
 use mathlib.Core.Path.{_≡_, refl, sym, ap, _∙_, subst}
 use mathlib.Core.Logic.{_⊎_, inl, inr}
@@ -158,7 +156,7 @@ number-of-column w n h = ap found (pass-column w n h) ∙ found-column n
 -- Reading and then writing
 
 -- what a pass that holds p after k bytes l says of them
-unfoldable pub Told : Pass → ℕ → List ℕ → Type 0
+unfoldable Told : Pass → ℕ → List ℕ → Type 0
 Told blank k l = l ≡ padded k 0
 Told nought k l = (0 < k) × (l ≡ columnOf k 0)
 Told (digits v) k l = (l ≡ padded k v) × (0 < v) × (v < 10 ^ k)
@@ -228,14 +226,28 @@ told-from p k l (b ∷ r) h =
     subst (λ (x : List ℕ). Told (passFrom (next p b) r) (k + suc (length r)) x) (append-assoc l (b ∷ []) r)
     (subst (λ (n : ℕ). Told (passFrom (next p b) r) n ((l ++ (b ∷ [])) ++ r)) (omega arith) (told-from (next p b) (suc k) (l ++ (b ∷ [])) r (told-next p k l b h)))
 
-pub told : (l : List ℕ) → Told (passFrom blank l) (length l) l
+told : (l : List ℕ) → Told (passFrom blank l) (length l) l
 unfolding Told padded
 told l = subst (λ (n : ℕ). Told (passFrom blank l) n l) (omega arith) (told-from blank 0 [] l refl)
 
-pub column-padded : (k v : ℕ) → 0 < v → v < 10 ^ k → columnOf k v ≡ padded k v
+column-padded : (k v : ℕ) → 0 < v → v < 10 ^ k → columnOf k v ≡ padded k v
 unfolding columnOf padded
 column-padded zero v p f = absurd (omega arith)
 column-padded (suc k) v p f = ap (λ (b : ℕ). padded k (v / 10) ++ (b ∷ [])) (sym (digitOr-more v p))
+
+pub spaces-passed : (l : List ℕ) → passFrom blank l ≡ blank → l ≡ padded (length l) 0
+unfolding Told
+spaces-passed l e = subst (λ (p : Pass). Told p (length l) l) e (told l)
+
+pub nought-passed : (l : List ℕ) → passFrom blank l ≡ nought → (0 < length l) × (l ≡ columnOf (length l) 0)
+unfolding Told
+nought-passed l e = subst (λ (p : Pass). Told p (length l) l) e (told l)
+
+pub digits-passed : (l : List ℕ) (v : ℕ) → passFrom blank l ≡ digits v → (0 < v) × (v < 10 ^ length l) × (l ≡ columnOf (length l) v)
+unfolding Told
+digits-passed l v e =
+    let t : (l ≡ padded (length l) v) × (0 < v) × (v < 10 ^ length l) = subst (λ (p : Pass). Told p (length l) l) e (told l) in
+    (t .1, t .2, t .0 ∙ sym (column-padded (length l) v (t .1) (t .2)))
 
 -- a pass that found a number
 column-found : (p : Pass) (k : ℕ) (l : List ℕ) → Told p k l → (found p ≡ noNumber → ⊥) → columnOf k (found p) ≡ l

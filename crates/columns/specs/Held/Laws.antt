@@ -1,10 +1,12 @@
 -- The laws of what is held after some bytes of a column.
 --
--- held-start     == before the first byte a pass holds Blank
--- held-told      == what is held is told by the bytes alone: after one byte more it is what was held, moved on by that byte
+-- held-start     == before the first byte Blank is held
+-- held-told      == what is held after one byte more is what was held, moved on by that byte
 -- held-after     == the same for the bytes of a list from place at on
--- held-says      == what is held after the bytes l, exactly
+-- held-says      == h is held after the bytes l exactly if Says h l
+-- may-follow     == a byte breaks what is held exactly if no column begins with the bytes and that one
 -- as-before      == the number at the end is that of specs/Column.antt, for every column of every width
+-- blank-column   == a column of spaces alone holds blankNumber, whatever its width
 -- so-far-below   == the number so far has at most as many digits as there were bytes
 use Prim.Native.Nat.{ℕ, zero, suc, _+_, _*_, _-_, _<_, _^_}
 use mathlib.Core.Path.{_≡_, refl, sym, ap, _∙_, subst}
@@ -20,8 +22,8 @@ use lib.Dec.{eqb}
 use borrow.Author.Tests.{eqb-true, ne-eqb}
 use Rattle.basics.specs.Search.{allIn}
 use Rattle.basics.specs.Search.Laws.{true-or-false, not-both}
-use Rattle.columns.specs.Column.{isDigit, Pass, blank, nought, digits, broken, next, passFrom, found, columnNumber, digitOr, padded, columnOf}
-use Rattle.columns.specs.Column.Laws.{passFrom-append, pass-broken, pass-spaces, pass-nought, pass-digits, Told, told, column-padded}
+use Rattle.columns.specs.Column.{blankNumber, isDigit, Pass, blank, nought, digits, broken, next, passFrom, found, columnNumber, digitOr, padded, columnOf}
+use Rattle.columns.specs.Column.Laws.{passFrom-append, pass-broken, pass-spaces, pass-nought, pass-digits, spaces-passed, nought-passed, digits-passed}
 use Rattle.columns.specs.Held.{unpadded, valueFrom, heldDigits, held, heldNext, soFar, heldNumber, NoColumn, Says}
 use Rattle.columns.specs.declared.Held.{Held}
 use Rattle.columns.specs.declared.Held.the-variants.{Blank, Nought, Digits, Broken}
@@ -137,43 +139,52 @@ not-broken (suc w) (suc n) h e = let q = pass-digits (suc w) (suc n) (omega arit
 broken-none : (l : List ℕ) → passFrom blank l ≡ broken → NoColumn l
 broken-none l e w n r h c = not-broken w n h (ap (passFrom blank) c ∙ (passFrom-append blank l r ∙ (ap (λ (p : Pass). passFrom p r) e ∙ pass-broken r)))
 
-says-pass : (p : Pass) (l : List ℕ) → passFrom blank l ≡ p → Told p (length l) l → Says (asHeld p) l
-unfolding Says asHeld Told passFrom next
-says-pass blank l e t = t ∙ padded-spaces (length l)
-says-pass nought l e t = (
-  t .0,
-  t .1,
-  λ b. broken-none (l ++ (b ∷ [])) (passFrom-append blank l (b ∷ []) ∙ ap (λ (p : Pass). next p b) e),
-)
-says-pass (digits v) l e t = (t .1, t .2, t .0 ∙ sym (column-padded (length l) v (t .1) (t .2)))
-says-pass broken l e t = broken-none l e
+says-pass : (p : Pass) (l : List ℕ) → passFrom blank l ≡ p → Says (asHeld p) l
+unfolding Says asHeld passFrom next
+says-pass blank l e = spaces-passed l e ∙ padded-spaces (length l)
+says-pass nought l e =
+    let t = nought-passed l e in
+    (t .0, t .1, λ b. broken-none (l ++ (b ∷ [])) (passFrom-append blank l (b ∷ []) ∙ ap (λ (p : Pass). next p b) e))
+says-pass (digits v) l e = digits-passed l v e
+says-pass broken l e = broken-none l e
 
 says-held : (l : List ℕ) → Says (held l) l
-says-held l = subst (λ (h : Held). Says h l) (sym (held-pass l)) (says-pass (passFrom blank l) l refl (told l))
+says-held l = subst (λ (h : Held). Says h l) (sym (held-pass l)) (says-pass (passFrom blank l) l refl)
 
-some-column : (p : Pass) (k : ℕ) (l : List ℕ) → Told p k l → NoColumn l → p ≡ broken
-unfolding Told columnOf
-some-column blank k l t c = absurd (c (suc k) 0 (48 ∷ []) (one-le-pow (suc k) 10 (omega arith)) (ap (λ (x : List ℕ). x ++ (48 ∷ [])) (sym t)))
-some-column nought k l t c = absurd (c k 0 [] (one-le-pow k 10 (omega arith)) (sym (t .1) ∙ sym (append-nil l)))
-some-column (digits v) k l t c = absurd (c k v [] (t .2) (column-padded k v (t .1) (t .2) ∙ (sym (t .0) ∙ sym (append-nil l))))
-some-column broken k l t c = refl
+some-column : (p : Pass) (l : List ℕ) → passFrom blank l ≡ p → NoColumn l → p ≡ broken
+unfolding columnOf
+some-column blank l e c =
+    absurd (c (suc (length l)) 0 (48 ∷ []) (one-le-pow (suc (length l)) 10 (omega arith)) (ap (λ (x : List ℕ). x ++ (48 ∷ [])) (sym (spaces-passed l e))))
+some-column nought l e c = absurd (c (length l) 0 [] (one-le-pow (length l) 10 (omega arith)) (sym (nought-passed l e .1) ∙ sym (append-nil l)))
+some-column (digits v) l e c = let t = digits-passed l v e in absurd (c (length l) v [] (t .1) (sym (t .2) ∙ sym (append-nil l)))
+some-column broken l e c = refl
 
 held-of : (h : Held) (l : List ℕ) → Says h l → held l ≡ h
 unfolding Says asHeld
 held-of Blank l s = held-pass l ∙ ap asHeld (ap (passFrom blank) (s ∙ sym (padded-spaces (length l))) ∙ pass-spaces (length l))
 held-of Nought l s = held-pass l ∙ ap asHeld (ap (passFrom blank) (s .1) ∙ pass-nought (length l) (s .0))
 held-of (Digits v) l s = held-pass l ∙ ap asHeld (ap (passFrom blank) (s .2) ∙ pass-digits (length l) v (s .0) (s .1))
-held-of Broken l s = held-pass l ∙ ap asHeld (some-column (passFrom blank l) (length l) l (told l) s)
+held-of Broken l s = held-pass l ∙ ap asHeld (some-column (passFrom blank l) l refl s)
 
 pub held-says : (l : List ℕ) (h : Held) → (held l ≡ h) ↔ Says h l
 held-says l h = (λ (e : held l ≡ h). subst (λ (g : Held). Says g l) e (says-held l), held-of h l)
 
-below-pass : (p : Pass) (k : ℕ) (l : List ℕ) → Told p k l → soFar (asHeld p) < 10 ^ k
-unfolding soFar asHeld Told
-below-pass blank k l t = one-le-pow k 10 (omega arith)
-below-pass nought k l t = one-le-pow k 10 (omega arith)
-below-pass (digits v) k l t = t .2
-below-pass broken k l t = one-le-pow k 10 (omega arith)
+pub may-follow : (l : List ℕ) (b : ℕ) → (heldNext (held l) b ≡ Broken) ↔ NoColumn (l ++ (b ∷ []))
+unfolding Says
+may-follow l b =
+    let s = held-says (l ++ (b ∷ [])) Broken in
+    (λ (e : heldNext (held l) b ≡ Broken). s .0 (held-told l b ∙ e), λ (n : NoColumn (l ++ (b ∷ []))). sym (held-told l b) ∙ s .1 n)
+
+pub blank-column : (w : ℕ) → columnNumber (replicate w 32) ≡ blankNumber
+unfolding columnNumber found
+blank-column w = ap found (ap (passFrom blank) (sym (padded-spaces w)) ∙ pass-spaces w)
+
+below-pass : (p : Pass) (l : List ℕ) → passFrom blank l ≡ p → soFar (asHeld p) < 10 ^ length l
+unfolding soFar asHeld
+below-pass blank l e = one-le-pow (length l) 10 (omega arith)
+below-pass nought l e = one-le-pow (length l) 10 (omega arith)
+below-pass (digits v) l e = digits-passed l v e .1
+below-pass broken l e = one-le-pow (length l) 10 (omega arith)
 
 pub so-far-below : (l : List ℕ) → soFar (held l) < 10 ^ length l
-so-far-below l = rw held-pass (below-pass (passFrom blank l) (length l) l (told l))
+so-far-below l = rw held-pass (below-pass (passFrom blank l) l refl)

@@ -130,6 +130,7 @@ static void *small(void *wrong) {
   return NULL;
 }
 
+/* Reads the sheet that small has written: that runs before, as it has less stack. */
 static void *read_sheet(void *wrong) {
   if (zagvirk_read_sheet(sheet, sheet_bytes, list, 12000).machine.transitions != 4000) *(int *)wrong = 9;
   return NULL;

@@ -19,111 +19,84 @@ Inv-sheet sheet states marks₀ numbers₀ at₀ q₀ marks numbers at q = (q �
 abbrev μ-sheet : tie.MeasureT-sheet
 μ-sheet sheet states marks₀ numbers₀ at₀ q₀ marks numbers at q = states - q
 
--- src/parts.rt:91:9
 sheet-holds : tie.Need-sheet-holds Inv-loop μ-loop Inv-sheet μ-sheet
 sheet-holds c = (omega arith, states-none _, refl)
 
--- src/parts.rt:95:26
 add-if2 : tie.Need-add-if2 Inv-loop μ-loop Inv-sheet μ-sheet
 add-if2 c = omega (arith, (c .before .before .before) .pre, (c .before) .sheet .inv .0, (c .before) .sheet .inv .1 .start)
 
--- src/parts.rt:99:9
 loop-holds : tie.Need-loop-holds Inv-loop μ-loop Inv-sheet μ-sheet
 loop-holds c = (omega arith, (c .before .before) .sheet .inv .2, columns-none _ _ _)
 
--- src/parts.rt:100:40
 mul-column : tie.Need-mul-column Inv-loop μ-loop Inv-sheet μ-sheet
 mul-column c = omega arith
 
--- src/parts.rt:100:35
 add-column : tie.Need-add-column Inv-loop μ-loop Inv-sheet μ-sheet
 add-column c = omega (arith, (c .before .before .before .before .before .before) .good, (c .before .before) .if2 .left, c .loop-test .taken)
 
--- src/parts.rt:100:17
 column-requires : tie.Need-column-requires Inv-loop μ-loop Inv-sheet μ-sheet
 column-requires c κs = omega (arith, (c .before .before) .if2 .left, c .loop-test .taken)
 
--- src/parts.rt:104:13
 mul-numbers : tie.Need-mul-numbers Inv-loop μ-loop Inv-sheet μ-sheet
 mul-numbers c = omega (arith, (c .before .before) .loop-test .taken)
 
--- src/parts.rt:104:13
 array-write-numbers : tie.Need-array-write-numbers Inv-loop μ-loop Inv-sheet μ-sheet
 array-write-numbers c = omega (arith, (c .before .before) .loop-test .taken)
 
--- src/parts.rt:105:13
 add-c : tie.Need-add-c Inv-loop μ-loop Inv-sheet μ-sheet
 add-c c = omega (arith, (c .before .before) .loop-test .taken)
 
--- src/parts.rt:99:9
 loop-less : tie.Need-loop-less Inv-loop μ-loop Inv-sheet μ-sheet
 loop-less c = omega (arith, (c .before .before) .loop-test .taken)
 
--- src/parts.rt:99:9
 loop-again : tie.Need-loop-again Inv-loop μ-loop Inv-sheet μ-sheet
 loop-again c = (omega (arith, (c .before .before) .loop-test .taken), length-set ((c .before .before .before) .loop .numbers) ((c .before .before .before) .loop .c) ((c .before) .column .result) ∙ (c .before .before .before) .loop .inv .1, columns-next (((c .before .before .before .before .before .before .before .before) .args .sheet) .now) ((c .before .before .before .before .before .before) .sheet .at) ((c .before .before .before) .loop .c) ((c .before) .column .result) ((c .before .before .before) .loop .numbers) ((c .before .before .before) .loop .inv .2) ((c .before) .column .ensures) (c .if3 .left) (omega (arith, (c .before .before .before) .loop .inv .1, (c .before .before) .loop-test .taken)))
 
--- src/parts.rt:107:18
 add-if4 : tie.Need-add-if4 Inv-loop μ-loop Inv-sheet μ-sheet
 add-if4 c = omega (arith, (c .before .before .before .before .before .before) .good, (c .before .before) .if2 .left)
 
--- src/parts.rt:107:12
 shared-slice-read-if4 : tie.Need-shared-slice-read-if4 Inv-loop μ-loop Inv-sheet μ-sheet
 shared-slice-read-if4 c = omega (arith, (c .before .before .before) .if2 .left)
 
--- src/parts.rt:110:22
 array-read-number : tie.Need-array-read-number Inv-loop μ-loop Inv-sheet μ-sheet
 array-read-number c = omega arith
 
--- src/parts.rt:111:20
 array-read-mark : tie.Need-array-read-mark Inv-loop μ-loop Inv-sheet μ-sheet
 array-read-mark c = omega arith
 
--- src/parts.rt:112:13
 mark-fault-requires : tie.Need-mark-fault-requires Inv-loop μ-loop Inv-sheet μ-sheet
 mark-fault-requires c κs = search needs
 
--- src/parts.rt:116:20
 cast-marks : tie.Need-cast-marks Inv-loop μ-loop Inv-sheet μ-sheet
 cast-marks c = omega (arith, mark-small (((c .before .before .before .before .before .before .before .before .before .before) .args .sheet) .now) ((c .before .before .before .before .before .before .before .before .before .before) .args .states) ((c .before .before .before .before .before .before .before .before) .sheet .q) ((c .before .before .before .before .before .before .before .before) .sheet .at) ((c .before .before .before .before .before .before .before .before) .sheet .marks) ((c .before .before .before .before .before .before .before .before) .sheet .inv .1) (omega (arith, (c .before .before .before .before .before .before .before .before) .sheet .inv .0, (c .before .before .before .before .before .before .before) .if1 .left)) ((c .before .before .before .before .before) .loop .c) ((c .before .before .before .before .before) .loop .numbers) (line-good (((c .before .before .before .before .before .before .before .before .before .before) .args .sheet) .now) ((c .before .before .before .before .before .before .before .before) .sheet .at) 2 (omega (arith, (c .before .before .before .before .before .before) .if2 .left)) ((c .before .before .before .before .before) .loop .c) ((c .before .before .before .before .before) .loop .numbers) ((c .before .before .before .before .before) .loop .inv .2) (omega (arith, (c .before .before .before .before .before) .loop .inv .0, (c .before .before .before .before) .loop-test .left)) ((c .before .before) .if4 .left)) ((c .before .before .before .before .before) .loop .inv .2) (omega (arith, (c .before .before .before .before .before) .loop .inv .0, (c .before .before .before .before) .loop-test .left)) ((c .before) .mark-fault .result) ((c .before) .mark-fault .ensures) (c .if5 .left))
 
--- src/parts.rt:116:9
 array-write-marks : tie.Need-array-write-marks Inv-loop μ-loop Inv-sheet μ-sheet
 array-write-marks c = omega (arith, (c .before .before .before .before .before .before .before .before .before .before) .pre, (c .before .before .before .before .before .before .before .before) .sheet .inv .0, (c .before .before .before .before .before .before .before) .if1 .left)
 
--- src/parts.rt:117:9
 add-at : tie.Need-add-at Inv-loop μ-loop Inv-sheet μ-sheet
 add-at c = omega (arith, (c .before .before .before .before .before .before .before .before .before .before) .good, (c .before .before .before .before .before .before) .if2 .left)
 
--- src/parts.rt:118:9
 add-q : tie.Need-add-q Inv-loop μ-loop Inv-sheet μ-sheet
 add-q c = omega (arith, (c .before .before .before .before .before .before .before .before .before .before) .pre, (c .before .before .before .before .before .before .before .before) .sheet .inv .0)
 
--- src/parts.rt:91:9
 sheet-less : tie.Need-sheet-less Inv-loop μ-loop Inv-sheet μ-sheet
 sheet-less c = omega (arith, (c .before .before .before .before .before .before .before .before) .sheet .inv .0, (c .before .before .before .before .before .before .before) .if1 .left)
 
--- src/parts.rt:91:9
 sheet-again : tie.Need-sheet-again Inv-loop μ-loop Inv-sheet μ-sheet
 sheet-again c = (omega (arith, (c .before .before .before .before .before .before .before .before) .sheet .inv .0, (c .before .before .before .before .before .before .before) .if1 .left), state-next (((c .before .before .before .before .before .before .before .before .before .before) .args .sheet) .now) ((c .before .before .before .before .before .before .before .before .before .before) .args .states) ((c .before .before .before .before .before .before .before .before) .sheet .q) ((c .before .before .before .before .before .before .before .before) .sheet .at) ((c .before .before .before .before .before .before .before .before) .sheet .marks) ((c .before .before .before .before .before .before .before .before) .sheet .inv .1) (omega (arith, (c .before .before .before .before .before .before .before .before) .sheet .inv .0, (c .before .before .before .before .before .before .before) .if1 .left)) ((c .before .before .before .before .before) .loop .c) ((c .before .before .before .before .before) .loop .numbers) (line-good (((c .before .before .before .before .before .before .before .before .before .before) .args .sheet) .now) ((c .before .before .before .before .before .before .before .before) .sheet .at) 2 (omega (arith, (c .before .before .before .before .before .before) .if2 .left)) ((c .before .before .before .before .before) .loop .c) ((c .before .before .before .before .before) .loop .numbers) ((c .before .before .before .before .before) .loop .inv .2) (omega (arith, (c .before .before .before .before .before) .loop .inv .0, (c .before .before .before .before) .loop-test .left)) ((c .before .before) .if4 .left)) ((c .before .before .before .before .before) .loop .inv .2) (omega (arith, (c .before .before .before .before .before) .loop .inv .0, (c .before .before .before .before) .loop-test .left)) ((c .before) .mark-fault .result) ((c .before) .mark-fault .ensures) (c .if5 .left) (omega (arith, (c .before .before .before .before .before .before .before .before .before .before) .pre, (c .before .before .before .before .before .before .before .before) .sheet .inv .0, (c .before .before .before .before .before .before .before) .if1 .left)), (c .before .before .before .before .before) .loop .inv .1)
 
--- src/parts.rt:83:1
 returns : tie.Need-returns Inv-loop μ-loop Inv-sheet μ-sheet
 returns c = states-done (((c .before .before .before) .args .sheet) .now) ((c .before .before .before) .args .states) ((c .before) .sheet .q) ((c .before) .sheet .at) ((c .before) .sheet .marks) ((c .before) .sheet .inv .1) (c .if1 .taken)
 
--- src/parts.rt:83:1
 returns-2 : tie.Need-returns-2 Inv-loop μ-loop Inv-sheet μ-sheet
 returns-2 c = state-line (((c .before .before .before .before) .args .sheet) .now) ((c .before .before .before .before) .args .states) ((c .before .before) .sheet .q) ((c .before .before) .sheet .at) ((c .before .before) .sheet .marks) ((c .before .before) .sheet .inv .1) (omega (arith, (c .before .before) .sheet .inv .0, (c .before) .if1 .left)) 1 (λ (q : 1 ≡ 0). omega arith) (line-short (((c .before .before .before .before) .args .sheet) .now) ((c .before .before) .sheet .at) 2 (omega (arith, c .if2 .taken)))
 
--- src/parts.rt:83:1
 returns-3 : tie.Need-returns-3 Inv-loop μ-loop Inv-sheet μ-sheet
 returns-3 c = state-line (((c .before .before .before .before .before .before .before .before) .args .sheet) .now) ((c .before .before .before .before .before .before .before .before) .args .states) ((c .before .before .before .before .before .before) .sheet .q) ((c .before .before .before .before .before .before) .sheet .at) ((c .before .before .before .before .before .before) .sheet .marks) ((c .before .before .before .before .before .before) .sheet .inv .1) (omega (arith, (c .before .before .before .before .before .before) .sheet .inv .0, (c .before .before .before .before .before) .if1 .left)) 2 (λ (q : 2 ≡ 0). omega arith) (line-column (((c .before .before .before .before .before .before .before .before) .args .sheet) .now) ((c .before .before .before .before .before .before) .sheet .at) 2 (omega (arith, (c .before .before .before .before) .if2 .left)) ((c .before .before .before) .loop .c) ((c .before .before .before) .loop .numbers) ((c .before .before .before) .loop .inv .2) ((c .before .before) .loop-test .taken) (sym ((c .before) .column .ensures) ∙ c .if3 .taken))
 
--- src/parts.rt:83:1
 returns-4 : tie.Need-returns-4 Inv-loop μ-loop Inv-sheet μ-sheet
 returns-4 c = state-line (((c .before .before .before .before .before .before .before .before) .args .sheet) .now) ((c .before .before .before .before .before .before .before .before) .args .states) ((c .before .before .before .before .before .before) .sheet .q) ((c .before .before .before .before .before .before) .sheet .at) ((c .before .before .before .before .before .before) .sheet .marks) ((c .before .before .before .before .before .before) .sheet .inv .1) (omega (arith, (c .before .before .before .before .before .before) .sheet .inv .0, (c .before .before .before .before .before) .if1 .left)) 2 (λ (q : 2 ≡ 0). omega arith) (line-end (((c .before .before .before .before .before .before .before .before) .args .sheet) .now) ((c .before .before .before .before .before .before) .sheet .at) 2 (omega (arith, (c .before .before .before .before) .if2 .left)) ((c .before .before .before) .loop .c) ((c .before .before .before) .loop .numbers) ((c .before .before .before) .loop .inv .2) (omega (arith, (c .before .before .before) .loop .inv .0, (c .before .before) .loop-test .left)) (c .if4 .taken))
 
--- src/parts.rt:83:1
 returns-5 : tie.Need-returns-5 Inv-loop μ-loop Inv-sheet μ-sheet
 returns-5 c = state-mark (((c .before .before .before .before .before .before .before .before .before .before) .args .sheet) .now) ((c .before .before .before .before .before .before .before .before .before .before) .args .states) ((c .before .before .before .before .before .before .before .before) .sheet .q) ((c .before .before .before .before .before .before .before .before) .sheet .at) ((c .before .before .before .before .before .before .before .before) .sheet .marks) ((c .before .before .before .before .before .before .before .before) .sheet .inv .1) (omega (arith, (c .before .before .before .before .before .before .before .before) .sheet .inv .0, (c .before .before .before .before .before .before .before) .if1 .left)) ((c .before .before .before .before .before) .loop .c) ((c .before .before .before .before .before) .loop .numbers) (line-good (((c .before .before .before .before .before .before .before .before .before .before) .args .sheet) .now) ((c .before .before .before .before .before .before .before .before) .sheet .at) 2 (omega (arith, (c .before .before .before .before .before .before) .if2 .left)) ((c .before .before .before .before .before) .loop .c) ((c .before .before .before .before .before) .loop .numbers) ((c .before .before .before .before .before) .loop .inv .2) (omega (arith, (c .before .before .before .before .before) .loop .inv .0, (c .before .before .before .before) .loop-test .left)) ((c .before .before) .if4 .left)) ((c .before .before .before .before .before) .loop .inv .2) (omega (arith, (c .before .before .before .before .before) .loop .inv .0, (c .before .before .before .before) .loop-test .left)) ((c .before) .mark-fault .result) ((c .before) .mark-fault .ensures) (c .if5 .taken)
 

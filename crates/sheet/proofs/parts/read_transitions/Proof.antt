@@ -19,183 +19,138 @@ Inv-sheet sheet states letters transitions kept₀ numbers₀ before₀ at₀ k�
 abbrev μ-sheet : tie.MeasureT-sheet
 μ-sheet sheet states letters transitions kept₀ numbers₀ before₀ at₀ k₀ kept numbers before at k = transitions - k
 
--- src/parts.rt:140:41
 mul-at : tie.Need-mul-at Inv-loop μ-loop Inv-sheet μ-sheet
 mul-at c = omega (arith, (c .before .before) .pre .0)
 
--- src/parts.rt:140:25
 add-at : tie.Need-add-at Inv-loop μ-loop Inv-sheet μ-sheet
 add-at c = omega (arith, (c .before .before) .pre .0)
 
--- src/parts.rt:142:9
 sheet-holds : tie.Need-sheet-holds Inv-loop μ-loop Inv-sheet μ-sheet
 sheet-holds c = (omega arith, transitions-none _ _ _ _ _ _ (omega arith), refl, refl)
 
--- src/parts.rt:146:26
 add-if2 : tie.Need-add-if2 Inv-loop μ-loop Inv-sheet μ-sheet
 add-if2 c = omega (arith, (c .before .before .before .before) .pre .0, (c .before .before .before .before) .pre .2, (c .before) .sheet .inv .0, (c .before) .sheet .inv .1 .start)
 
--- src/parts.rt:150:9
 loop-holds : tie.Need-loop-holds Inv-loop μ-loop Inv-sheet μ-sheet
 loop-holds c = (omega arith, (c .before .before) .sheet .inv .2, columns-none _ _ _)
 
--- src/parts.rt:151:40
 mul-column : tie.Need-mul-column Inv-loop μ-loop Inv-sheet μ-sheet
 mul-column c = omega arith
 
--- src/parts.rt:151:35
 add-column : tie.Need-add-column Inv-loop μ-loop Inv-sheet μ-sheet
 add-column c = omega (arith, (c .before .before .before .before .before .before .before) .good, (c .before .before) .if2 .left, c .loop-test .taken)
 
--- src/parts.rt:151:17
 column-requires : tie.Need-column-requires Inv-loop μ-loop Inv-sheet μ-sheet
 column-requires c κs = omega (arith, (c .before .before) .if2 .left, c .loop-test .taken)
 
--- src/parts.rt:155:13
 mul-numbers : tie.Need-mul-numbers Inv-loop μ-loop Inv-sheet μ-sheet
 mul-numbers c = omega (arith, (c .before .before) .loop-test .taken)
 
--- src/parts.rt:155:13
 array-write-numbers : tie.Need-array-write-numbers Inv-loop μ-loop Inv-sheet μ-sheet
 array-write-numbers c = omega (arith, (c .before .before) .loop-test .taken)
 
--- src/parts.rt:156:13
 add-c : tie.Need-add-c Inv-loop μ-loop Inv-sheet μ-sheet
 add-c c = omega (arith, (c .before .before) .loop-test .taken)
 
--- src/parts.rt:150:9
 loop-less : tie.Need-loop-less Inv-loop μ-loop Inv-sheet μ-sheet
 loop-less c = omega (arith, (c .before .before) .loop-test .taken)
 
--- src/parts.rt:150:9
 loop-again : tie.Need-loop-again Inv-loop μ-loop Inv-sheet μ-sheet
 loop-again c = (omega (arith, (c .before .before) .loop-test .taken), length-set ((c .before .before .before) .loop .numbers) ((c .before .before .before) .loop .c) ((c .before) .column .result) ∙ (c .before .before .before) .loop .inv .1, columns-next (((c .before .before .before .before .before .before .before .before .before) .args .sheet) .now) ((c .before .before .before .before .before .before) .sheet .at) ((c .before .before .before) .loop .c) ((c .before) .column .result) ((c .before .before .before) .loop .numbers) ((c .before .before .before) .loop .inv .2) ((c .before) .column .ensures) (c .if3 .left) (omega (arith, (c .before .before .before) .loop .inv .1, (c .before .before) .loop-test .taken)))
 
--- src/parts.rt:158:18
 add-if4 : tie.Need-add-if4 Inv-loop μ-loop Inv-sheet μ-sheet
 add-if4 c = omega (arith, (c .before .before .before .before .before .before .before) .good, (c .before .before) .if2 .left)
 
--- src/parts.rt:158:12
 shared-slice-read-if4 : tie.Need-shared-slice-read-if4 Inv-loop μ-loop Inv-sheet μ-sheet
 shared-slice-read-if4 c = omega (arith, (c .before .before .before) .if2 .left)
 
--- src/parts.rt:161:20
 array-read-from : tie.Need-array-read-from Inv-loop μ-loop Inv-sheet μ-sheet
 array-read-from c = omega arith
 
--- src/parts.rt:162:22
 array-read-letter : tie.Need-array-read-letter Inv-loop μ-loop Inv-sheet μ-sheet
 array-read-letter c = omega arith
 
--- src/parts.rt:163:18
 array-read-to : tie.Need-array-read-to Inv-loop μ-loop Inv-sheet μ-sheet
 array-read-to c = omega arith
 
--- src/parts.rt:165:13
 order-fault-requires : tie.Need-order-fault-requires Inv-loop μ-loop Inv-sheet μ-sheet
 order-fault-requires c κs = search needs
 
--- src/parts.rt:169:17
 mul-i : tie.Need-mul-i Inv-loop μ-loop Inv-sheet μ-sheet
 mul-i c = omega (arith, (c .before .before .before .before .before .before .before .before .before .before .before) .pre .2, (c .before .before .before .before .before .before .before .before) .sheet .inv .0)
 
--- src/parts.rt:170:19
 cast-kept : tie.Need-cast-kept Inv-loop μ-loop Inv-sheet μ-sheet
 cast-kept c = omega (arith, ((numbers-small (((c .before .before .before .before .before .before .before .before .before .before .before) .args .sheet) .now) ((c .before .before .before .before .before .before .before .before .before .before .before) .args .states) ((c .before .before .before .before .before .before .before .before .before .before .before) .args .letters) ((c .before .before .before .before .before .before .before .before .before .before .before) .args .transitions) ((c .before .before .before .before .before .before .before .before) .sheet .k) ((c .before .before .before .before .before .before .before .before) .sheet .at) (((c .before .before .before .before .before .before .before .before .before .before .before) .args .kept) .now) ((c .before .before .before .before .before .before .before .before) .sheet .kept) ((c .before .before .before .before .before .before .before .before) .sheet .before) ((c .before .before .before .before .before .before .before .before) .sheet .inv .1) (omega (arith, (c .before .before .before .before .before .before .before .before) .sheet .inv .0, (c .before .before .before .before .before .before .before) .if1 .left)) ((c .before .before .before .before .before) .loop .c) ((c .before .before .before .before .before) .loop .numbers) (line-good (((c .before .before .before .before .before .before .before .before .before .before .before) .args .sheet) .now) ((c .before .before .before .before .before .before .before .before) .sheet .at) 3 (omega (arith, (c .before .before .before .before .before .before) .if2 .left)) ((c .before .before .before .before .before) .loop .c) ((c .before .before .before .before .before) .loop .numbers) ((c .before .before .before .before .before) .loop .inv .2) (omega (arith, (c .before .before .before .before .before) .loop .inv .0, (c .before .before .before .before) .loop-test .left)) ((c .before .before) .if4 .left)) ((c .before .before .before .before .before) .loop .inv .2) (omega (arith, (c .before .before .before .before .before) .loop .inv .0, (c .before .before .before .before) .loop-test .left)) ((c .before) .order-fault .result) ((c .before) .order-fault .ensures) (c .if5 .left))) .0, (c .before .before .before .before .before .before .before .before .before .before .before) .pre .0)
 
--- src/parts.rt:170:9
 mul-kept : tie.Need-mul-kept Inv-loop μ-loop Inv-sheet μ-sheet
 mul-kept c = (omega (arith, (c .before .before .before .before .before .before .before .before .before .before .before) .pre .3, (c .before .before .before .before .before .before .before .before) .sheet .inv .0, (c .before .before .before .before .before .before .before .before) .sheet .inv .3, (c .before .before .before .before .before .before .before) .if1 .left))
 
--- src/parts.rt:170:9
 slice-write-kept : tie.Need-slice-write-kept Inv-loop μ-loop Inv-sheet μ-sheet
 slice-write-kept c = (omega (arith, (c .before .before .before .before .before .before .before .before .before .before .before) .pre .3, (c .before .before .before .before .before .before .before .before) .sheet .inv .0, (c .before .before .before .before .before .before .before .before) .sheet .inv .3, (c .before .before .before .before .before .before .before) .if1 .left))
 
--- src/parts.rt:171:23
 cast-kept-2 : tie.Need-cast-kept-2 Inv-loop μ-loop Inv-sheet μ-sheet
 cast-kept-2 c = omega (arith, ((numbers-small (((c .before .before .before .before .before .before .before .before .before .before .before) .args .sheet) .now) ((c .before .before .before .before .before .before .before .before .before .before .before) .args .states) ((c .before .before .before .before .before .before .before .before .before .before .before) .args .letters) ((c .before .before .before .before .before .before .before .before .before .before .before) .args .transitions) ((c .before .before .before .before .before .before .before .before) .sheet .k) ((c .before .before .before .before .before .before .before .before) .sheet .at) (((c .before .before .before .before .before .before .before .before .before .before .before) .args .kept) .now) ((c .before .before .before .before .before .before .before .before) .sheet .kept) ((c .before .before .before .before .before .before .before .before) .sheet .before) ((c .before .before .before .before .before .before .before .before) .sheet .inv .1) (omega (arith, (c .before .before .before .before .before .before .before .before) .sheet .inv .0, (c .before .before .before .before .before .before .before) .if1 .left)) ((c .before .before .before .before .before) .loop .c) ((c .before .before .before .before .before) .loop .numbers) (line-good (((c .before .before .before .before .before .before .before .before .before .before .before) .args .sheet) .now) ((c .before .before .before .before .before .before .before .before) .sheet .at) 3 (omega (arith, (c .before .before .before .before .before .before) .if2 .left)) ((c .before .before .before .before .before) .loop .c) ((c .before .before .before .before .before) .loop .numbers) ((c .before .before .before .before .before) .loop .inv .2) (omega (arith, (c .before .before .before .before .before) .loop .inv .0, (c .before .before .before .before) .loop-test .left)) ((c .before .before) .if4 .left)) ((c .before .before .before .before .before) .loop .inv .2) (omega (arith, (c .before .before .before .before .before) .loop .inv .0, (c .before .before .before .before) .loop-test .left)) ((c .before) .order-fault .result) ((c .before) .order-fault .ensures) (c .if5 .left))) .1, (c .before .before .before .before .before .before .before .before .before .before .before) .pre .1)
 
--- src/parts.rt:171:14
 add-kept : tie.Need-add-kept Inv-loop μ-loop Inv-sheet μ-sheet
 add-kept c = (omega (arith, (c .before .before .before .before .before .before .before .before .before .before .before) .pre .3, (c .before .before .before .before .before .before .before .before) .sheet .inv .0, (c .before .before .before .before .before .before .before .before) .sheet .inv .3, (c .before .before .before .before .before .before .before) .if1 .left))
 
--- src/parts.rt:171:9
 mul-kept-2 : tie.Need-mul-kept-2 Inv-loop μ-loop Inv-sheet μ-sheet
 mul-kept-2 c = (omega (arith, (c .before .before .before .before .before .before .before .before .before .before .before) .pre .3, (c .before .before .before .before .before .before .before .before) .sheet .inv .0, (c .before .before .before .before .before .before .before .before) .sheet .inv .3, (c .before .before .before .before .before .before .before) .if1 .left))
 
--- src/parts.rt:171:9
 slice-write-kept-2 : tie.Need-slice-write-kept-2 Inv-loop μ-loop Inv-sheet μ-sheet
 slice-write-kept-2 c = simp length-set (omega (arith, (c .before .before .before .before .before .before .before .before .before .before .before) .pre .3, (c .before .before .before .before .before .before .before .before) .sheet .inv .0, (c .before .before .before .before .before .before .before .before) .sheet .inv .3, (c .before .before .before .before .before .before .before) .if1 .left))
 
--- src/parts.rt:172:23
 cast-kept-3 : tie.Need-cast-kept-3 Inv-loop μ-loop Inv-sheet μ-sheet
 cast-kept-3 c = omega (arith, ((numbers-small (((c .before .before .before .before .before .before .before .before .before .before .before) .args .sheet) .now) ((c .before .before .before .before .before .before .before .before .before .before .before) .args .states) ((c .before .before .before .before .before .before .before .before .before .before .before) .args .letters) ((c .before .before .before .before .before .before .before .before .before .before .before) .args .transitions) ((c .before .before .before .before .before .before .before .before) .sheet .k) ((c .before .before .before .before .before .before .before .before) .sheet .at) (((c .before .before .before .before .before .before .before .before .before .before .before) .args .kept) .now) ((c .before .before .before .before .before .before .before .before) .sheet .kept) ((c .before .before .before .before .before .before .before .before) .sheet .before) ((c .before .before .before .before .before .before .before .before) .sheet .inv .1) (omega (arith, (c .before .before .before .before .before .before .before .before) .sheet .inv .0, (c .before .before .before .before .before .before .before) .if1 .left)) ((c .before .before .before .before .before) .loop .c) ((c .before .before .before .before .before) .loop .numbers) (line-good (((c .before .before .before .before .before .before .before .before .before .before .before) .args .sheet) .now) ((c .before .before .before .before .before .before .before .before) .sheet .at) 3 (omega (arith, (c .before .before .before .before .before .before) .if2 .left)) ((c .before .before .before .before .before) .loop .c) ((c .before .before .before .before .before) .loop .numbers) ((c .before .before .before .before .before) .loop .inv .2) (omega (arith, (c .before .before .before .before .before) .loop .inv .0, (c .before .before .before .before) .loop-test .left)) ((c .before .before) .if4 .left)) ((c .before .before .before .before .before) .loop .inv .2) (omega (arith, (c .before .before .before .before .before) .loop .inv .0, (c .before .before .before .before) .loop-test .left)) ((c .before) .order-fault .result) ((c .before) .order-fault .ensures) (c .if5 .left))) .2, (c .before .before .before .before .before .before .before .before .before .before .before) .pre .0)
 
--- src/parts.rt:172:14
 add-kept-2 : tie.Need-add-kept-2 Inv-loop μ-loop Inv-sheet μ-sheet
 add-kept-2 c = (omega (arith, (c .before .before .before .before .before .before .before .before .before .before .before) .pre .3, (c .before .before .before .before .before .before .before .before) .sheet .inv .0, (c .before .before .before .before .before .before .before .before) .sheet .inv .3, (c .before .before .before .before .before .before .before) .if1 .left))
 
--- src/parts.rt:172:9
 mul-kept-3 : tie.Need-mul-kept-3 Inv-loop μ-loop Inv-sheet μ-sheet
 mul-kept-3 c = (omega (arith, (c .before .before .before .before .before .before .before .before .before .before .before) .pre .3, (c .before .before .before .before .before .before .before .before) .sheet .inv .0, (c .before .before .before .before .before .before .before .before) .sheet .inv .3, (c .before .before .before .before .before .before .before) .if1 .left))
 
--- src/parts.rt:172:9
 slice-write-kept-3 : tie.Need-slice-write-kept-3 Inv-loop μ-loop Inv-sheet μ-sheet
 slice-write-kept-3 c = simp length-set (omega (arith, (c .before .before .before .before .before .before .before .before .before .before .before) .pre .3, (c .before .before .before .before .before .before .before .before) .sheet .inv .0, (c .before .before .before .before .before .before .before .before) .sheet .inv .3, (c .before .before .before .before .before .before .before) .if1 .left))
 
--- src/parts.rt:174:9
 add-at-2 : tie.Need-add-at-2 Inv-loop μ-loop Inv-sheet μ-sheet
 add-at-2 c = omega (arith, (c .before .before .before .before .before .before .before .before .before .before .before) .good, (c .before .before .before .before .before .before) .if2 .left)
 
--- src/parts.rt:175:9
 add-k : tie.Need-add-k Inv-loop μ-loop Inv-sheet μ-sheet
 add-k c = omega (arith, (c .before .before .before .before .before .before .before .before .before .before .before) .pre .2, (c .before .before .before .before .before .before .before .before) .sheet .inv .0)
 
--- src/parts.rt:142:9
 sheet-less : tie.Need-sheet-less Inv-loop μ-loop Inv-sheet μ-sheet
 sheet-less c = omega (arith, (c .before .before .before .before .before .before .before .before) .sheet .inv .0, (c .before .before .before .before .before .before .before) .if1 .left)
 
--- src/parts.rt:142:9
 sheet-again : tie.Need-sheet-again Inv-loop μ-loop Inv-sheet μ-sheet
 sheet-again c = (omega (arith, (c .before .before .before .before .before .before .before .before) .sheet .inv .0, (c .before .before .before .before .before .before .before) .if1 .left), transition-next (((c .before .before .before .before .before .before .before .before .before .before .before) .args .sheet) .now) ((c .before .before .before .before .before .before .before .before .before .before .before) .args .states) ((c .before .before .before .before .before .before .before .before .before .before .before) .args .letters) ((c .before .before .before .before .before .before .before .before .before .before .before) .args .transitions) ((c .before .before .before .before .before .before .before .before) .sheet .k) ((c .before .before .before .before .before .before .before .before) .sheet .at) (((c .before .before .before .before .before .before .before .before .before .before .before) .args .kept) .now) ((c .before .before .before .before .before .before .before .before) .sheet .kept) ((c .before .before .before .before .before .before .before .before) .sheet .before) ((c .before .before .before .before .before .before .before .before) .sheet .inv .1) (omega (arith, (c .before .before .before .before .before .before .before .before) .sheet .inv .0, (c .before .before .before .before .before .before .before) .if1 .left)) ((c .before .before .before .before .before) .loop .c) ((c .before .before .before .before .before) .loop .numbers) (line-good (((c .before .before .before .before .before .before .before .before .before .before .before) .args .sheet) .now) ((c .before .before .before .before .before .before .before .before) .sheet .at) 3 (omega (arith, (c .before .before .before .before .before .before) .if2 .left)) ((c .before .before .before .before .before) .loop .c) ((c .before .before .before .before .before) .loop .numbers) ((c .before .before .before .before .before) .loop .inv .2) (omega (arith, (c .before .before .before .before .before) .loop .inv .0, (c .before .before .before .before) .loop-test .left)) ((c .before .before) .if4 .left)) ((c .before .before .before .before .before) .loop .inv .2) (omega (arith, (c .before .before .before .before .before) .loop .inv .0, (c .before .before .before .before) .loop-test .left)) ((c .before) .order-fault .result) ((c .before) .order-fault .ensures) (c .if5 .left) ((c .before .before .before .before .before .before .before .before .before .before .before) .pre .3) ((c .before .before .before .before .before .before .before .before) .sheet .inv .3), (c .before .before .before .before .before) .loop .inv .1, simp length-set ((c .before .before .before .before .before .before .before .before) .sheet .inv .3))
 
--- src/parts.rt:124:1
 same-length : tie.Need-same-length Inv-loop μ-loop Inv-sheet μ-sheet
 same-length c = (c .before) .sheet .inv .3
 
--- src/parts.rt:124:1
 returns : tie.Need-returns Inv-loop μ-loop Inv-sheet μ-sheet
 returns c = transitions-done (((c .before .before .before .before) .args .sheet) .now) ((c .before .before .before .before) .args .states) ((c .before .before .before .before) .args .letters) ((c .before .before .before .before) .args .transitions) ((c .before) .sheet .k) ((c .before) .sheet .at) (((c .before .before .before .before) .args .kept) .now) ((c .before) .sheet .kept) ((c .before) .sheet .before) ((c .before) .sheet .inv .1) (c .if1 .taken)
 
--- src/parts.rt:124:1
 same-length-2 : tie.Need-same-length-2 Inv-loop μ-loop Inv-sheet μ-sheet
 same-length-2 c = (c .before .before) .sheet .inv .3
 
--- src/parts.rt:124:1
 returns-2 : tie.Need-returns-2 Inv-loop μ-loop Inv-sheet μ-sheet
 returns-2 c = transition-line (((c .before .before .before .before .before) .args .sheet) .now) ((c .before .before .before .before .before) .args .states) ((c .before .before .before .before .before) .args .letters) ((c .before .before .before .before .before) .args .transitions) ((c .before .before) .sheet .k) ((c .before .before) .sheet .at) (((c .before .before .before .before .before) .args .kept) .now) ((c .before .before) .sheet .kept) ((c .before .before) .sheet .before) ((c .before .before) .sheet .inv .1) (omega (arith, (c .before .before) .sheet .inv .0, (c .before) .if1 .left)) 1 (λ (q : 1 ≡ 0). omega arith) (line-short (((c .before .before .before .before .before) .args .sheet) .now) ((c .before .before) .sheet .at) 3 (omega (arith, c .if2 .taken)))
 
--- src/parts.rt:124:1
 same-length-3 : tie.Need-same-length-3 Inv-loop μ-loop Inv-sheet μ-sheet
 same-length-3 c = (c .before .before .before .before .before .before) .sheet .inv .3
 
--- src/parts.rt:124:1
 returns-3 : tie.Need-returns-3 Inv-loop μ-loop Inv-sheet μ-sheet
 returns-3 c = transition-line (((c .before .before .before .before .before .before .before .before .before) .args .sheet) .now) ((c .before .before .before .before .before .before .before .before .before) .args .states) ((c .before .before .before .before .before .before .before .before .before) .args .letters) ((c .before .before .before .before .before .before .before .before .before) .args .transitions) ((c .before .before .before .before .before .before) .sheet .k) ((c .before .before .before .before .before .before) .sheet .at) (((c .before .before .before .before .before .before .before .before .before) .args .kept) .now) ((c .before .before .before .before .before .before) .sheet .kept) ((c .before .before .before .before .before .before) .sheet .before) ((c .before .before .before .before .before .before) .sheet .inv .1) (omega (arith, (c .before .before .before .before .before .before) .sheet .inv .0, (c .before .before .before .before .before) .if1 .left)) 2 (λ (q : 2 ≡ 0). omega arith) (line-column (((c .before .before .before .before .before .before .before .before .before) .args .sheet) .now) ((c .before .before .before .before .before .before) .sheet .at) 3 (omega (arith, (c .before .before .before .before) .if2 .left)) ((c .before .before .before) .loop .c) ((c .before .before .before) .loop .numbers) ((c .before .before .before) .loop .inv .2) ((c .before .before) .loop-test .taken) (sym ((c .before) .column .ensures) ∙ c .if3 .taken))
 
--- src/parts.rt:124:1
 same-length-4 : tie.Need-same-length-4 Inv-loop μ-loop Inv-sheet μ-sheet
 same-length-4 c = (c .before .before .before .before .before .before) .sheet .inv .3
 
--- src/parts.rt:124:1
 returns-4 : tie.Need-returns-4 Inv-loop μ-loop Inv-sheet μ-sheet
 returns-4 c = transition-line (((c .before .before .before .before .before .before .before .before .before) .args .sheet) .now) ((c .before .before .before .before .before .before .before .before .before) .args .states) ((c .before .before .before .before .before .before .before .before .before) .args .letters) ((c .before .before .before .before .before .before .before .before .before) .args .transitions) ((c .before .before .before .before .before .before) .sheet .k) ((c .before .before .before .before .before .before) .sheet .at) (((c .before .before .before .before .before .before .before .before .before) .args .kept) .now) ((c .before .before .before .before .before .before) .sheet .kept) ((c .before .before .before .before .before .before) .sheet .before) ((c .before .before .before .before .before .before) .sheet .inv .1) (omega (arith, (c .before .before .before .before .before .before) .sheet .inv .0, (c .before .before .before .before .before) .if1 .left)) 2 (λ (q : 2 ≡ 0). omega arith) (line-end (((c .before .before .before .before .before .before .before .before .before) .args .sheet) .now) ((c .before .before .before .before .before .before) .sheet .at) 3 (omega (arith, (c .before .before .before .before) .if2 .left)) ((c .before .before .before) .loop .c) ((c .before .before .before) .loop .numbers) ((c .before .before .before) .loop .inv .2) (omega (arith, (c .before .before .before) .loop .inv .0, (c .before .before) .loop-test .left)) (c .if4 .taken))
 
--- src/parts.rt:124:1
 same-length-5 : tie.Need-same-length-5 Inv-loop μ-loop Inv-sheet μ-sheet
 same-length-5 c = (c .before .before .before .before .before .before .before .before) .sheet .inv .3
 
--- src/parts.rt:124:1
 returns-5 : tie.Need-returns-5 Inv-loop μ-loop Inv-sheet μ-sheet
 returns-5 c = transition-order (((c .before .before .before .before .before .before .before .before .before .before .before) .args .sheet) .now) ((c .before .before .before .before .before .before .before .before .before .before .before) .args .states) ((c .before .before .before .before .before .before .before .before .before .before .before) .args .letters) ((c .before .before .before .before .before .before .before .before .before .before .before) .args .transitions) ((c .before .before .before .before .before .before .before .before) .sheet .k) ((c .before .before .before .before .before .before .before .before) .sheet .at) (((c .before .before .before .before .before .before .before .before .before .before .before) .args .kept) .now) ((c .before .before .before .before .before .before .before .before) .sheet .kept) ((c .before .before .before .before .before .before .before .before) .sheet .before) ((c .before .before .before .before .before .before .before .before) .sheet .inv .1) (omega (arith, (c .before .before .before .before .before .before .before .before) .sheet .inv .0, (c .before .before .before .before .before .before .before) .if1 .left)) ((c .before .before .before .before .before) .loop .c) ((c .before .before .before .before .before) .loop .numbers) (line-good (((c .before .before .before .before .before .before .before .before .before .before .before) .args .sheet) .now) ((c .before .before .before .before .before .before .before .before) .sheet .at) 3 (omega (arith, (c .before .before .before .before .before .before) .if2 .left)) ((c .before .before .before .before .before) .loop .c) ((c .before .before .before .before .before) .loop .numbers) ((c .before .before .before .before .before) .loop .inv .2) (omega (arith, (c .before .before .before .before .before) .loop .inv .0, (c .before .before .before .before) .loop-test .left)) ((c .before .before) .if4 .left)) ((c .before .before .before .before .before) .loop .inv .2) (omega (arith, (c .before .before .before .before .before) .loop .inv .0, (c .before .before .before .before) .loop-test .left)) ((c .before) .order-fault .result) ((c .before) .order-fault .ensures) (c .if5 .taken)
 

@@ -13,43 +13,33 @@ Inv-loop from list₀ i₀ list i = (i ≤ length from) × (list ≡ put 0 list�
 abbrev μ-loop : tie.MeasureT-loop
 μ-loop from list₀ i₀ list i = length from - i
 
--- src/read.rt:50:5
 loop-holds : tie.Need-loop-holds Inv-loop μ-loop
 loop-holds c = (omega arith, put-none 0 (c .args .list .now), refl)
 
--- src/read.rt:51:19
 mul-list : tie.Need-mul-list Inv-loop μ-loop
 mul-list c = omega (arith, (c .before .before) .good)
 
--- src/read.rt:51:19
 shared-slice-read-list : tie.Need-shared-slice-read-list Inv-loop μ-loop
 shared-slice-read-list c = omega arith
 
--- src/read.rt:51:9
 mul-list-2 : tie.Need-mul-list-2 Inv-loop μ-loop
 mul-list-2 c = omega (arith, (c .before .before .before) .good)
 
--- src/read.rt:51:9
 slice-write-list : tie.Need-slice-write-list Inv-loop μ-loop
 slice-write-list c = omega (arith, (c .before .before) .loop .inv .2, (c .before .before .before) .pre)
 
--- src/read.rt:52:9
 add-i : tie.Need-add-i Inv-loop μ-loop
 add-i c = omega arith
 
--- src/read.rt:50:5
 loop-less : tie.Need-loop-less Inv-loop μ-loop
 loop-less c = omega arith
 
--- src/read.rt:50:5
 loop-again : tie.Need-loop-again Inv-loop μ-loop
 loop-again c = (omega arith, copied-more ((c .before .before .before) .args .from .now) ((c .before .before .before) .args .list .now) ((c .before .before) .loop .list) ((c .before .before) .loop .i) ((c .before .before .before) .pre) ((c .before .before) .loop .inv .1) ((c .before) .loop-test .taken), length-set ((c .before .before) .loop .list) ((c .before .before) .loop .i) _ ∙ (c .before .before) .loop .inv .2)
 
--- src/read.rt:45:1
 same-length : tie.Need-same-length Inv-loop μ-loop
 same-length c = (c .before) .loop .inv .2
 
--- src/read.rt:45:1
 returns : tie.Need-returns Inv-loop μ-loop
 returns c = copied ((c .before .before) .args .from .now) ((c .before .before) .args .list .now) ((c .before) .loop .list) ((c .before) .loop .i) ((c .before .before) .pre) ((c .before) .loop .inv .1) (c .loop-test .left)
 

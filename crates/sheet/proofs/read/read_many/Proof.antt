@@ -4,19 +4,15 @@ use borrow.Author.Needs.{needs}
 use Rattle.sheet.proofs.read.read_many.Statement.{statement}
 use Rattle.sheet.proofs.read.read_many.Tie as tie
 
--- src/read.rt:111:30
 slice-aggregate-read-rest : tie.Need-slice-aggregate-read-rest
 slice-aggregate-read-rest c = search needs
 
--- src/read.rt:111:5
 read-rest-requires : tie.Need-read-rest-requires
 read-rest-requires c κs = ((c .before .before .before .before) .pre .0, (c .before .before .before .before) .pre .1, omega (arith, counted (((c .before .before .before .before) .args .sheet) .now) ((c .before .before .before .before) .args .header) ((c .before .before .before .before) .pre .0) ((c .before .before .before .before) .pre .1) .few-transitions))
 
--- src/read.rt:106:1
 same-length : tie.Need-same-length
 same-length c = search needs
 
--- src/read.rt:106:1
 returns : tie.Need-returns
 returns c = search needs
 

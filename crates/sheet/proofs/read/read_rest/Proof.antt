@@ -8,101 +8,77 @@ use borrow.Author.Needs.{needs}
 use Rattle.sheet.proofs.read.read_rest.Statement.{statement}
 use Rattle.sheet.proofs.read.read_rest.Tie as tie
 
--- src/read.rt:65:9
 read-states-requires : tie.Need-read-states-requires
 read-states-requires c κs = ((counted (((c .before .before .before) .args .sheet) .now) ((c .before .before .before) .args .header) ((c .before .before .before) .pre .0) ((c .before .before .before) .pre .1))) .few-states
 
--- src/read.rt:67:9
 refused-requires : tie.Need-refused-requires
 refused-requires c κs = search needs
 
--- src/read.rt:67:9
 returns : tie.Need-returns
 returns c = answer-fault (((c .before .before .before .before .before .before .before) .args .sheet) .now) (((c .before .before .before .before .before .before .before) .args .list) .now) ((c .before .before .before) .read-states .result .fault) (c .refused .result) (fault-state (((c .before .before .before .before .before .before .before) .args .sheet) .now) ((c .before .before .before .before .before .before .before) .args .header) ((c .before .before .before .before .before .before .before) .pre .0) ((c .before .before .before .before .before .before .before) .pre .1) ((c .before .before .before) .read-states .result .fault) ((c .before .before .before) .read-states .ensures .fault) ((c .before) .if1 .taken)) ((c .before) .if1 .taken) (c .refused .ensures)
 
--- src/read.rt:69:9
 read-transitions-requires : tie.Need-read-transitions-requires
 read-transitions-requires c κs = (((counted (((c .before .before .before .before .before .before .before) .args .sheet) .now) ((c .before .before .before .before .before .before .before) .args .header) ((c .before .before .before .before .before .before .before) .pre .0) ((c .before .before .before .before .before .before .before) .pre .1))) .few-states, ((counted (((c .before .before .before .before .before .before .before) .args .sheet) .now) ((c .before .before .before .before .before .before .before) .args .header) ((c .before .before .before .before .before .before .before) .pre .0) ((c .before .before .before .before .before .before .before) .pre .1))) .few-letters, ((counted (((c .before .before .before .before .before .before .before) .args .sheet) .now) ((c .before .before .before .before .before .before .before) .args .header) ((c .before .before .before .before .before .before .before) .pre .0) ((c .before .before .before .before .before .before .before) .pre .1))) .few-transitions, (c .before .before .before .before .before .before .before) .pre .2)
 
--- src/read.rt:71:9
 refused-requires-2 : tie.Need-refused-requires-2
 refused-requires-2 c κs = search needs
 
--- src/read.rt:71:9
 same-length : tie.Need-same-length
 same-length c = search needs
 
--- src/read.rt:71:9
 returns-2 : tie.Need-returns-2
-returns-2 c = answer-fault (((c .before .before .before .before .before .before .before .before .before .before .before .before) .args .sheet) .now) (((c .before .before .before .before .before .before .before .before .before .before .before .before) .args .list) .now) ((c .before .before .before .before) .read-transitions .result) (c .refused2 .result) (fault-transition (((c .before .before .before .before .before .before .before .before .before .before .before .before) .args .sheet) .now) ((c .before .before .before .before .before .before .before .before .before .before .before .before) .args .header) ((c .before .before .before .before .before .before .before .before .before .before .before .before) .pre .0) ((c .before .before .before .before .before .before .before .before .before .before .before .before) .pre .1) ((sym ((c .before .before .before .before .before .before) .if1 .left) ∙ (c .before .before .before .before .before .before .before .before) .read-states .ensures .fault)) ((c .before .before .before .before) .read-transitions .result) ((c .before .before .before .before) .read-transitions .ensures .first) ((c .before) .if2 .taken)) ((c .before) .if2 .taken) (c .refused2 .ensures)
+returns-2 c = answer-fault (((c .before .before .before .before .before .before .before .before .before .before .before .before) .args .sheet) .now) (((c .before .before .before .before .before .before .before .before .before .before .before .before) .args .list) .now) ((c .before .before .before .before) .read-transitions .result) (c .refused2 .result) (fault-transition (((c .before .before .before .before .before .before .before .before .before .before .before .before) .args .sheet) .now) ((c .before .before .before .before .before .before .before .before .before .before .before .before) .args .header) ((c .before .before .before .before .before .before .before .before .before .before .before .before) .pre .0) ((c .before .before .before .before .before .before .before .before .before .before .before .before) .pre .1) ((sym ((c .before .before .before .before .before .before) .if1 .left) ∙ (c .before .before .before .before .before .before .before .before) .read-states .ensures .fault)) ((c .before .before .before .before) .read-transitions .result) ((c .before .before .before .before) .read-transitions .ensures .fault) ((c .before) .if2 .taken)) ((c .before) .if2 .taken) (c .refused2 .ensures)
 
--- src/read.rt:73:24
 mul-if3 : tie.Need-mul-if3
 mul-if3 c = (omega (arith, ((counted (((c .before .before .before .before .before .before .before .before .before .before .before) .args .sheet) .now) ((c .before .before .before .before .before .before .before .before .before .before .before) .args .header) ((c .before .before .before .before .before .before .before .before .before .before .before) .pre .0) ((c .before .before .before .before .before .before .before .before .before .before .before) .pre .1))) .few-states, ((counted (((c .before .before .before .before .before .before .before .before .before .before .before) .args .sheet) .now) ((c .before .before .before .before .before .before .before .before .before .before .before) .args .header) ((c .before .before .before .before .before .before .before .before .before .before .before) .pre .0) ((c .before .before .before .before .before .before .before .before .before .before .before) .pre .1))) .few-transitions))
 
--- src/read.rt:73:8
 add-if3 : tie.Need-add-if3
 add-if3 c = (omega (arith, ((counted (((c .before .before .before .before .before .before .before .before .before .before .before) .args .sheet) .now) ((c .before .before .before .before .before .before .before .before .before .before .before) .args .header) ((c .before .before .before .before .before .before .before .before .before .before .before) .pre .0) ((c .before .before .before .before .before .before .before .before .before .before .before) .pre .1))) .few-states, ((counted (((c .before .before .before .before .before .before .before .before .before .before .before) .args .sheet) .now) ((c .before .before .before .before .before .before .before .before .before .before .before) .args .header) ((c .before .before .before .before .before .before .before .before .before .before .before) .pre .0) ((c .before .before .before .before .before .before .before .before .before .before .before) .pre .1))) .few-transitions))
 
--- src/read.rt:73:48
 mul-if3-2 : tie.Need-mul-if3-2
 mul-if3-2 c = (omega (arith, ((counted (((c .before .before .before .before .before .before .before .before .before .before .before) .args .sheet) .now) ((c .before .before .before .before .before .before .before .before .before .before .before) .args .header) ((c .before .before .before .before .before .before .before .before .before .before .before) .pre .0) ((c .before .before .before .before .before .before .before .before .before .before .before) .pre .1))) .few-states, ((counted (((c .before .before .before .before .before .before .before .before .before .before .before) .args .sheet) .now) ((c .before .before .before .before .before .before .before .before .before .before .before) .args .header) ((c .before .before .before .before .before .before .before .before .before .before .before) .pre .0) ((c .before .before .before .before .before .before .before .before .before .before .before) .pre .1))) .few-transitions))
 
--- src/read.rt:73:8
 add-if3-2 : tie.Need-add-if3-2
 add-if3-2 c = (omega (arith, ((counted (((c .before .before .before .before .before .before .before .before .before .before .before) .args .sheet) .now) ((c .before .before .before .before .before .before .before .before .before .before .before) .args .header) ((c .before .before .before .before .before .before .before .before .before .before .before) .pre .0) ((c .before .before .before .before .before .before .before .before .before .before .before) .pre .1))) .few-states, ((counted (((c .before .before .before .before .before .before .before .before .before .before .before) .args .sheet) .now) ((c .before .before .before .before .before .before .before .before .before .before .before) .args .header) ((c .before .before .before .before .before .before .before .before .before .before .before) .pre .0) ((c .before .before .before .before .before .before .before .before .before .before .before) .pre .1))) .few-transitions))
 
--- src/read.rt:74:9
 refused-requires-3 : tie.Need-refused-requires-3
 refused-requires-3 c κs = search needs
 
--- src/read.rt:74:9
 same-length-2 : tie.Need-same-length-2
 same-length-2 c = search needs
 
--- src/read.rt:74:9
 returns-3 : tie.Need-returns-3
-returns-3 c = answer-fault (((c .before .before .before .before .before .before .before .before .before .before .before .before .before) .args .sheet) .now) (((c .before .before .before .before .before .before .before .before .before .before .before .before .before) .args .list) .now) 7 (c .refused3 .result) (fault-bytes (((c .before .before .before .before .before .before .before .before .before .before .before .before .before) .args .sheet) .now) ((c .before .before .before .before .before .before .before .before .before .before .before .before .before) .args .header) ((c .before .before .before .before .before .before .before .before .before .before .before .before .before) .pre .0) ((c .before .before .before .before .before .before .before .before .before .before .before .before .before) .pre .1) ((sym ((c .before .before .before .before .before .before .before) .if1 .left) ∙ (c .before .before .before .before .before .before .before .before .before) .read-states .ensures .fault)) ((sym ((c .before .before) .if2 .left) ∙ (c .before .before .before .before .before) .read-transitions .ensures .first)) ((c .before) .if3 .taken)) (λ (q : 7 ≡ 0). omega arith) (c .refused3 .ensures)
+returns-3 c = answer-fault (((c .before .before .before .before .before .before .before .before .before .before .before .before .before) .args .sheet) .now) (((c .before .before .before .before .before .before .before .before .before .before .before .before .before) .args .list) .now) 7 (c .refused3 .result) (fault-bytes (((c .before .before .before .before .before .before .before .before .before .before .before .before .before) .args .sheet) .now) ((c .before .before .before .before .before .before .before .before .before .before .before .before .before) .args .header) ((c .before .before .before .before .before .before .before .before .before .before .before .before .before) .pre .0) ((c .before .before .before .before .before .before .before .before .before .before .before .before .before) .pre .1) ((sym ((c .before .before .before .before .before .before .before) .if1 .left) ∙ (c .before .before .before .before .before .before .before .before .before) .read-states .ensures .fault)) ((sym ((c .before .before) .if2 .left) ∙ (c .before .before .before .before .before) .read-transitions .ensures .fault)) ((c .before) .if3 .taken)) (λ (q : 7 ≡ 0). omega arith) (c .refused3 .ensures)
 
--- src/read.rt:76:13
 mul-n : tie.Need-mul-n
 mul-n c = (omega (arith, ((counted (((c .before .before .before .before .before .before .before .before .before .before .before .before) .args .sheet) .now) ((c .before .before .before .before .before .before .before .before .before .before .before .before) .args .header) ((c .before .before .before .before .before .before .before .before .before .before .before .before) .pre .0) ((c .before .before .before .before .before .before .before .before .before .before .before .before) .pre .1))) .few-states, ((counted (((c .before .before .before .before .before .before .before .before .before .before .before .before) .args .sheet) .now) ((c .before .before .before .before .before .before .before .before .before .before .before .before) .args .header) ((c .before .before .before .before .before .before .before .before .before .before .before .before) .pre .0) ((c .before .before .before .before .before .before .before .before .before .before .before .before) .pre .1))) .few-transitions))
 
--- src/read.rt:78:9
 refused-requires-4 : tie.Need-refused-requires-4
 refused-requires-4 c κs = search needs
 
--- src/read.rt:78:9
 same-length-3 : tie.Need-same-length-3
 same-length-3 c = search needs
 
--- src/read.rt:78:9
 returns-4 : tie.Need-returns-4
-returns-4 c = answer-short (((c .before .before .before .before .before .before .before .before .before .before .before .before .before .before) .args .sheet) .now) (((c .before .before .before .before .before .before .before .before .before .before .before .before .before .before) .args .list) .now) (fault-none (((c .before .before .before .before .before .before .before .before .before .before .before .before .before .before) .args .sheet) .now) ((c .before .before .before .before .before .before .before .before .before .before .before .before .before .before) .args .header) ((c .before .before .before .before .before .before .before .before .before .before .before .before .before .before) .pre .0) ((c .before .before .before .before .before .before .before .before .before .before .before .before .before .before) .pre .1) ((sym ((c .before .before .before .before .before .before .before .before) .if1 .left) ∙ (c .before .before .before .before .before .before .before .before .before .before) .read-states .ensures .fault)) ((sym ((c .before .before .before) .if2 .left) ∙ (c .before .before .before .before .before .before) .read-transitions .ensures .first)) ((c .before .before) .if3 .left)) ((c .before .before .before .before .before .before .before .before .before .before .before .before .before .before) .args .header .transitions) ((c .before .before .before .before .before .before .before .before .before .before .before .before .before .before) .pre .0 .transitions ((c .before .before .before .before .before .before .before .before .before .before .before .before .before .before) .pre .1)) (c .refused4 .result) ((c .before) .if4 .taken) (c .refused4 .ensures)
+returns-4 c = answer-short (((c .before .before .before .before .before .before .before .before .before .before .before .before .before .before) .args .sheet) .now) (((c .before .before .before .before .before .before .before .before .before .before .before .before .before .before) .args .list) .now) (fault-none (((c .before .before .before .before .before .before .before .before .before .before .before .before .before .before) .args .sheet) .now) ((c .before .before .before .before .before .before .before .before .before .before .before .before .before .before) .args .header) ((c .before .before .before .before .before .before .before .before .before .before .before .before .before .before) .pre .0) ((c .before .before .before .before .before .before .before .before .before .before .before .before .before .before) .pre .1) ((sym ((c .before .before .before .before .before .before .before .before) .if1 .left) ∙ (c .before .before .before .before .before .before .before .before .before .before) .read-states .ensures .fault)) ((sym ((c .before .before .before) .if2 .left) ∙ (c .before .before .before .before .before .before) .read-transitions .ensures .fault)) ((c .before .before) .if3 .left)) ((c .before .before .before .before .before .before .before .before .before .before .before .before .before .before) .args .header .transitions) ((c .before .before .before .before .before .before .before .before .before .before .before .before .before .before) .pre .0 .transitions ((c .before .before .before .before .before .before .before .before .before .before .before .before .before .before) .pre .1)) (c .refused4 .result) ((c .before) .if4 .taken) (c .refused4 .ensures)
 
--- src/read.rt:80:10
 slice-reshare-prefix-copy : tie.Need-slice-reshare-prefix-copy
 slice-reshare-prefix-copy c = search needs
 
--- src/read.rt:80:10
 slice-aggregate-copy : tie.Need-slice-aggregate-copy
 slice-aggregate-copy c = sym (length-take-le ((((c .before .before .before .before .before .before .before .before .before .before .before .before .before .before) .args .header .transitions)) * 3) (((c .before .before .before .before .before .before) .read-transitions .last .1 .1 .1 .1 .0)) (omega (arith, (c .before .before .before .before .before .before .before .before .before .before .before .before .before .before) .pre .2, (c .before .before .before .before .before) .kept .given)))
 
--- src/read.rt:80:5
 copy-requires : tie.Need-copy-requires
 copy-requires c κs = omega (arith, (length-take-le ((((c .before .before .before .before .before .before .before .before .before .before .before .before .before .before .before) .args .header .transitions)) * 3) (((c .before .before .before .before .before .before .before) .read-transitions .last .1 .1 .1 .1 .0)) (omega (arith, (c .before .before .before .before .before .before .before .before .before .before .before .before .before .before .before) .pre .2, (c .before .before .before .before .before .before) .kept .given))), (c .before .before) .if4 .left)
 
--- src/read.rt:58:1
 same-length-4 : tie.Need-same-length-4
 same-length-4 c = search needs
 
--- src/read.rt:58:1
 same-length-5 : tie.Need-same-length-5
 same-length-5 c = search needs
 
--- src/read.rt:58:1
 returns-5 : tie.Need-returns-5
-returns-5 c = answer-read (((c .before .before .before .before .before .before .before .before .before .before .before .before .before .before .before .before .before .before .before) .args .sheet) .now) (((c .before .before .before .before .before .before .before .before .before .before .before .before .before .before .before .before .before .before .before) .args .list) .now) (fault-none (((c .before .before .before .before .before .before .before .before .before .before .before .before .before .before .before .before .before .before .before) .args .sheet) .now) ((c .before .before .before .before .before .before .before .before .before .before .before .before .before .before .before .before .before .before .before) .args .header) ((c .before .before .before .before .before .before .before .before .before .before .before .before .before .before .before .before .before .before .before) .pre .0) ((c .before .before .before .before .before .before .before .before .before .before .before .before .before .before .before .before .before .before .before) .pre .1) ((sym ((c .before .before .before .before .before .before .before .before .before .before .before .before .before) .if1 .left) ∙ (c .before .before .before .before .before .before .before .before .before .before .before .before .before .before .before) .read-states .ensures .fault)) ((sym ((c .before .before .before .before .before .before .before .before) .if2 .left) ∙ (c .before .before .before .before .before .before .before .before .before .before .before) .read-transitions .ensures .first)) ((c .before .before .before .before .before .before .before) .if3 .left)) (((c .before .before .before .before .before .before .before .before .before .before .before .before .before .before .before .before .before .before .before) .args .header .transitions)) ((c .before .before .before .before .before .before .before .before .before .before .before .before .before .before .before .before .before .before .before) .pre .0 .transitions ((c .before .before .before .before .before .before .before .before .before .before .before .before .before .before .before .before .before .before .before) .pre .1)) ((c .before .before .before .before .before .before .before .before .before .before .before .before .before .before .before .before .before .before .before) .args .header .states) ((c .before .before .before .before .before .before .before .before .before .before .before .before .before .before .before .before .before .before .before) .args .header .letters) _ _ ((c .before .before .before .before .before .before) .if4 .left) ((c .before .before .before .before .before .before .before .before .before .before .before .before .before .before .before .before .before .before .before) .pre .0 .states ((c .before .before .before .before .before .before .before .before .before .before .before .before .before .before .before .before .before .before .before) .pre .1)) ((c .before .before .before .before .before .before .before .before .before .before .before .before .before .before .before .before .before .before .before) .pre .0 .letters ((c .before .before .before .before .before .before .before .before .before .before .before .before .before .before .before .before .before .before .before) .pre .1)) ((c .before .before .before .before .before .before .before .before .before .before .before .before .before .before .before) .read-states .ensures .marks ((c .before .before .before .before .before .before .before .before .before .before .before .before .before) .if1 .left)) (list-copied (((c .before .before .before .before .before .before .before .before .before .before .before .before .before .before .before .before .before .before .before) .args .sheet) .now) ((c .before .before .before .before .before .before .before .before .before .before .before .before .before .before .before .before .before .before .before) .args .header) ((c .before .before .before .before .before .before .before .before .before .before .before .before .before .before .before .before .before .before .before) .pre .0) ((c .before .before .before .before .before .before .before .before .before .before .before .before .before .before .before .before .before .before .before) .pre .1) ((c .before .before .before .before .before .before .before .before .before .before .before .before .before .before .before .before .before .before .before) .args .kept .now) (((c .before .before .before .before .before .before .before .before .before .before .before) .read-transitions .last .1 .1 .1 .1 .0)) (((c .before .before .before .before .before .before .before .before .before .before .before .before .before .before .before .before .before .before .before) .args .list) .now) _ ((c .before .before .before .before .before .before .before .before .before .before .before) .read-transitions .ensures .numbers ((c .before .before .before .before .before .before .before .before) .if2 .left)) ((c .before .before .before) .copy .ensures))
+returns-5 c = answer-read (((c .before .before .before .before .before .before .before .before .before .before .before .before .before .before .before .before .before .before .before) .args .sheet) .now) (((c .before .before .before .before .before .before .before .before .before .before .before .before .before .before .before .before .before .before .before) .args .list) .now) (fault-none (((c .before .before .before .before .before .before .before .before .before .before .before .before .before .before .before .before .before .before .before) .args .sheet) .now) ((c .before .before .before .before .before .before .before .before .before .before .before .before .before .before .before .before .before .before .before) .args .header) ((c .before .before .before .before .before .before .before .before .before .before .before .before .before .before .before .before .before .before .before) .pre .0) ((c .before .before .before .before .before .before .before .before .before .before .before .before .before .before .before .before .before .before .before) .pre .1) ((sym ((c .before .before .before .before .before .before .before .before .before .before .before .before .before) .if1 .left) ∙ (c .before .before .before .before .before .before .before .before .before .before .before .before .before .before .before) .read-states .ensures .fault)) ((sym ((c .before .before .before .before .before .before .before .before) .if2 .left) ∙ (c .before .before .before .before .before .before .before .before .before .before .before) .read-transitions .ensures .fault)) ((c .before .before .before .before .before .before .before) .if3 .left)) (((c .before .before .before .before .before .before .before .before .before .before .before .before .before .before .before .before .before .before .before) .args .header .transitions)) ((c .before .before .before .before .before .before .before .before .before .before .before .before .before .before .before .before .before .before .before) .pre .0 .transitions ((c .before .before .before .before .before .before .before .before .before .before .before .before .before .before .before .before .before .before .before) .pre .1)) ((c .before .before .before .before .before .before .before .before .before .before .before .before .before .before .before .before .before .before .before) .args .header .states) ((c .before .before .before .before .before .before .before .before .before .before .before .before .before .before .before .before .before .before .before) .args .header .letters) _ _ ((c .before .before .before .before .before .before) .if4 .left) ((c .before .before .before .before .before .before .before .before .before .before .before .before .before .before .before .before .before .before .before) .pre .0 .states ((c .before .before .before .before .before .before .before .before .before .before .before .before .before .before .before .before .before .before .before) .pre .1)) ((c .before .before .before .before .before .before .before .before .before .before .before .before .before .before .before .before .before .before .before) .pre .0 .letters ((c .before .before .before .before .before .before .before .before .before .before .before .before .before .before .before .before .before .before .before) .pre .1)) ((c .before .before .before .before .before .before .before .before .before .before .before .before .before .before .before) .read-states .ensures .marks ((c .before .before .before .before .before .before .before .before .before .before .before .before .before) .if1 .left)) (list-copied (((c .before .before .before .before .before .before .before .before .before .before .before .before .before .before .before .before .before .before .before) .args .sheet) .now) ((c .before .before .before .before .before .before .before .before .before .before .before .before .before .before .before .before .before .before .before) .args .header) ((c .before .before .before .before .before .before .before .before .before .before .before .before .before .before .before .before .before .before .before) .pre .0) ((c .before .before .before .before .before .before .before .before .before .before .before .before .before .before .before .before .before .before .before) .pre .1) ((c .before .before .before .before .before .before .before .before .before .before .before .before .before .before .before .before .before .before .before) .args .kept .now) (((c .before .before .before .before .before .before .before .before .before .before .before) .read-transitions .last .1 .1 .1 .1 .0)) (((c .before .before .before .before .before .before .before .before .before .before .before .before .before .before .before .before .before .before .before) .args .list) .now) _ ((c .before .before .before .before .before .before .before .before .before .before .before) .read-transitions .ensures .numbers ((c .before .before .before .before .before .before .before .before) .if2 .left)) ((c .before .before .before) .copy .ensures))
 
 pub read-rest-spec : {M : Type 1} → statement M
 read-rest-spec =

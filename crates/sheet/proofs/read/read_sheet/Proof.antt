@@ -3,39 +3,30 @@ use borrow.Author.Needs.{needs}
 use Rattle.sheet.proofs.read.read_sheet.Statement.{statement}
 use Rattle.sheet.proofs.read.read_sheet.Tie as tie
 
--- src/read.rt:121:9
 read-header-requires : tie.Need-read-header-requires
 read-header-requires c κs = search needs
 
--- src/read.rt:123:9
 refused-requires : tie.Need-refused-requires
 refused-requires c κs = search needs
 
--- src/read.rt:123:9
 returns : tie.Need-returns
 returns c = answer-fault (((c .before .before .before .before .before .before) .args .sheet) .now) (((c .before .before .before .before .before .before) .args .list) .now) ((c .before .before .before) .read-header .result .fault) (c .refused .result) (fault-header (((c .before .before .before .before .before .before) .args .sheet) .now) ((c .before .before .before) .read-header .result) ((c .before .before .before) .read-header .ensures) ((c .before) .if1 .taken)) ((c .before) .if1 .taken) (c .refused .ensures)
 
--- src/read.rt:126:9
 read-few-requires : tie.Need-read-few-requires
 read-few-requires c κs = search needs
 
--- src/read.rt:126:9
 same-length : tie.Need-same-length
 same-length c = search needs
 
--- src/read.rt:126:9
 returns-2 : tie.Need-returns-2
 returns-2 c = search needs
 
--- src/read.rt:128:5
 read-many-requires : tie.Need-read-many-requires
 read-many-requires c κs = search needs
 
--- src/read.rt:118:1
 same-length-2 : tie.Need-same-length-2
 same-length-2 c = search needs
 
--- src/read.rt:118:1
 returns-3 : tie.Need-returns-3
 returns-3 c = search needs
 
