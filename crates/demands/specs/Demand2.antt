@@ -39,9 +39,9 @@ use Rattle.fsbm.specs.declared.answer.Checked.the-variants as checked
 use Rattle.fsbm.proofs.AnswerCases.{table-good}
 use Rattle.language.specs.Agreement.{accepting-written, accepting-iff-written}
 use Rattle.language.specs.Bound.{accepted-iff-published, accepted-not-published}
-use Rattle.sheet.specs.declared.read.Sheet.{Sheet}
-use Rattle.sheet.specs.declared.write.Written.{Written}
-use Rattle.sheet.specs.declared.write.Written.the-variants.{Bytes}
+use Rattle.sheet.specs.declared.answers.Sheet.{Sheet}
+use Rattle.sheet.specs.declared.answers.Written.{Written}
+use Rattle.sheet.specs.declared.answers.Written.the-variants.{Bytes}
 use Rattle.sheet_laws.specs.Calls.{Wrote, Read, written-read, read-written}
 use Rattle.recognize.specs.Recognition.{recognition, recognizedValues, Recognition}
 use Rattle.recognize.specs.declared.Recognized.{Recognized}

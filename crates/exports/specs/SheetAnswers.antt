@@ -3,7 +3,7 @@
 -- readRecord a            == the record of the answer a of read_sheet, which is a record already
 -- writtenRecord v         == the record of the number and values v of write_sheet
 -- translationRecord v     == the record of the number and values v of translate
-use Rattle.sheet.specs.declared.read.Sheet.{Sheet}
+use Rattle.sheet.specs.declared.answers.Sheet.{Sheet}
 use Rattle.sheet.specs.Writing.{WrittenValues}
 use Rattle.spelling.specs.Spelling.{TranslatedValues}
 use Rattle.exports.specs.declared.sheets.ReadSheet.{ReadSheet}

@@ -6,9 +6,7 @@ ghost use Rattle.sheet.specs.Writing.{writeSheet, writeValues};
 ghost use Rattle.spelling.specs.Spelling.{translateWord, translateValues};
 ghost use Rattle.exports.specs.SheetAnswers.{readRecord, writtenRecord, translationRecord};
 use fsbm::machine::Machine;
-use sheet::read;
-use sheet::write;
-use sheet::write::Written;
+use sheet::answers::Written;
 use spelling::Translated;
 
 // The answer of zagvirk_read_sheet.
@@ -35,12 +33,12 @@ pub struct Translation {
     pub letters: usize,
 }
 
-// sheet::read::read_sheet.
+// sheet_reader::read_sheet.
 #[no_mangle]
 pub extern "C" fn zagvirk_read_sheet(sheet: &[u8], list: &mut [u16]) -> ReadSheet
     ensures { λ r. ⌜ (r ≡ readRecord (readAnswer (now (sheet .entry)) (length (now (list .entry))))) × (now (list .exit) ≡ readList (now (sheet .entry)) (now (list .entry))) ⌝ }
 {
-    let answer = read::read_sheet(sheet, list);
+    let answer = sheet_reader::read_sheet(sheet, list);
     let machine = answer.machine;
     ReadSheet {
         refusal: answer.refusal.number,
@@ -49,7 +47,7 @@ pub extern "C" fn zagvirk_read_sheet(sheet: &[u8], list: &mut [u16]) -> ReadShee
     }
 }
 
-// sheet::write::write_sheet.
+// sheet_writer::write_sheet.
 #[no_mangle]
 pub extern "C" fn zagvirk_write_sheet(
     machine: Machine,
@@ -58,7 +56,7 @@ pub extern "C" fn zagvirk_write_sheet(
 ) -> SheetWritten
     ensures { λ r. ⌜ (r ≡ writtenRecord (writeValues machine (now (list .entry)) (length (now (sheet .entry))))) × (now (sheet .exit) ≡ writeSheet machine (now (list .entry)) (now (sheet .entry))) ⌝ }
 {
-    let answer = write::write_sheet(machine, list, sheet);
+    let answer = sheet_writer::write_sheet(machine, list, sheet);
     match answer {
         Written::Refused(refusal) => SheetWritten {
             refusal: refusal.number,

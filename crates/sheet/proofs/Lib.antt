@@ -1,4 +1,2 @@
 pub mod FaultCases
 pub mod PartCases
-pub mod ReadCases
-pub mod WriteCases

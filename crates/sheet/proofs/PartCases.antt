@@ -139,22 +139,22 @@ pub record StatesTo (s : List ℕ) (q i : ℕ) (marks : List ℕ) : Type 0 where
   pub none : firstOf q (stateFault s) ≡ 0
   pub are : marks ≡ marksOf s q
 
-pub states-none : (s : List ℕ) → StatesTo s 0 16 (replicate 64 0)
+pub states-none : (s marks : List ℕ) → marks ≡ replicate 64 0 → StatesTo s 0 16 marks
 unfolding firstOf marksOf eachBelow
-states-none s = record { start = omega arith; none = refl; are = refl }
+states-none s marks e = record { start = omega arith; none = refl; are = e }
 
-pub states-done : (s : List ℕ) (n q i : ℕ) (marks : List ℕ) → StatesTo s q i marks → q ≡ n → StatesRead s n (record { fault = 0; marks = marks })
+pub states-done : (s : List ℕ) (n q i : ℕ) (marks : List ℕ) → StatesTo s q i marks → q ≡ n → StatesRead s n 0 marks
 states-done s n q i marks t e =
     record { fault = sym (t .none) ∙ ap (λ (k : ℕ). firstOf k (stateFault s)) e; marks = λ z. t .are ∙ ap (λ (k : ℕ). marksOf s k) e }
 
 module _ (s : List ℕ) (n q i : ℕ) (marks : List ℕ) (so-far : StatesTo s q i marks) (inside : q < n) where
-  state-bad : (v : ℕ) → (v ≡ 0 → ⊥) → stateFault s q ≡ v → StatesRead s n (record { fault = v; marks = marks })
+  state-bad : (v : ℕ) → (v ≡ 0 → ⊥) → stateFault s q ≡ v → StatesRead s n v marks
   state-bad v z e = record { fault = first-at n (stateFault s) q v z (so-far .none) e inside; marks = λ d. absurd (z d) }
 
   line-is : lineFault s 2 i ≡ lineFault s 2 (stateStart q)
   line-is = ap (λ (k : ℕ). lineFault s 2 k) (so-far .start)
 
-  pub state-line : (v : ℕ) → (v ≡ 0 → ⊥) → lineFault s 2 i ≡ v → StatesRead s n (record { fault = v; marks = marks })
+  pub state-line : (v : ℕ) → (v ≡ 0 → ⊥) → lineFault s 2 i ≡ v → StatesRead s n v marks
   unfolding stateFault
   state-line v z e =
       let f : lineFault s 2 (stateStart q) ≡ v = sym line-is ∙ e in
@@ -177,7 +177,7 @@ module _ (s : List ℕ) (n q i : ℕ) (marks : List ℕ) (so-far : StatesTo s q 
         zero-add : i + 0 * 5 ≡ stateStart q
         zero-add = let h = so-far .start in omega arith
 
-    pub state-mark : (v ≡ 0 → ⊥) → StatesRead s n (record { fault = v; marks = marks })
+    pub state-mark : (v ≡ 0 → ⊥) → StatesRead s n v marks
     state-mark z = state-bad v z (sym fault-is)
 
     pub mark-small : v ≡ 0 → getD numbers 1 0 ≤ 15

@@ -23,7 +23,7 @@ use Rattle.fsbm.specs.declared.machine.Machine.{Machine}
 use Rattle.fsbm.specs.declared.machine.Transition.{Transition}
 use Rattle.fsbm.specs.declared.answer.Refusal.{Refusal}
 use Rattle.sheet.specs.declared.faults.Line.{Line}
-use Rattle.sheet.specs.declared.read.Sheet.{Sheet}
+use Rattle.sheet.specs.declared.answers.Sheet.{Sheet}
 use Rattle.sheet.specs.Format.{stateStart, transitionStart}
 use Rattle.sheet.specs.Series.{orElse, firstOf}
 use Rattle.basics.specs.Each.{eachBelow}

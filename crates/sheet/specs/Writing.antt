@@ -14,8 +14,8 @@ use Rattle.fsbm.specs.Machine.{wellFormed}
 use Rattle.fsbm.specs.Answers.{refusal}
 use Rattle.fsbm.specs.declared.machine.Machine.{Machine}
 use Rattle.fsbm.specs.declared.answer.Refusal.{Refusal}
-use Rattle.sheet.specs.declared.write.Written.{Written}
-use Rattle.sheet.specs.declared.write.Written.the-variants.{Refused, Bytes}
+use Rattle.sheet.specs.declared.answers.Written.{Written}
+use Rattle.sheet.specs.declared.answers.Written.the-variants.{Refused, Bytes}
 use Rattle.sheet.specs.Format.{sheetLength, sheetOf}
 
 unfoldable pub writeRefusal : Machine → List ℕ → ℕ → Refusal

@@ -1,13 +1,11 @@
-// Table sheets: the reader and the writer.
+// Table sheets: what the reader and the writer (crates sheet_reader and sheet_writer) are made of. specs/ has what a sheet is.
 //
-// read    the public call read_sheet; Sheet, its answer
-// write   the public call write_sheet; Written, its answer
-// parts   the three parts of a sheet, each read to its first fault or to its end
-// faults  the faults of the numbers of one line
+// answers  Sheet and Written, the answers of the two calls
+// parts    the three parts of a sheet, each read to its first fault or to its end
+// faults   the faults of the numbers of one line
+pub mod answers;
 pub mod faults;
 pub mod parts;
-pub mod read;
-pub mod write;
 
 // The bytes of line one.
 pub const HEADER_LENGTH: usize = 16;

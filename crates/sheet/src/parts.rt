@@ -2,7 +2,8 @@
 // reading order or to its end.
 ghost use Prim.Native.Nat.{_+_, _*_, _≤_};
 ghost use mathlib.Core.Path.{_≡_};
-ghost use lib.ListN.{length};
+ghost use lib.ListN.{length, replicate};
+ghost use Rattle.fsbm.specs.Machine.{maxStates};
 ghost use Rattle.sheet.specs.Reading.{columnAt};
 ghost use Rattle.sheet.specs.Parts.{HeaderRead, StatesRead, TransitionsRead};
 use crate::HEADER_LENGTH;
@@ -10,7 +11,6 @@ use crate::STATE_LENGTH;
 use crate::TRANSITION_LENGTH;
 use crate::faults;
 use crate::faults::Line;
-use fsbm::limits::MAX_STATES;
 use fsbm::machine::Marks;
 
 // What line one holds: its first fault, 1, 2 or 3, or 0 and its counts.
@@ -19,12 +19,6 @@ pub struct Header {
     pub states: usize,
     pub letters: usize,
     pub transitions: usize,
-}
-
-// What the lines of the states hold: their first fault, 1, 2 or 4, or 0 and the marks.
-pub struct States {
-    pub fault: u8,
-    pub marks: Marks,
 }
 
 // The number in the column of five bytes that starts at byte at; columns::NO_NUMBER where they are not a column.
@@ -79,12 +73,11 @@ pub fn read_header(sheet: &[u8]) -> Header
     }
 }
 
-// The lines of the states: their first fault, 1, 2, 4, or 0 and the marks, with 0 past the last one.
-pub fn read_states(sheet: &[u8], states: usize) -> States
-    requires { ⌜ states ≤ 64 ⌝ }
-    ensures { λ r. ⌜ StatesRead (now (sheet .entry)) states r ⌝ }
+// The lines of the states: their first fault, 1, 2, 4, or 0 and the marks. All marks are 0 before, and past the last state after.
+pub fn read_states(sheet: &[u8], states: usize, marks: &mut Marks) -> u8
+    requires { ⌜ (states ≤ 64) × (now marks ≡ replicate maxStates 0) ⌝ }
+    ensures { λ r. ⌜ StatesRead (now (sheet .entry)) states r (now (marks .exit)) ⌝ }
 {
-    let mut marks: Marks = [0; MAX_STATES];
     let mut numbers: [usize; 2] = [0; 2];
     let mut at: usize = HEADER_LENGTH;
     let mut q: usize = 0;
@@ -117,7 +110,7 @@ pub fn read_states(sheet: &[u8], states: usize) -> States
         at += STATE_LENGTH;
         q += 1;
     };
-    States { fault, marks }
+    fault
 }
 
 // The lines of the transitions: their first fault, 1, 2, 5, 6, or 0 and their numbers at the front of kept, three for each.

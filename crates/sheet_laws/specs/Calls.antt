@@ -20,9 +20,9 @@ use Rattle.fsbm.specs.Machine.{wellFormed}
 use Rattle.fsbm.specs.Answers.{refusal, noMachine}
 use Rattle.fsbm.specs.declared.machine.Machine.{Machine}
 use Rattle.fsbm.specs.declared.answer.Refusal.{Refusal}
-use Rattle.sheet.specs.declared.read.Sheet.{Sheet}
-use Rattle.sheet.specs.declared.write.Written.{Written}
-use Rattle.sheet.specs.declared.write.Written.the-variants.{Refused, Bytes}
+use Rattle.sheet.specs.declared.answers.Sheet.{Sheet}
+use Rattle.sheet.specs.declared.answers.Written.{Written}
+use Rattle.sheet.specs.declared.answers.Written.the-variants.{Refused, Bytes}
 use Rattle.sheet.specs.Format.{sheetLength, sheetOf}
 use Rattle.sheet.specs.Reading.{columnAt, firstFault, machineOf, transitionsOf, readRefusal, readAnswer, readList}
 use Rattle.sheet.specs.Writing.{writeRefusal, writeAnswer, writeSheet}

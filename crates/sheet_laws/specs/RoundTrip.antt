@@ -29,7 +29,7 @@ use Rattle.fsbm.specs.declared.machine.Machine.{Machine}
 use Rattle.fsbm.specs.declared.machine.Transition.{Transition}
 use Rattle.fsbm.specs.declared.answer.Refusal.{Refusal}
 use Rattle.sheet.specs.Format.Laws.{header-wide, state-wide, transition-wide}
-use Rattle.sheet.specs.declared.write.Written.the-variants.{Refused, Bytes}
+use Rattle.sheet.specs.declared.answers.Written.the-variants.{Refused, Bytes}
 use Rattle.basics.specs.Each.{eachBelow}
 use Rattle.basics.specs.Each.Laws.{each-length, each-same, each-drop, each-elem, each-parts}
 use Rattle.sheet.specs.Format.{lineOf, stateStart, transitionStart, sheetLength, headerLine, stateLine, transitionLine, sheetOf}

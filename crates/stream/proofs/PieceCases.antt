@@ -22,7 +22,7 @@ use Rattle.columns.specs.Column.Laws.{column-length}
 use Rattle.fsbm.specs.declared.machine.Machine.{Machine}
 use Rattle.lines.specs.declared.Answer.{Answer}
 use Rattle.lines.specs.Line.{lineAnswer, answerLine}
-use Rattle.sheet.specs.declared.read.Sheet.{Sheet}
+use Rattle.sheet.specs.declared.answers.Sheet.{Sheet}
 use Rattle.sheet.specs.Reading.{firstFault, readAnswer, readList}
 use Rattle.stream.specs.Listing.{wordLine, header, sheetRefused, refusedSheet, mostWords}
 use Rattle.stream.specs.Pieces.{Pending, mostKept, afterByte, afterPiece, bytePrints, piecePrints, endPrints, opening}

@@ -83,7 +83,7 @@ pub fn open(sheet: &[u8], list: &mut [u16], out: &mut [u8]) -> Opened
     requires { ⌜ (12000 ≤ length (now list)) × (19 ≤ length (now out)) ⌝ }
     ensures { λ r. ⌜ (r ≡ openAnswer (now (sheet .entry)) (length (now (list .entry)))) × (now (list .exit) ≡ readList (now (sheet .entry)) (now (list .entry))) × (now (out .exit) ≡ put 0 (now (out .entry)) (opening (now (sheet .entry)))) ⌝ }
 {
-    let read = sheet::read::read_sheet(sheet, list);
+    let read = sheet_reader::read_sheet(sheet, list);
     let number = read.refusal.number;
     let machine = read.machine;
     if number != 0 {

@@ -466,7 +466,11 @@ fn around_the_smaller_array() {
         for length in [0, needed, needed + 5] {
             gives(&[&good[..], b"\n"].concat(), length, 7);
         }
-        for (changed, refusal) in [([64, 250, 0], 5), ([0, 251, 0], 5), (transitions[number - 2], 6)] {
+        for (changed, refusal) in [
+            ([64, 250, 0], 5),
+            ([0, 251, 0], 5),
+            (transitions[number - 2], 6),
+        ] {
             let mut other = transitions.to_vec();
             other[number - 1] = changed;
             gives(&text([64, 250, number], &marks, &other), needed, refusal);

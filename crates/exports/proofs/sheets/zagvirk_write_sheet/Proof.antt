@@ -1,6 +1,6 @@
 use mathlib.Core.Path.{ap, sym, _∙_}
 use Rattle.sheet.specs.Writing.{writtenValues}
-use Rattle.sheet.specs.declared.write.Written.{Written}
+use Rattle.sheet.specs.declared.answers.Written.{Written}
 use Rattle.exports.specs.SheetAnswers.{writtenRecord}
 use borrow.Author.Needs.{needs}
 use Rattle.exports.proofs.sheets.zagvirk_write_sheet.Statement.{statement}

@@ -20,10 +20,10 @@ abbrev μ-sheet : tie.MeasureT-sheet
 μ-sheet sheet states marks₀ numbers₀ at₀ q₀ marks numbers at q = states - q
 
 sheet-holds : tie.Need-sheet-holds Inv-loop μ-loop Inv-sheet μ-sheet
-sheet-holds c = (omega arith, states-none _, refl)
+sheet-holds c = (omega arith, states-none _ _ ((c .before) .pre .1), refl)
 
 add-if2 : tie.Need-add-if2 Inv-loop μ-loop Inv-sheet μ-sheet
-add-if2 c = omega (arith, (c .before .before .before) .pre, (c .before) .sheet .inv .0, (c .before) .sheet .inv .1 .start)
+add-if2 c = omega (arith, (c .before .before .before) .pre .0, (c .before) .sheet .inv .0, (c .before) .sheet .inv .1 .start)
 
 loop-holds : tie.Need-loop-holds Inv-loop μ-loop Inv-sheet μ-sheet
 loop-holds c = (omega arith, (c .before .before) .sheet .inv .2, columns-none _ _ _)
@@ -70,20 +70,20 @@ mark-fault-requires c κs = search needs
 cast-marks : tie.Need-cast-marks Inv-loop μ-loop Inv-sheet μ-sheet
 cast-marks c = omega (arith, mark-small (((c .before .before .before .before .before .before .before .before .before .before) .args .sheet) .now) ((c .before .before .before .before .before .before .before .before .before .before) .args .states) ((c .before .before .before .before .before .before .before .before) .sheet .q) ((c .before .before .before .before .before .before .before .before) .sheet .at) ((c .before .before .before .before .before .before .before .before) .sheet .marks) ((c .before .before .before .before .before .before .before .before) .sheet .inv .1) (omega (arith, (c .before .before .before .before .before .before .before .before) .sheet .inv .0, (c .before .before .before .before .before .before .before) .if1 .left)) ((c .before .before .before .before .before) .loop .c) ((c .before .before .before .before .before) .loop .numbers) (line-good (((c .before .before .before .before .before .before .before .before .before .before) .args .sheet) .now) ((c .before .before .before .before .before .before .before .before) .sheet .at) 2 (omega (arith, (c .before .before .before .before .before .before) .if2 .left)) ((c .before .before .before .before .before) .loop .c) ((c .before .before .before .before .before) .loop .numbers) ((c .before .before .before .before .before) .loop .inv .2) (omega (arith, (c .before .before .before .before .before) .loop .inv .0, (c .before .before .before .before) .loop-test .left)) ((c .before .before) .if4 .left)) ((c .before .before .before .before .before) .loop .inv .2) (omega (arith, (c .before .before .before .before .before) .loop .inv .0, (c .before .before .before .before) .loop-test .left)) ((c .before) .mark-fault .result) ((c .before) .mark-fault .ensures) (c .if5 .left))
 
-array-write-marks : tie.Need-array-write-marks Inv-loop μ-loop Inv-sheet μ-sheet
-array-write-marks c = omega (arith, (c .before .before .before .before .before .before .before .before .before .before) .pre, (c .before .before .before .before .before .before .before .before) .sheet .inv .0, (c .before .before .before .before .before .before .before) .if1 .left)
+element-write-marks : tie.Need-element-write-marks Inv-loop μ-loop Inv-sheet μ-sheet
+element-write-marks c = omega (arith, (c .before .before .before .before .before .before .before .before .before .before) .pre .0, (c .before .before .before .before .before .before .before .before) .sheet .inv .0, (c .before .before .before .before .before .before .before) .if1 .left)
 
 add-at : tie.Need-add-at Inv-loop μ-loop Inv-sheet μ-sheet
 add-at c = omega (arith, (c .before .before .before .before .before .before .before .before .before .before) .good, (c .before .before .before .before .before .before) .if2 .left)
 
 add-q : tie.Need-add-q Inv-loop μ-loop Inv-sheet μ-sheet
-add-q c = omega (arith, (c .before .before .before .before .before .before .before .before .before .before) .pre, (c .before .before .before .before .before .before .before .before) .sheet .inv .0)
+add-q c = omega (arith, (c .before .before .before .before .before .before .before .before .before .before) .pre .0, (c .before .before .before .before .before .before .before .before) .sheet .inv .0)
 
 sheet-less : tie.Need-sheet-less Inv-loop μ-loop Inv-sheet μ-sheet
 sheet-less c = omega (arith, (c .before .before .before .before .before .before .before .before) .sheet .inv .0, (c .before .before .before .before .before .before .before) .if1 .left)
 
 sheet-again : tie.Need-sheet-again Inv-loop μ-loop Inv-sheet μ-sheet
-sheet-again c = (omega (arith, (c .before .before .before .before .before .before .before .before) .sheet .inv .0, (c .before .before .before .before .before .before .before) .if1 .left), state-next (((c .before .before .before .before .before .before .before .before .before .before) .args .sheet) .now) ((c .before .before .before .before .before .before .before .before .before .before) .args .states) ((c .before .before .before .before .before .before .before .before) .sheet .q) ((c .before .before .before .before .before .before .before .before) .sheet .at) ((c .before .before .before .before .before .before .before .before) .sheet .marks) ((c .before .before .before .before .before .before .before .before) .sheet .inv .1) (omega (arith, (c .before .before .before .before .before .before .before .before) .sheet .inv .0, (c .before .before .before .before .before .before .before) .if1 .left)) ((c .before .before .before .before .before) .loop .c) ((c .before .before .before .before .before) .loop .numbers) (line-good (((c .before .before .before .before .before .before .before .before .before .before) .args .sheet) .now) ((c .before .before .before .before .before .before .before .before) .sheet .at) 2 (omega (arith, (c .before .before .before .before .before .before) .if2 .left)) ((c .before .before .before .before .before) .loop .c) ((c .before .before .before .before .before) .loop .numbers) ((c .before .before .before .before .before) .loop .inv .2) (omega (arith, (c .before .before .before .before .before) .loop .inv .0, (c .before .before .before .before) .loop-test .left)) ((c .before .before) .if4 .left)) ((c .before .before .before .before .before) .loop .inv .2) (omega (arith, (c .before .before .before .before .before) .loop .inv .0, (c .before .before .before .before) .loop-test .left)) ((c .before) .mark-fault .result) ((c .before) .mark-fault .ensures) (c .if5 .left) (omega (arith, (c .before .before .before .before .before .before .before .before .before .before) .pre, (c .before .before .before .before .before .before .before .before) .sheet .inv .0, (c .before .before .before .before .before .before .before) .if1 .left)), (c .before .before .before .before .before) .loop .inv .1)
+sheet-again c = (omega (arith, (c .before .before .before .before .before .before .before .before) .sheet .inv .0, (c .before .before .before .before .before .before .before) .if1 .left), state-next (((c .before .before .before .before .before .before .before .before .before .before) .args .sheet) .now) ((c .before .before .before .before .before .before .before .before .before .before) .args .states) ((c .before .before .before .before .before .before .before .before) .sheet .q) ((c .before .before .before .before .before .before .before .before) .sheet .at) ((c .before .before .before .before .before .before .before .before) .sheet .marks) ((c .before .before .before .before .before .before .before .before) .sheet .inv .1) (omega (arith, (c .before .before .before .before .before .before .before .before) .sheet .inv .0, (c .before .before .before .before .before .before .before) .if1 .left)) ((c .before .before .before .before .before) .loop .c) ((c .before .before .before .before .before) .loop .numbers) (line-good (((c .before .before .before .before .before .before .before .before .before .before) .args .sheet) .now) ((c .before .before .before .before .before .before .before .before) .sheet .at) 2 (omega (arith, (c .before .before .before .before .before .before) .if2 .left)) ((c .before .before .before .before .before) .loop .c) ((c .before .before .before .before .before) .loop .numbers) ((c .before .before .before .before .before) .loop .inv .2) (omega (arith, (c .before .before .before .before .before) .loop .inv .0, (c .before .before .before .before) .loop-test .left)) ((c .before .before) .if4 .left)) ((c .before .before .before .before .before) .loop .inv .2) (omega (arith, (c .before .before .before .before .before) .loop .inv .0, (c .before .before .before .before) .loop-test .left)) ((c .before) .mark-fault .result) ((c .before) .mark-fault .ensures) (c .if5 .left) (omega (arith, (c .before .before .before .before .before .before .before .before .before .before) .pre .0, (c .before .before .before .before .before .before .before .before) .sheet .inv .0, (c .before .before .before .before .before .before .before) .if1 .left)), (c .before .before .before .before .before) .loop .inv .1)
 
 returns : tie.Need-returns Inv-loop μ-loop Inv-sheet μ-sheet
 returns c = states-done (((c .before .before .before) .args .sheet) .now) ((c .before .before .before) .args .states) ((c .before) .sheet .q) ((c .before) .sheet .at) ((c .before) .sheet .marks) ((c .before) .sheet .inv .1) (c .if1 .taken)
@@ -125,7 +125,7 @@ read-states-spec =
     array-read-mark
     mark-fault-requires
     cast-marks
-    array-write-marks
+    element-write-marks
     add-at
     add-q
     sheet-less
