@@ -39,7 +39,7 @@
 /* The stack, in bytes, of a thread that makes a call; no call uses a heap. Measured on x86-64 Linux and rounded up, not
  * proved: the least threads that ran the calls on the largest inputs had 464 KB (zagvirk_recognize), 220 KB
  * (zagvirk_common_word), 212 KB (zagvirk_reach), 208 KB (zagvirk_accept_words), 140 KB (zagvirk_accepts), 80 KB
- * (zagvirk_join), 32 KB (zagvirk_read_sheet) and for every other call 16 KB, the least that a thread may have there;
+ * (zagvirk_join), 20 KB (zagvirk_read_sheet) and for every other call 16 KB, the least that a thread may have there;
  * these take below 1 KB themselves. What the caller's own functions need comes on top.
  */
 #define ZAGVIRK_STACK_RECOGNIZE (480 * 1024)
@@ -48,7 +48,7 @@
 #define ZAGVIRK_STACK_ACCEPT_WORDS (224 * 1024)
 #define ZAGVIRK_STACK_ACCEPTS (160 * 1024)
 #define ZAGVIRK_STACK_JOIN (96 * 1024)
-#define ZAGVIRK_STACK_READ_SHEET (48 * 1024)
+#define ZAGVIRK_STACK_READ_SHEET (32 * 1024)
 #define ZAGVIRK_STACK_SMALL (16 * 1024) /* every other call */
 
 #ifdef __cplusplus

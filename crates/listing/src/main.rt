@@ -6,7 +6,7 @@
 // What is printed is decided in crate stream; here a piece of the input is read, handed on, and its output written. Each write goes by
 // a function that asks for the bytes of the definition, and takes what these are defined from beside them.
 //
-// Memory: two buffers of 64 KB, one of 4 KB, a line, the table (24 KB more while it is read), what it is prepared to (128 KB) and what is
+// Memory: two buffers of 64 KB, one of 4 KB, a line, the table (12 KB more while it is read), what it is prepared to (128 KB) and what is
 // kept from word to word (74 KB), whatever comes in.
 ghost use Prim.Native.Nat.{ℕ, _≤_};
 ghost use mathlib.Core.Path.{_≡_};

@@ -113,13 +113,14 @@ pub fn read_states(sheet: &[u8], states: usize, marks: &mut Marks) -> u8
     fault
 }
 
-// The lines of the transitions: their first fault, 1, 2, 5, 6, or 0 and their numbers at the front of kept, three for each.
+// The lines of the transitions: their first fault, 1, 2, 5, 6, or 0 and their numbers at the front of kept, three for each; a byte
+// holds each of them.
 pub fn read_transitions(
     sheet: &[u8],
     states: usize,
     letters: usize,
     transitions: usize,
-    kept: &mut [u16],
+    kept: &mut [u8],
 ) -> u8
     requires { ⌜ (states ≤ 64) × (letters ≤ 250) × (transitions ≤ 4000) × (transitions * 3 ≤ length (now kept)) ⌝ }
     ensures { λ r. ⌜ TransitionsRead (now (sheet .entry)) states letters transitions (now (kept .entry)) r (now (kept .exit)) ⌝ }
@@ -160,9 +161,9 @@ pub fn read_transitions(
             break 'sheet wrong;
         }
         let i = k * 3;
-        kept[i] = from as u16;
-        kept[i + 1] = letter as u16;
-        kept[i + 2] = to as u16;
+        kept[i] = from as u8;
+        kept[i + 1] = letter as u8;
+        kept[i + 2] = to as u8;
         before = t;
         at += TRANSITION_LENGTH;
         k += 1;

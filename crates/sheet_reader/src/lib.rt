@@ -41,13 +41,13 @@ fn refused(number: u8, needed: usize) -> Sheet
 }
 
 // Copies the numbers to the front of the list.
-fn copy(from: &[u16], list: &mut [u16])
+fn copy(from: &[u8], list: &mut [u16])
     requires { ⌜ length (now from) ≤ length (now list) ⌝ }
     ensures { λ r. ⌜ now (list .exit) ≡ put 0 (now (list .entry)) (now (from .entry)) ⌝ }
 {
     let mut i: usize = 0;
     while i < from.len() {
-        list[i] = from[i];
+        list[i] = from[i] as u16;
         i += 1;
     }
 }
@@ -58,7 +58,7 @@ fn copy(from: &[u16], list: &mut [u16])
 fn read_rest(
     sheet: &[u8],
     header: Header,
-    kept: &mut [u16],
+    kept: &mut [u8],
     marks: &mut Marks,
     list: &mut [u16],
 ) -> Refusal
@@ -107,7 +107,7 @@ fn read_few(sheet: &[u8], header: Header, marks: &mut Marks, list: &mut [u16]) -
     requires { ⌜ HeaderRead (now sheet) header × (header .fault ≡ 0) × (header .transitions ≤ 64) × (now marks ≡ replicate maxStates 0) ⌝ }
     ensures { λ r. ⌜ RestRead (now (sheet .entry)) (now (list .entry)) r (now (list .exit)) (now (marks .exit)) ⌝ }
 {
-    let mut kept = [0u16; FEW_LENGTH];
+    let mut kept = [0u8; FEW_LENGTH];
     read_rest(sheet, header, &mut kept, marks, list)
 }
 
@@ -116,7 +116,7 @@ fn read_many(sheet: &[u8], header: Header, marks: &mut Marks, list: &mut [u16]) 
     requires { ⌜ HeaderRead (now sheet) header × (header .fault ≡ 0) × (now marks ≡ replicate maxStates 0) ⌝ }
     ensures { λ r. ⌜ RestRead (now (sheet .entry)) (now (list .entry)) r (now (list .exit)) (now (marks .exit)) ⌝ }
 {
-    let mut kept = [0u16; LIST_LENGTH];
+    let mut kept = [0u8; LIST_LENGTH];
     read_rest(sheet, header, &mut kept, marks, list)
 }
 
@@ -134,7 +134,7 @@ fn read_sized(sheet: &[u8], header: Header, marks: &mut Marks, list: &mut [u16])
 // The public call that reads a sheet: its machine, with the transitions at the front of the list, three numbers each. It refuses
 // the first fault in reading order, 1 to 7, then 15 (the list is too short) with the length needed. A refusal leaves the list as
 // it was, and what stands in the list past the transitions stays as it was.
-// Time: each byte of the sheet once at most. Memory: the machine, and 24 KB that keep its transitions.
+// Time: each byte of the sheet once at most. Memory: the machine, and 12 KB that keep its transitions.
 pub fn read_sheet(sheet: &[u8], list: &mut [u16]) -> Sheet
     ensures { λ r. ⌜ (r ≡ readAnswer (now (sheet .entry)) (length (now (list .entry)))) × (now (list .exit) ≡ readList (now (sheet .entry)) (now (list .entry))) ⌝ }
 {

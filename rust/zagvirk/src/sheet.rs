@@ -68,7 +68,7 @@ pub fn write_record(table: Table, sheet: &mut [u8]) -> WrittenRecord {
 /// [`Refusal::TransitionBroken`] (a transition's line), then [`Refusal::NotRising`]; after all lines
 /// [`Refusal::BytesLeft`], then [`Refusal::ListTooShort`].
 ///
-/// Time: each byte of the sheet once at most. Memory: constant, 24 KB.
+/// Time: each byte of the sheet once at most. Memory: constant, 12 KB.
 ///
 /// ```
 /// use zagvirk::{sheet, Machine, Table};

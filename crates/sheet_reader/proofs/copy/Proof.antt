@@ -16,14 +16,14 @@ abbrev μ-loop : tie.MeasureT-loop
 loop-holds : tie.Need-loop-holds Inv-loop μ-loop
 loop-holds c = (omega arith, put-none 0 (c .args .list .now), refl)
 
-mul-list : tie.Need-mul-list Inv-loop μ-loop
-mul-list c = omega (arith, (c .before .before) .good)
-
 shared-slice-read-list : tie.Need-shared-slice-read-list Inv-loop μ-loop
 shared-slice-read-list c = omega arith
 
-mul-list-2 : tie.Need-mul-list-2 Inv-loop μ-loop
-mul-list-2 c = omega (arith, (c .before .before .before) .good)
+cast-list : tie.Need-cast-list Inv-loop μ-loop
+cast-list c = omega (arith, c .shared-slice-known .given ((c .before .before) .loop .i))
+
+mul-list : tie.Need-mul-list Inv-loop μ-loop
+mul-list c = omega (arith, (c .before .before .before) .good)
 
 slice-write-list : tie.Need-slice-write-list Inv-loop μ-loop
 slice-write-list c = omega (arith, (c .before .before) .loop .inv .2, (c .before .before .before) .pre)
@@ -50,9 +50,9 @@ copy-spec =
     Inv-loop
     μ-loop
     loop-holds
-    mul-list
     shared-slice-read-list
-    mul-list-2
+    cast-list
+    mul-list
     slice-write-list
     add-i
     loop-less

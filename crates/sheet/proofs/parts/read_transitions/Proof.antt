@@ -82,9 +82,6 @@ mul-i c = omega (arith, (c .before .before .before .before .before .before .befo
 cast-kept : tie.Need-cast-kept Inv-loop μ-loop Inv-sheet μ-sheet
 cast-kept c = omega (arith, ((numbers-small (((c .before .before .before .before .before .before .before .before .before .before .before) .args .sheet) .now) ((c .before .before .before .before .before .before .before .before .before .before .before) .args .states) ((c .before .before .before .before .before .before .before .before .before .before .before) .args .letters) ((c .before .before .before .before .before .before .before .before .before .before .before) .args .transitions) ((c .before .before .before .before .before .before .before .before) .sheet .k) ((c .before .before .before .before .before .before .before .before) .sheet .at) (((c .before .before .before .before .before .before .before .before .before .before .before) .args .kept) .now) ((c .before .before .before .before .before .before .before .before) .sheet .kept) ((c .before .before .before .before .before .before .before .before) .sheet .before) ((c .before .before .before .before .before .before .before .before) .sheet .inv .1) (omega (arith, (c .before .before .before .before .before .before .before .before) .sheet .inv .0, (c .before .before .before .before .before .before .before) .if1 .left)) ((c .before .before .before .before .before) .loop .c) ((c .before .before .before .before .before) .loop .numbers) (line-good (((c .before .before .before .before .before .before .before .before .before .before .before) .args .sheet) .now) ((c .before .before .before .before .before .before .before .before) .sheet .at) 3 (omega (arith, (c .before .before .before .before .before .before) .if2 .left)) ((c .before .before .before .before .before) .loop .c) ((c .before .before .before .before .before) .loop .numbers) ((c .before .before .before .before .before) .loop .inv .2) (omega (arith, (c .before .before .before .before .before) .loop .inv .0, (c .before .before .before .before) .loop-test .left)) ((c .before .before) .if4 .left)) ((c .before .before .before .before .before) .loop .inv .2) (omega (arith, (c .before .before .before .before .before) .loop .inv .0, (c .before .before .before .before) .loop-test .left)) ((c .before) .order-fault .result) ((c .before) .order-fault .ensures) (c .if5 .left))) .0, (c .before .before .before .before .before .before .before .before .before .before .before) .pre .0)
 
-mul-kept : tie.Need-mul-kept Inv-loop μ-loop Inv-sheet μ-sheet
-mul-kept c = (omega (arith, (c .before .before .before .before .before .before .before .before .before .before .before) .pre .3, (c .before .before .before .before .before .before .before .before) .sheet .inv .0, (c .before .before .before .before .before .before .before .before) .sheet .inv .3, (c .before .before .before .before .before .before .before) .if1 .left))
-
 slice-write-kept : tie.Need-slice-write-kept Inv-loop μ-loop Inv-sheet μ-sheet
 slice-write-kept c = (omega (arith, (c .before .before .before .before .before .before .before .before .before .before .before) .pre .3, (c .before .before .before .before .before .before .before .before) .sheet .inv .0, (c .before .before .before .before .before .before .before .before) .sheet .inv .3, (c .before .before .before .before .before .before .before) .if1 .left))
 
@@ -94,9 +91,6 @@ cast-kept-2 c = omega (arith, ((numbers-small (((c .before .before .before .befo
 add-kept : tie.Need-add-kept Inv-loop μ-loop Inv-sheet μ-sheet
 add-kept c = (omega (arith, (c .before .before .before .before .before .before .before .before .before .before .before) .pre .3, (c .before .before .before .before .before .before .before .before) .sheet .inv .0, (c .before .before .before .before .before .before .before .before) .sheet .inv .3, (c .before .before .before .before .before .before .before) .if1 .left))
 
-mul-kept-2 : tie.Need-mul-kept-2 Inv-loop μ-loop Inv-sheet μ-sheet
-mul-kept-2 c = (omega (arith, (c .before .before .before .before .before .before .before .before .before .before .before) .pre .3, (c .before .before .before .before .before .before .before .before) .sheet .inv .0, (c .before .before .before .before .before .before .before .before) .sheet .inv .3, (c .before .before .before .before .before .before .before) .if1 .left))
-
 slice-write-kept-2 : tie.Need-slice-write-kept-2 Inv-loop μ-loop Inv-sheet μ-sheet
 slice-write-kept-2 c = simp length-set (omega (arith, (c .before .before .before .before .before .before .before .before .before .before .before) .pre .3, (c .before .before .before .before .before .before .before .before) .sheet .inv .0, (c .before .before .before .before .before .before .before .before) .sheet .inv .3, (c .before .before .before .before .before .before .before) .if1 .left))
 
@@ -105,9 +99,6 @@ cast-kept-3 c = omega (arith, ((numbers-small (((c .before .before .before .befo
 
 add-kept-2 : tie.Need-add-kept-2 Inv-loop μ-loop Inv-sheet μ-sheet
 add-kept-2 c = (omega (arith, (c .before .before .before .before .before .before .before .before .before .before .before) .pre .3, (c .before .before .before .before .before .before .before .before) .sheet .inv .0, (c .before .before .before .before .before .before .before .before) .sheet .inv .3, (c .before .before .before .before .before .before .before) .if1 .left))
-
-mul-kept-3 : tie.Need-mul-kept-3 Inv-loop μ-loop Inv-sheet μ-sheet
-mul-kept-3 c = (omega (arith, (c .before .before .before .before .before .before .before .before .before .before .before) .pre .3, (c .before .before .before .before .before .before .before .before) .sheet .inv .0, (c .before .before .before .before .before .before .before .before) .sheet .inv .3, (c .before .before .before .before .before .before .before) .if1 .left))
 
 slice-write-kept-3 : tie.Need-slice-write-kept-3 Inv-loop μ-loop Inv-sheet μ-sheet
 slice-write-kept-3 c = simp length-set (omega (arith, (c .before .before .before .before .before .before .before .before .before .before .before) .pre .3, (c .before .before .before .before .before .before .before .before) .sheet .inv .0, (c .before .before .before .before .before .before .before .before) .sheet .inv .3, (c .before .before .before .before .before .before .before) .if1 .left))
@@ -183,15 +174,12 @@ read-transitions-spec =
     order-fault-requires
     mul-i
     cast-kept
-    mul-kept
     slice-write-kept
     cast-kept-2
     add-kept
-    mul-kept-2
     slice-write-kept-2
     cast-kept-3
     add-kept-2
-    mul-kept-3
     slice-write-kept-3
     add-at-2
     add-k
