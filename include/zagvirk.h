@@ -32,7 +32,7 @@
  * is 0, records and answers may change with the minor version: compile again then.
  */
 #define ZAGVIRK_VERSION_MAJOR 0
-#define ZAGVIRK_VERSION_MINOR 4
+#define ZAGVIRK_VERSION_MINOR 5
 #define ZAGVIRK_VERSION_PATCH 0
 #define ZAGVIRK_VERSION (10000 * ZAGVIRK_VERSION_MAJOR + 100 * ZAGVIRK_VERSION_MINOR + ZAGVIRK_VERSION_PATCH)
 
@@ -73,7 +73,7 @@ extern "C" {
 
 /* Refusals. With 15, 17 to 20, 35 and 36 a result's field `needed` is the length that the array needs, else it is 0. */
 #define ZAGVIRK_LINE_CUT_SHORT 1        /* fewer bytes are left than the next line takes */
-#define ZAGVIRK_COLUMN_BROKEN 2         /* a column or a line end is not as described */
+#define ZAGVIRK_COLUMN_BROKEN 2         /* a column or a line end is not as described; a blank column is 0 */
 #define ZAGVIRK_COUNT_OUT_OF_RANGE 3    /* a count is outside its range */
 #define ZAGVIRK_STATE_BROKEN 4          /* a state number is out of turn, or a mark is not allowed */
 #define ZAGVIRK_TRANSITION_BROKEN 5     /* a transition names a state or a letter that is not there */
@@ -178,8 +178,8 @@ typedef struct {
 /* The machine of a sheet; its transitions are written to the front of list, three elements each.
  *
  * A sheet has decimal numbers in columns of five bytes, right-justified, padded on the left with spaces, without
- * leading zeros; every line ends with byte 10. Line one: states, letters, transitions. Then a line for each state: its
- * number and mark. Then a line for each transition: from, letter, to.
+ * leading zeros; a column of five spaces is 0; every line ends with byte 10. Line one: states, letters, transitions.
+ * Then a line for each state: its number and mark. Then a line for each transition: from, letter, to.
  *
  * Refuses at the first fault in reading order, in each line in this order: 1, 2, then 3 (line one), 4 (a state's line)
  * or 5 (a transition's line), then 6; after all lines 7, then 15.
@@ -188,7 +188,8 @@ typedef struct {
  */
 zagvirk_sheet_read zagvirk_read_sheet(const uint8_t *sheet, size_t sheet_len, uint16_t *list, size_t list_len);
 
-/* Writes the machine's sheet to the front of sheet: 16 + 11 x states + 16 x transitions bytes, 64,720 at most.
+/* Writes the machine's sheet to the front of sheet: 16 + 11 x states + 16 x transitions bytes, 64,720 at most. A 0 is
+ * written as 0: a sheet read and written comes back with its blanks filled, and is else the same.
  *
  * Refuses, in this order: 16, 19.
  *

@@ -1,7 +1,8 @@
 -- How one column is read and written: a decimal number, right-justified, padded on the left with spaces, no leading zero but in 0
 -- itself (document 01, "The sheet"). Everything that reads or writes columns cites these definitions and the laws in
--- specs/Column/Laws.antt; the width is the length of the list. How a column is read is defined here as it was before the code made one
--- pass (document 02, change 4); what that pass holds stands in specs/Held.antt and is compared with this by its law as-before.
+-- specs/Column/Laws.antt; the width is the length of the list. A column of spaces alone is 0 (document 02, change 8). Else how a column is
+-- read is defined here as it was before the code made one pass (change 4); what that pass holds stands in specs/Held.antt and is compared
+-- with this by its law as-before.
 --
 -- widestColumn       == the most bytes of a column that the code reads
 -- noNumber           == stands for a number where there is none
@@ -11,14 +12,18 @@
 -- next p b           == the same after one byte more
 -- passFrom p l       == the same after the bytes l more
 -- found p            == the number of a column that ends so
--- columnNumber l     == the number that the bytes l are; noNumber where they are not a column
+-- columnNumber l     == the number that the bytes l are, 0 where they are spaces alone; noNumber where they are not a column
 -- digitOr q          == the last digit of q, or a space where q is 0
 -- padded w q         == the digits of q at the end of w bytes, spaces before them; spaces alone where q is 0
 -- columnOf w n       == the column of w bytes that holds n
+-- isBlank l          == whether the bytes l are spaces alone
+-- filledColumn l     == the column l as it is, or where it is blank the column of 0
 use Prim.Native.Nat.{ℕ, zero, suc, _+_, _*_, _-_, _/_, _%_}
 use mathlib.Core.List.{List, [], _∷_, _++_}
 use mathlib.Core.Bool.{Bool, cond, _&&_}
+use lib.ListN.{length}
 use lib.Dec.{leb, eqb}
+use Rattle.basics.specs.Search.{allIn}
 pub mod Laws
 
 abbrev pub widestColumn : ℕ
@@ -28,9 +33,9 @@ widestColumn = 10
 abbrev pub noNumber : ℕ
 noNumber = 10000000000
 
--- none
+-- who writes a column may leave its 0 out
 abbrev pub blankNumber : ℕ
-blankNumber = noNumber
+blankNumber = 0
 
 -- bytes 48 to 57 are the digits 0 to 9, byte 32 is the space
 abbrev pub isDigit : ℕ → Bool
@@ -77,3 +82,9 @@ padded (suc w) q = padded w (q / 10) ++ (digitOr q ∷ [])
 unfoldable pub columnOf : ℕ → ℕ → List ℕ
 columnOf zero n = []
 columnOf (suc w) n = padded w (n / 10) ++ ((48 + n % 10) ∷ [])
+
+unfoldable pub isBlank : List ℕ → Bool
+isBlank l = allIn (λ b. eqb b 32) l
+
+unfoldable pub filledColumn : List ℕ → List ℕ
+filledColumn l = cond (isBlank l) (columnOf (length l) 0) l

@@ -18,8 +18,8 @@ pub const WIDEST: usize = 10;
 // The answer of number where there is none: more than any column of WIDEST bytes holds.
 pub const NO_NUMBER: usize = 10000000000;
 
-// The number in a column of spaces alone: none.
-const BLANK_NUMBER: usize = NO_NUMBER;
+// The number in a column of spaces alone: its 0 is left out.
+const BLANK_NUMBER: usize = 0;
 
 // What a pass over a column holds after some of its bytes, from the first on: the number so far and what may follow.
 pub enum Held {
@@ -111,8 +111,8 @@ fn pass(bytes: &[u8], at: usize, width: usize) -> Held
     h
 }
 
-// The number in the column of width bytes, at most WIDEST, that starts at byte at; NO_NUMBER where they are not a column. Each byte is
-// looked at once, from the first on.
+// The number in the column of width bytes, at most WIDEST, that starts at byte at: 0 where it is blank; NO_NUMBER where they are not a
+// column. Each byte is looked at once, from the first on.
 pub fn number(bytes: &[u8], at: usize, width: usize) -> usize
     requires { ⌜ (at + width ≤ length (now bytes)) × (width ≤ widestColumn) ⌝ }
     ensures { λ r. ⌜ r ≡ columnNumber (take width (drop at (now (bytes .entry)))) ⌝ }

@@ -13,9 +13,10 @@
 -- passes-iff-written  == the answer is Accepting, if and only if the run is a written run of the word
 -- fails-iff-not       == the answer is NotAccepting, if and only if it is not
 --
--- 3. Sheets round-trip, both ways:
+-- 3. Sheets round-trip, both ways (blank columns by document 02, change 8; more of them in specs/Blanks.antt):
 -- table-round-trip    == a table written as a sheet and read again is the same table
--- sheet-round-trip    == a sheet read and written is the same bytes
+-- sheet-round-trip    == a sheet read and written is the same bytes with its blank columns filled
+-- sheet-same          == it is the same bytes where no column of it is blank
 use Prim.Native.Nat.{ℕ, _*_, _≤_}
 use mathlib.Core.Path.{_≡_, refl, sym, _∙_, ap, subst}
 use mathlib.Core.Logic.{_↔_, Iff·trans}
@@ -42,7 +43,8 @@ use Rattle.language.specs.Bound.{accepted-iff-published, accepted-not-published
 use Rattle.sheet.specs.declared.answers.Sheet.{Sheet}
 use Rattle.sheet.specs.declared.answers.Written.{Written}
 use Rattle.sheet.specs.declared.answers.Written.the-variants.{Bytes}
-use Rattle.sheet_laws.specs.Calls.{Wrote, Read, written-read, read-written}
+use Rattle.sheet_laws.specs.Filled.{filled, hasBlank}
+use Rattle.sheet_laws.specs.Calls.{Wrote, Read, written-read, read-written, read-same}
 use Rattle.recognize.specs.Recognition.{recognition, recognizedValues, Recognition}
 use Rattle.recognize.specs.declared.Recognized.{Recognized}
 use Rattle.recognize.specs.declared.Recognized.the-variants.{No, Yes}
@@ -116,7 +118,10 @@ pub table-round-trip : (m : Machine) (list before after : List ℕ) (r : Written
 table-round-trip m list before after r wrote marked n is entry exit a read long = written-read m list before after r wrote n is marked entry exit a read long
 
 -- a sheet that read_sheet does not refuse, written to a slice that is long enough
-pub sheet-round-trip : (s entry exit : List ℕ) (a : Sheet) → Read s entry exit a → a .refusal .number ≡ 0
-    → (before after : List ℕ) (r : Written) → Wrote (a .machine) exit before after r → length s ≤ length before
-    → (r ≡ Bytes (length s)) × (after ≡ s ++ drop (length s) before)
-sheet-round-trip s entry exit a read good before after r wrote long = read-written s entry exit a read good before after r wrote long
+module _ (s entry exit : List ℕ) (a : Sheet) (read : Read s entry exit a) (good : a .refusal .number ≡ 0)
+    (before after : List ℕ) (r : Written) (wrote : Wrote (a .machine) exit before after r) (long : length s ≤ length before) where
+  pub sheet-round-trip : (r ≡ Bytes (length s)) × (after ≡ filled s ++ drop (length s) before)
+  sheet-round-trip = read-written s entry exit a read good before after r wrote long
+
+  pub sheet-same : hasBlank s ≡ false → (r ≡ Bytes (length s)) × (after ≡ s ++ drop (length s) before)
+  sheet-same = read-same s entry exit a read good before after r wrote long

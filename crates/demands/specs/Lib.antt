@@ -1,3 +1,4 @@
+pub mod Blanks
 pub mod Demand2
 pub mod Demand3
 pub mod Ground

@@ -1,3 +1,4 @@
+pub mod Filled
 pub mod Lines
 pub mod RoundTrip
 pub mod Obeys

@@ -152,11 +152,12 @@ fn line_end(bytes: &[u8]) -> Option<usize> {
     bytes.iter().position(|&byte| byte == b'\n')
 }
 
-/// The letter in a column, if it is a number of up to three digits and not 0.
+/// The letter in a column, if it is a number and not 0, which a blank column is too.
 fn letter(column: &[u8]) -> Option<usize> {
-    let blank = column[0] == b' ' && column[1] == b' ' && column[2] == b' ';
+    let padded = column[0] == b' ' && column[1] == b' ' && column[2] == b' ';
     let number = u32::from(TENS[usize::from(column[3])]) + u32::from(ONES[usize::from(column[4])]);
-    if blank && number < u32::from(BAD) && number > 0 {
+    // A blank as the last byte is no digit, so a blank column is left to the way below.
+    if padded && number < u32::from(BAD) && number > 0 {
         return Some(number as usize);
     }
     let number = plain_sheet::column(column.try_into().expect("five bytes"))?;
@@ -221,6 +222,7 @@ pub fn list(sheet: &[u8], mut input: impl Read, mut output: impl Write) -> Resul
 #[cfg(test)]
 mod tests {
     use super::{list, LONGEST_LINE};
+    use compare::columns::{blank, starts, zeros};
     use compare::{random_machine, random_word, Rng};
     use reference::{listing::listing, sheet};
 
@@ -253,6 +255,10 @@ mod tests {
             .into_iter()
             .flat_map(|number| format!("{number:5}").into_bytes())
             .collect();
+        if rng.once_in(8) && !line.is_empty() {
+            let at = 5 * rng.below(line.len() / 5);
+            blank(&mut line, &[at]);
+        }
         if rng.once_in(8) {
             let byte = rng.pick(b" 01a\t\r");
             line.insert(rng.below(line.len() + 1), byte);
@@ -263,12 +269,13 @@ mod tests {
         }
         if rng.once_in(30) {
             let length = rng.pick(&[LONGEST_LINE, LONGEST_LINE + 1, LONGEST_LINE + 5, 2000]);
-            line = b"    1".iter().copied().cycle().take(length).collect();
+            let column = rng.pick(&[b"    1", b"     "]);
+            line = column.iter().copied().cycle().take(length).collect();
         }
         line
     }
 
-    /// The plain listing prints what the reference prints.
+    /// The plain listing prints what the reference prints; half of the tables have blanks.
     #[test]
     fn same_as_the_reference() {
         let mut rng = Rng::new(20_240_047);
@@ -280,6 +287,15 @@ mod tests {
             let mut table = vec![0; 64_720];
             let bytes = sheet::write(&record, &triples, &mut table).expect("a good machine");
             table.truncate(bytes - usize::from(rng.once_in(20)));
+            if rng.once_in(2) {
+                // Mostly zeros alone are left out.
+                let mut left_out = match rng.once_in(8) {
+                    true => starts(&table),
+                    false => zeros(&table),
+                };
+                left_out.retain(|_| rng.once_in(2));
+                blank(&mut table, &left_out);
+            }
             let mut input = Vec::new();
             for _ in 0..60 {
                 input.extend(line(&mut rng, machine.letters));

@@ -3,11 +3,11 @@
 use crate::plain::keeps_rules;
 use zagvirk::Machine;
 
-/// The number in a column.
+/// The number in a column; 0 if it is blank.
 pub fn column(bytes: &[u8; 5]) -> Option<u32> {
     let blanks = bytes.iter().take_while(|&&byte| byte == b' ').count();
     let digits = &bytes[blanks..];
-    if digits.is_empty() || (digits[0] == b'0' && digits.len() > 1) {
+    if digits.len() > 1 && digits[0] == b'0' {
         return None;
     }
     let mut number = 0;
@@ -120,4 +120,23 @@ pub fn write(machine: &Machine, list: &[u16], sheet: &mut [u8]) -> Result<usize,
         line[15] = b'\n';
     }
     Ok(bytes)
+}
+
+#[cfg(test)]
+mod tests {
+    use super::column;
+    use reference::sheet;
+
+    /// All columns of telling bytes hold what the reference reads in them.
+    #[test]
+    fn same_as_the_reference() {
+        let telling = b" 019\n/:a";
+        for number in 0..telling.len().pow(5) {
+            let byte = |place: usize| telling[number / telling.len().pow(place as u32) % 8];
+            let bytes: [u8; 5] = std::array::from_fn(byte);
+            let found = column(&bytes).map(|number| number as usize);
+            assert_eq!(found, sheet::column(&bytes), "the column {bytes:?}");
+        }
+        assert_eq!(column(b"     "), Some(0));
+    }
 }

@@ -57,6 +57,7 @@ fn read(sheet: &[u8]) -> Result<(), Fault> {
         transitions,
     };
     lines.counts(&size)?;
+    let [states, transitions] = values([states, transitions]);
     for state in 0..states {
         let [number, mark] = lines.next(&|| {
             let of = size.missing(states - state, transitions);
@@ -77,17 +78,38 @@ fn read(sheet: &[u8]) -> Result<(), Fault> {
     lines.end(&size)
 }
 
+/// The number in a column.
+#[derive(Clone, Copy, Default)]
+struct Number {
+    value: u32,
+    /// Whether the column has spaces alone.
+    blank: bool,
+}
+
+/// The numbers without the columns that they stood in.
+fn values<const COLUMNS: usize>(numbers: [Number; COLUMNS]) -> [u32; COLUMNS] {
+    numbers.map(|number| number.value)
+}
+
+/// Said behind numbers of which one is 0 because its column is blank.
+fn of_blank(numbers: &[Number]) -> &'static str {
+    match numbers.iter().any(|number| number.blank) {
+        true => " (a blank column is 0)",
+        false => "",
+    }
+}
+
 /// The counts of line one.
 struct Size {
-    states: u32,
-    letters: u32,
-    transitions: u32,
+    states: Number,
+    letters: Number,
+    transitions: Number,
 }
 
 impl Size {
     /// How many lines of a sheet that ends too early are missing.
     fn missing(&self, states: u32, transitions: u32) -> String {
-        let (of_states, of_transitions) = (self.states, self.transitions);
+        let [of_states, of_transitions] = values([self.states, self.transitions]);
         let counts = match states {
             0 => format!("{transitions} of {of_transitions} transitions are missing"),
             _ => format!(
@@ -119,13 +141,13 @@ impl Lines<'_> {
     fn next<const COLUMNS: usize>(
         &mut self,
         wanted: &dyn Fn() -> String,
-    ) -> Result<[u32; COLUMNS], Fault> {
+    ) -> Result<[Number; COLUMNS], Fault> {
         self.line += 1;
         let length = COLUMNS * COLUMN + 1;
         let Some((line, rest)) = self.sheet.split_at_checked(length) else {
             return Err(self.fault(None, 1, cut_short(self.sheet, length, &wanted())));
         };
-        let mut numbers = [0; COLUMNS];
+        let mut numbers = [Number::default(); COLUMNS];
         for (index, (number, text)) in numbers.iter_mut().zip(line.chunks(COLUMN)).enumerate() {
             *number = column(text).ok_or_else(|| {
                 self.fault(Some(index + 1), 2, column_fault(text, index + 1, COLUMNS))
@@ -146,9 +168,10 @@ impl Lines<'_> {
             (size.letters, "letters", 0, 250),
             (size.transitions, "transitions", 0, 4_000),
         ];
-        for (index, (count, things, least, most)) in ranges.into_iter().enumerate() {
+        for (index, (number, things, least, most)) in ranges.into_iter().enumerate() {
+            let (count, blank) = (number.value, of_blank(&[number]));
             if !(least..=most).contains(&count) {
-                let what = format!("{count} {things}, wanted {least} to {most}");
+                let what = format!("{count} {things}{blank}, wanted {least} to {most}");
                 return Err(self.fault(Some(index + 1), 3, what));
             }
         }
@@ -156,9 +179,12 @@ impl Lines<'_> {
     }
 
     /// Refusal 4.
-    fn state(&self, wanted: u32, number: u32, mark: u32) -> Result<(), Fault> {
-        if number != wanted {
-            let what = format!("state {number}, wanted {wanted}: states stand in turn from 0");
+    fn state(&self, wanted: u32, number: Number, mark: Number) -> Result<(), Fault> {
+        let (state, mark) = (number.value, mark.value);
+        if state != wanted {
+            let blank = of_blank(&[number]);
+            let what =
+                format!("state {state}{blank}, wanted {wanted}: states stand in turn from 0");
             return Err(self.fault(Some(1), 4, what));
         }
         let what = match mark {
@@ -170,11 +196,13 @@ impl Lines<'_> {
     }
 
     /// Refusal 5.
-    fn transition(&self, size: &Size, [from, letter, to]: [u32; 3]) -> Result<(), Fault> {
-        let states = size.states;
+    fn transition(&self, size: &Size, transition: [Number; 3]) -> Result<(), Fault> {
+        let [from, letter, to] = values(transition);
+        let [states, letters] = values([size.states, size.letters]);
         for (column, state) in [(1, from), (2, 0), (3, to)] {
-            if column == 2 && letter > size.letters {
-                let what = format!("names letter {letter}, there are {}", size.letters);
+            if column == 2 && letter > letters {
+                let blank = of_blank(&[size.letters]);
+                let what = format!("names letter {letter}, there are {letters}{blank}");
                 return Err(self.fault(Some(2), 5, what));
             }
             if state >= states {
@@ -190,15 +218,18 @@ impl Lines<'_> {
     }
 
     /// Refusal 6.
-    fn rising(&self, before: Option<[u32; 3]>, transition: [u32; 3]) -> Result<(), Fault> {
-        let Some(before) = before.filter(|before| *before >= transition) else {
+    fn rising(&self, before: Option<[Number; 3]>, transition: [Number; 3]) -> Result<(), Fault> {
+        let falls = |before: &[Number; 3]| values(*before) >= values(transition);
+        let Some(before) = before.filter(falls) else {
             return Ok(());
         };
+        let blank = of_blank(&[before, transition].concat());
+        let (before, transition) = (values(before), values(transition));
         let [from, letter, to] = transition;
         let what = match before == transition {
-            true => format!("transition {from} {letter} {to} stands twice: remove one"),
+            true => format!("transition {from} {letter} {to} stands twice{blank}: remove one"),
             false => format!(
-                "transition {from} {letter} {to} stands behind {} {} {}: sort them by from, letter, to",
+                "transition {from} {letter} {to} stands behind {} {} {}{blank}: sort them by from, letter, to",
                 before[0], before[1], before[2]
             ),
         };
@@ -210,10 +241,12 @@ impl Lines<'_> {
         if self.sheet.is_empty() {
             return Ok(());
         }
-        let (states, transitions) = (size.states, size.transitions);
+        let [states, transitions] = values([size.states, size.transitions]);
+        let blank = of_blank(&[size.transitions]);
         self.line += 1;
         let what = format!(
-            "'{}' stands behind the last line of {states} states and {transitions} transitions: remove it, or correct line 1",
+            "'{}' stands behind the last line of {states} states and {transitions} transitions{blank}: remove it, or correct \
+             line 1",
             shown(first_line(self.sheet))
         );
         Err(self.fault(None, 7, what))
@@ -228,24 +261,29 @@ fn first_line(bytes: &[u8]) -> &[u8] {
     }
 }
 
-/// The number of a column: digits behind blanks, no zero ahead of another digit.
-fn column(text: &[u8]) -> Option<u32> {
-    let blanks = text.iter().take_while(|&&byte| byte == b' ').count();
-    let digits = text.get(blanks..)?;
+/// The number of a column: digits behind spaces, no zero ahead of another digit; 0 if it has spaces alone.
+fn column(text: &[u8]) -> Option<Number> {
+    let spaces = text.iter().take_while(|&&byte| byte == b' ').count();
+    let digits = text.get(spaces..)?;
+    let blank = digits.is_empty();
     let number = match digits {
-        [] | [b'0', _, ..] => return None,
+        [] => "0",
+        [b'0', _, ..] => return None,
         _ => std::str::from_utf8(digits).ok()?,
     };
     // A sign ahead of the digits would be taken by `parse`.
     match number.bytes().all(|byte| byte.is_ascii_digit()) {
-        true => number.parse().ok(),
+        true => Some(Number {
+            value: number.parse().ok()?,
+            blank,
+        }),
         false => None,
     }
 }
 
-/// What is wrong with a column.
+/// What is wrong with a column that has no number and is not blank.
 fn column_fault(text: &[u8], column: usize, columns: usize) -> String {
-    let digit = |byte: &u8| byte.is_ascii_digit();
+    let of_number = |byte: &u8| *byte == b' ' || byte.is_ascii_digit();
     if let Some(end) = text.iter().position(|&byte| byte == b'\n') {
         let there = (column - 1) * COLUMN + end;
         return format!(
@@ -253,14 +291,11 @@ fn column_fault(text: &[u8], column: usize, columns: usize) -> String {
             columns * COLUMN
         );
     }
-    let trimmed = text.trim_ascii();
-    let why = if trimmed.is_empty() && text.iter().all(|&byte| byte == b' ') {
-        "is blank, wanted a number"
-    } else if text.contains(&b'\t') {
+    let why = if text.contains(&b'\t') {
         "has a tab, wanted spaces"
     } else if text.contains(&b'\r') {
         "has a carriage return, wanted a line that ends with byte 10 alone"
-    } else if !trimmed.iter().all(digit) {
+    } else if !text.iter().all(of_number) || text.trim_ascii().contains(&b' ') {
         "is no number right-justified in 5 bytes"
     } else if text.last() == Some(&b' ') {
         "is not right-justified in its 5 bytes"

@@ -37,6 +37,38 @@ fn good() {
         );
 }
 
+/// A sheet whose zeros are left out is good, and is asked and joined as the one that has them.
+#[test]
+fn blank_columns() {
+    let place = Place::with_table_t();
+    place.file("blank.txt", TABLE_T.replace("    0", "     "));
+    place.file("least.txt", "    1          \n          \n");
+    zagvirk(["check", "blank.txt", "least.txt"])
+        .inside(&place)
+        .run()
+        .is(
+            0,
+            "blank.txt: good: 3 states, 2 letters, 6 transitions\n\
+             least.txt: good: 1 state, 0 letters, 0 transitions\n",
+            "",
+        );
+    zagvirk(["words", "blank.txt"])
+        .inside(&place)
+        .input("abab\nabba\n\n")
+        .run()
+        .is(1, "yes\tabab\nno\tabba\nyes\t\n", "");
+    place.file("some two", SOME_TWO.replace("    0", "     "));
+    let joined = zagvirk(["join", "blank.txt", "some two"])
+        .inside(&place)
+        .run();
+    place.file("some two", SOME_TWO);
+    zagvirk(["join", "table.txt", "some two"])
+        .inside(&place)
+        .run()
+        .is(0, &joined.out, "");
+    assert!(joined.out.contains("    0"), "{}", joined.out);
+}
+
 /// All sheets of data/machines are good.
 #[test]
 fn machines() {
@@ -95,8 +127,16 @@ fn refusals() {
             "10: the sheet ends with '    2    2', wanted 15 bytes and byte 10 in this line (refusal 1)",
         ),
         (
-            with_line(3, "    1     "),
-            "3: column 2: '     ' is blank, wanted a number (refusal 2)",
+            with_line(6, "             00"),
+            "6: column 3: '   00' has a zero ahead of the number, wanted spaces (refusal 2)",
+        ),
+        (
+            with_line(6, "    1    \x0c    2"),
+            "6: column 2: '    \\u{c}' is no number right-justified in 5 bytes (refusal 2)",
+        ),
+        (
+            with_line(6, "    1  1 1    2"),
+            "6: column 2: '  1 1' is no number right-justified in 5 bytes (refusal 2)",
         ),
         (
             with_line(6, "    1   00    2"),
@@ -135,6 +175,14 @@ fn refusals() {
             "1: column 1: 65 states, wanted 1 to 64 (refusal 3)",
         ),
         (
+            with_line(1, "    0    2    6"),
+            "1: column 1: 0 states, wanted 1 to 64 (refusal 3)",
+        ),
+        (
+            with_line(1, "         2    6"),
+            "1: column 1: 0 states (a blank column is 0), wanted 1 to 64 (refusal 3)",
+        ),
+        (
             with_line(1, "    3  251    6"),
             "1: column 2: 251 letters, wanted 0 to 250 (refusal 3)",
         ),
@@ -145,6 +193,10 @@ fn refusals() {
         (
             with_line(3, "    2    0"),
             "3: column 1: state 2, wanted 1: states stand in turn from 0 (refusal 4)",
+        ),
+        (
+            with_line(3, "         0"),
+            "3: column 1: state 0 (a blank column is 0), wanted 1: states stand in turn from 0 (refusal 4)",
         ),
         (
             with_line(3, "    1   16"),
@@ -163,6 +215,10 @@ fn refusals() {
             "7: column 2: names letter 3, there are 2 (refusal 5)",
         ),
         (
+            with_line(1, "    3         6"),
+            "7: column 2: names letter 1, there are 0 (a blank column is 0) (refusal 5)",
+        ),
+        (
             with_line(7, "    1    1    3"),
             "7: column 3: names state 3, there are 3, numbered from 0 (refusal 5)",
         ),
@@ -171,8 +227,21 @@ fn refusals() {
             "7: transition 1 0 2 stands twice: remove one (refusal 6)",
         ),
         (
+            with_line(6, "              1"),
+            "6: transition 0 0 1 stands twice (a blank column is 0): remove one (refusal 6)",
+        ),
+        (
+            with_line(7, "         2    2"),
+            "7: transition 0 2 2 stands behind 1 0 2 (a blank column is 0): sort them by from, letter, to (refusal 6)",
+        ),
+        (
             with_line(7, "    0    2    2"),
             "7: transition 0 2 2 stands behind 1 0 2: sort them by from, letter, to (refusal 6)",
+        ),
+        (
+            with_line(1, "    3    2     "),
+            "5: '    0    0    1' stands behind the last line of 3 states and 0 transitions (a blank column is 0): \
+             remove it, or correct line 1 (refusal 7)",
         ),
         (
             format!("{TABLE_T}    2    2    2\n"),

@@ -77,6 +77,52 @@ fn one_byte_damages() {
     assert!(tally.0.iter().all(|&number| number > 0), "each refusal");
 }
 
+/// Where the columns of a sheet begin.
+fn columns(sheet: &[u8]) -> Vec<usize> {
+    let start = |&at: &usize| at == 0 || sheet[at - 1] == b'\n';
+    let lines = (0..sheet.len()).filter(start);
+    let of_line = |at: usize| {
+        let length = sheet[at..]
+            .iter()
+            .take_while(|&&byte| byte != b'\n')
+            .count();
+        (0..length / 5).map(move |column| at + 5 * column)
+    };
+    lines.flat_map(of_line).collect()
+}
+
+/// T's sheet with every one and every two of its columns blank, and random sheets with some of theirs.
+#[test]
+fn blank_columns() {
+    let mut tally = Tally::default();
+    let all = columns(TABLE_T.as_bytes());
+    assert_eq!(all.len(), 27);
+    for (index, one) in all.iter().enumerate() {
+        for two in &all[index..] {
+            let mut bytes = TABLE_T.as_bytes().to_vec();
+            bytes[*one..one + 5].fill(b' ');
+            bytes[*two..two + 5].fill(b' ');
+            tally.add(&bytes);
+        }
+    }
+    let mut rng = Rng::new(20_260_022);
+    for _ in 0..20_000 {
+        let mut bytes = random_sheet(&mut rng, 6, 4).into_bytes();
+        let all = columns(&bytes);
+        for _ in 0..1 + rng.below(3) {
+            let at = rng.pick(&all);
+            bytes[at..at + 5].fill(b' ');
+        }
+        tally.add(&bytes);
+    }
+    tally.print("blank columns");
+    // No count grows, so no line is cut short, and a blank column is a number.
+    assert_eq!((tally.0[1], tally.0[2]), (0, 0));
+    assert!([0, 3, 4, 5, 6, 7]
+        .iter()
+        .all(|&number| tally.0[number] > 20));
+}
+
 /// The refused sheets of data/listing.
 #[test]
 fn listing_cases() {
@@ -124,7 +170,7 @@ fn damage(rng: &mut Rng, bytes: &mut Vec<u8>) {
         _ if at < bytes.len() => {
             let column = at - at % 5;
             let number = rng.pick(&[
-                "    0", "    1", "    9", "   12", "   65", "  256", "99999",
+                "    0", "    1", "    9", "   12", "   65", "  256", "99999", "     ",
             ]);
             match rng.below(3) {
                 0 => bytes[at] = rng.pick(b" 0123456789\n"),

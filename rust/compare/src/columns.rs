@@ -1,5 +1,6 @@
-//! The number in a column, as the proved library reads it. No call of the header takes a column by itself; the archive has
-//! this one for the comparison.
+//! The number in a column, as the proved library reads it ([`column`]). No call of the header takes a column by itself; the
+//! archive has this one for the comparison. And the columns of a sheet, for tests that leave numbers out: [`starts`],
+//! [`zeros`], [`blank`].
 
 use crate::kept::Kept;
 
@@ -20,4 +21,30 @@ pub fn column(bytes: &[u8]) -> Option<usize> {
     let number = unsafe { zagvirk_column(bytes.as_ptr(), bytes.len()) };
     kept.same("column", bytes);
     (number != NO_NUMBER).then_some(number)
+}
+
+/// Where the columns of five bytes begin in a sheet or in a line of a word: at each line's start and five bytes on, as long
+/// as the line has five bytes.
+pub fn starts(sheet: &[u8]) -> Vec<usize> {
+    let mut starts = Vec::new();
+    let mut at = 0;
+    for line in sheet.split(|&byte| byte == b'\n') {
+        starts.extend((0..line.len() / 5).map(|column| at + 5 * column));
+        at += line.len() + 1;
+    }
+    starts
+}
+
+/// Where the columns begin that hold 0 as it is written.
+pub fn zeros(sheet: &[u8]) -> Vec<usize> {
+    let mut zeros = starts(sheet);
+    zeros.retain(|&at| &sheet[at..at + 5] == b"    0");
+    zeros
+}
+
+/// Makes the columns that begin there five spaces.
+pub fn blank(sheet: &mut [u8], columns: &[usize]) {
+    for &at in columns {
+        sheet[at..at + 5].fill(b' ');
+    }
 }

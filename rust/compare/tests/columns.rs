@@ -4,8 +4,8 @@
 use compare::columns::{column, WIDEST};
 use compare::Rng;
 
-/// What a column of spaces alone holds.
-const BLANK: Option<usize> = None;
+/// What a column of spaces alone holds, also one of no bytes.
+const BLANK: Option<usize> = Some(0);
 
 /// Compares the number in the column. Returns whether there is one.
 fn reads(bytes: &[u8]) -> bool {
@@ -33,12 +33,14 @@ fn all_over(telling: &[u8], width: usize) -> (usize, usize) {
 fn all_of_telling_bytes() {
     let (columns, numbers) = all_over(b" 019\n/:a", 5);
     assert_eq!(columns, 32_768);
-    // 0; one to five digits, the first 1 or 9, the others 0, 1 or 9; spaces alone.
-    let blanks = usize::from(BLANK.is_some());
-    assert_eq!(numbers, 1 + 2 * (1 + 3 + 9 + 27 + 81) + blanks);
+    // Spaces alone; 0; one to five digits, the first 1 or 9, the others 0, 1 or 9.
+    assert_eq!(numbers, 1 + 1 + 2 * (1 + 3 + 9 + 27 + 81));
     println!("{columns} columns of five bytes of ' ', 0, 1, 9, line end, /, : and a, {numbers} of them numbers");
     for width in 0..=WIDEST {
         let (columns, numbers) = all_over(b" 01", width);
+        // Spaces alone; 0 if there is a byte for it; 1, and 0 and 1 behind it.
+        let digits = (1 << width) - 1;
+        assert_eq!(numbers, 1 + usize::from(width > 0) + digits);
         println!("{columns} columns of {width} bytes of ' ', 0 and 1, {numbers} of them numbers");
     }
 }
@@ -53,6 +55,9 @@ fn random(rng: &mut Rng, width: usize) -> Vec<u8> {
     };
     if rng.once_in(3) {
         return (0..width).map(|_| any(rng)).collect();
+    }
+    if rng.once_in(20) {
+        return vec![b' '; width];
     }
     let digits = 1 + rng.below(width);
     let number = rng.bits() % 10u64.pow(digits as u32);
@@ -94,7 +99,9 @@ fn every_number() {
     // No byte, spaces alone, and a byte too many.
     for width in 0..=WIDEST {
         assert_eq!(column(&vec![b' '; width]), BLANK);
+        assert_eq!(reference::sheet::column(&vec![b' '; width]), BLANK);
     }
+    assert_eq!(column(&[b' '; WIDEST + 1]), None);
     assert_eq!(column(b"          1"), None);
     assert_eq!(column(b"10000000000"), None);
 }
@@ -110,6 +117,15 @@ fn every_byte_in_every_place() {
                     bytes[place] = byte;
                     reads(&bytes);
                 }
+            }
+        }
+        // A blank column with one byte that is no space: a number only by its last byte, a digit.
+        for place in 0..width {
+            for byte in (0..=255).filter(|&byte| byte != b' ') {
+                let mut bytes = vec![b' '; width];
+                bytes[place] = byte;
+                let digit = place + 1 == width && byte.is_ascii_digit();
+                assert_eq!(reads(&bytes), digit, "{bytes:?}");
             }
         }
     }

@@ -2,6 +2,7 @@
 //! is the one that ZAGVIRK_LISTING names, or else target/bin/listing of the repository; without it the tests only
 //! compare the reference with the expected output.
 
+use compare::columns::{blank, starts, zeros};
 use compare::{random_machine, Rng};
 use reference::listing::{listing, HEADER};
 use reference::{folder, sheet, Machine};
@@ -193,6 +194,8 @@ fn random_input(rng: &mut Rng, letters: usize) -> Vec<u8> {
                         0 => format!("{number:05}"),
                         1 => format!("{number:<5}"),
                         2 => format!("{number:4}"),
+                        3 => " ".repeat(5),
+                        4 => " ".repeat(4),
                         _ => format!("{number:5}"),
                     };
                     input.extend(column.bytes());
@@ -217,11 +220,27 @@ fn random_inputs() {
     };
     let mut rng = Rng::new(20_240_016);
     let runs = 600;
-    let (mut refused, mut lines) = (0, 0);
+    let (mut refused, mut lines, mut blanks) = (0, 0, 0);
     for number in 0..runs {
         let machine = random_machine(&mut rng, 4, 3);
         let mut table = sheet_of(&machine);
         let mut input = random_input(&mut rng, machine.letters);
+        if number % 2 == 0 {
+            // Mostly zeros alone are left out.
+            let mut left_out = match rng.once_in(8) {
+                true => starts(&table),
+                false => zeros(&table),
+            };
+            left_out.retain(|_| rng.once_in(2));
+            blank(&mut table, &left_out);
+            blanks += left_out.len();
+        }
+        if number % 3 == 0 {
+            let mut left_out = starts(&input);
+            left_out.retain(|_| rng.once_in(30));
+            blank(&mut input, &left_out);
+            blanks += left_out.len();
+        }
         if number % 4 == 0 {
             let at = rng.below(table.len());
             match rng.below(5) {
@@ -251,7 +270,10 @@ fn random_inputs() {
         );
         same(&name, &output, &expected);
     }
-    println!("listing, random and damaged: {runs} inputs, {refused} sheets refused, {lines} lines of words");
+    println!(
+        "listing, random and damaged: {runs} inputs, {refused} sheets refused, {lines} lines of words, {blanks} columns \
+         left out"
+    );
 }
 
 fn table_t() -> Vec<u8> {
@@ -328,7 +350,8 @@ fn limits() {
         let mut input = Vec::new();
         while input.len() < 300_000 {
             let length = rng.pick(&[0, 1, 5, 10, 20, 801, 1270, 1274, 1275, 1276, 4096]);
-            input.extend(b"    1".repeat(length / 5));
+            let column = rng.pick(&[b"    1", b"    1", b"    1", b"     "]);
+            input.extend(column.repeat(length / 5));
             input.extend(vec![b' '; length % 5]);
             input.push(b'\n');
         }

@@ -1,6 +1,7 @@
 //! Reading and writing of sheets: the whole result and the whole slice of each call are compared with the reference.
 
 use compare::calls::{read, read_record, write, write_record};
+use compare::columns::{blank, starts, zeros};
 use compare::{
     break_a_rule, filled, filled_bytes, random_machine, record_of, tally, Rng, NO_MACHINE,
 };
@@ -14,6 +15,14 @@ struct Counts([u64; 21]);
 impl Counts {
     fn add(&mut self, refusal: u8) {
         self.0[usize::from(refusal)] += 1;
+    }
+
+    /// Compares reading of the bytes into a list of the length, and asserts the refusal, 0 for none.
+    fn gives(&mut self, sheet: &[u8], length: usize, refusal: u8) {
+        let found = reads(sheet, length);
+        let text = String::from_utf8_lossy(&sheet[..sheet.len().min(2000)]);
+        assert_eq!(found, refusal, "list of {length} elements\n{text}");
+        self.add(refusal);
     }
 
     fn report(&self, name: &str) {
@@ -77,6 +86,27 @@ fn writes(record: &Record, list: &[u16], length: usize) -> u8 {
     expected.refusal
 }
 
+/// Asserts that the proved calls read the good sheet into a list of the length as the machine of `same`, a sheet without
+/// blanks, and write it as that sheet: the same bytes but for the blanks, which are filled.
+fn fills(sheet: &[u8], same: &[u8], length: usize) {
+    let text = String::from_utf8_lossy(&sheet[..sheet.len().min(2000)]);
+    assert!(reference::sheet::filled(sheet) == same, "filled\n{text}");
+    assert!(
+        reference::sheet::filled(same) == same,
+        "filled twice\n{text}"
+    );
+    let (mut list, mut same_list) = (filled(length), filled(length));
+    let machine = read(sheet, &mut list).expect("a good sheet");
+    assert_eq!(read(same, &mut same_list), Ok(machine), "{text}");
+    assert!(list == same_list, "the lists differ\n{text}");
+    let mut written = filled_bytes(sheet.len() + 3);
+    let mut expected = written.clone();
+    expected[..same.len()].copy_from_slice(same);
+    let bytes = write(&machine, &list, &mut written);
+    assert_eq!(bytes, Ok(same.len()), "{text}");
+    assert!(written == expected, "read and written\n{text}");
+}
+
 /// The bytes of the machine's sheet.
 fn sheet_of(machine: &Machine) -> Vec<u8> {
     let (record, list) = machine.record();
@@ -131,7 +161,11 @@ fn columns_of_few_bytes() {
             for place in 0..5 {
                 sheet[at + place] = bytes[number / bytes.len().pow(place as u32) % bytes.len()];
             }
-            counts.add(reads(&sheet, 19));
+            let refusal = reads(&sheet, 19);
+            if refusal == 0 {
+                fills(&sheet, &reference::sheet::filled(&sheet), 19);
+            }
+            counts.add(refusal);
         }
     }
     counts.report("read, columns of the bytes ' ', 0, 1, 2, a, -, line end");
@@ -213,9 +247,10 @@ fn damage(rng: &mut Rng, sheet: &mut Vec<u8>) {
                 1 => rng.below(70),
                 _ => rng.pick(&[0, 1, 2, 3, 12, 15, 16, 63, 64, 65, 250, 251, 256, 65_536]),
             };
-            let column = match rng.below(8) {
+            let column = match rng.below(9) {
                 0 => format!("{value:05}"),
                 1 => format!("{value:<5}"),
+                2 => " ".repeat(5),
                 _ => format!("{value:5}"),
             };
             if at + 5 <= sheet.len() {
@@ -261,6 +296,9 @@ fn random_sheets() {
         };
         let refusal = reads(&sheet, length);
         counts.add(refusal);
+        if refusal == 0 {
+            fills(&sheet, &reference::sheet::filled(&sheet), length);
+        }
         let typed = read(&sheet, &mut filled(length));
         assert_eq!(typed.err().map_or(0, |refused| refused.number()), refusal);
     }
@@ -323,16 +361,8 @@ fn two_faults() {
 
 #[test]
 fn fixed_examples() {
-    let mut cases = 0;
-    let mut gives = |sheet: &[u8], refusal: u8| {
-        assert_eq!(
-            reads(sheet, 12_003),
-            refusal,
-            "{}",
-            String::from_utf8_lossy(sheet)
-        );
-        cases += 1;
-    };
+    let mut counts = Counts::default();
+    let mut gives = |sheet: &[u8], refusal: u8| counts.gives(sheet, 12_003, refusal);
     gives(b"", 1);
     gives(b"    1    0    0", 1);
     gives(b"    1    0    0\n", 1);
@@ -345,7 +375,7 @@ fn fixed_examples() {
     gives(b"    0    0    0\n", 3);
     gives(b"65537    0    0\n    0    0\n", 3);
     gives(b"  001    0    0\n    0    0\n", 2);
-    gives(b"         0    0\n    0    0\n", 2);
+    gives(b"         0    0\n    0    0\n", 3);
     gives(b"    1    0    0\n    0   12\n", 4);
     gives(b"    1    0    0\n    0   16\n", 4);
     gives(b"    1    0    0\n    0  256\n", 4);
@@ -361,7 +391,176 @@ fn fixed_examples() {
     gives(&[&two[..], b"    0    0    1\n"].concat(), 5);
     gives(&[&two[..], b"    0    0    0"].concat(), 1);
     gives(&[&two[..], b"    0    0    0 "].concat(), 2);
-    println!("read, examples with the refusal said here: {cases} cases");
+    counts.report("read, examples with the refusal said here");
+}
+
+/// Blank columns, with what follows said here: the refusal, or for a good sheet the one that it comes back as.
+#[test]
+fn blank_examples() {
+    let mut counts = Counts::default();
+    let mut good = 0;
+    let t = String::from_utf8(table_t()).expect("a text");
+    let with = |old: &str, new: &str| {
+        assert!(t.contains(old), "{old:?}");
+        t.replacen(old, new, 1)
+    };
+    let mut is_t = |sheet: &str| {
+        counts.gives(sheet.as_bytes(), 20, 0);
+        fills(sheet.as_bytes(), t.as_bytes(), 20);
+        good += 1;
+    };
+    // A blank mark is 0, a blank letter reads nothing, a blank from is state 0, as is the number of state 0; all of these.
+    is_t(&with("\n    1    0\n", "\n    1     \n"));
+    is_t(&with("    1    0    2\n", "    1         2\n"));
+    is_t(&with("    0    0    1\n", "         0    1\n"));
+    is_t(&with("    0    0    1\n", "              1\n"));
+    is_t(&with("\n    0    5\n", "\n         5\n"));
+    is_t(&t.replace("    0", "     "));
+    let mut is = |sheet: &[u8], same: &[u8]| {
+        counts.gives(sheet, 20, 0);
+        fills(sheet, same, 20);
+        good += 1;
+    };
+    // A blank to is state 0; no letters, no transitions, no marks.
+    let two = b"    2    1    1\n    0    1\n    1    2\n    1    1    0\n";
+    is(
+        b"    2    1    1\n    0    1\n    1    2\n    1    1     \n",
+        two,
+    );
+    let least = b"    1    0    0\n    0    0\n";
+    is(b"    1         0\n    0    0\n", least);
+    is(b"    1    0     \n    0    0\n", least);
+    is(b"    1          \n          \n", least);
+    let loops = b"    1    0    1\n    0    3\n    0    0    0\n";
+    is(b"    1         1\n         3\n               \n", loops);
+    // What a blank column makes of the rest of a sheet.
+    let mut gives = |sheet: &str, refusal: u8| counts.gives(sheet.as_bytes(), 20, refusal);
+    gives(&with("    3    2    6", "         2    6"), 3);
+    gives(&" ".repeat(145), 2);
+    gives("               \n", 3);
+    gives(&with("    3    2    6", "    3         6"), 5);
+    gives(&with("    3    2    6", "    3    2     "), 7);
+    gives(&with("\n    1    0\n", "\n         0\n"), 4);
+    gives(&with("\n    2   10\n", "\n        10\n"), 4);
+    // Lines that differ by a blank alone are equal; one that falls by a blank.
+    gives(&with("    1    0    2", "    0         1"), 6);
+    gives(&with("    1    0    2", "         0    1"), 6);
+    gives(&with("    1    0    2", "              1"), 6);
+    gives(&with("    1    2    1", "    1         1"), 6);
+    gives(&with("    2    1    2", "         1    2"), 6);
+    // One that rises still: 2 2 0 behind 2 1 2.
+    gives(&with("    2    2    2", "    2    2     "), 0);
+    // In one line 1 comes before 2, and 2 before what a blank is.
+    gives("              ", 1);
+    gives("                ", 2);
+    gives(&with("    3    2    6", "         x    6"), 2);
+    gives(&with("    3    2    6\n", "         2    6 "), 2);
+    gives(&with("\n    1    0\n", "\n         x\n"), 2);
+    // Part of a column is blank.
+    gives(&with("    3    2    6", "    3   2     6"), 2);
+    gives(&with("\n    1    0\n", "\n    1   0 \n"), 2);
+    gives(&with("\n    1    0\n", "\n    1    \t\n"), 2);
+    gives(&with("\n    1    0\n", "\n    1    \n"), 2);
+    // After a blank last column 7, then 15.
+    gives(&(with("    2    2    2", "    2    2     ") + "     "), 7);
+    counts.gives(with("    0", "     ").as_bytes(), 17, 15);
+    counts.report("read, blank columns with what follows said here");
+    println!("read and written, blanks filled: {good} examples");
+}
+
+/// Blanks all the columns. Compares reading into a list of the length. A good sheet comes back filled, and is that sheet
+/// if `same` has it.
+fn blanked(sheet: &[u8], columns: &[usize], length: usize, same: Option<&[u8]>) -> u8 {
+    let mut sheet = sheet.to_vec();
+    blank(&mut sheet, columns);
+    let refusal = reads(&sheet, length);
+    if let Some(same) = same {
+        assert_eq!(refusal, 0, "{}", String::from_utf8_lossy(&sheet));
+        fills(&sheet, same, length);
+    } else if refusal == 0 {
+        fills(&sheet, &reference::sheet::filled(&sheet), length);
+    }
+    refusal
+}
+
+/// Random good sheets in which columns are left out: first such that hold 0, then any.
+#[test]
+fn blanked_columns() {
+    let mut rng = Rng::new(20_240_081);
+    let mut counts = Counts::default();
+    let (sheets, mut zeros_left_out) = (200_000, 0);
+    for _ in 0..sheets {
+        let machine = random_machine(&mut rng, 5, 4);
+        let needed = 3 * machine.transitions.len();
+        let good = sheet_of(&machine);
+        let mut left_out = zeros(&good);
+        match rng.below(4) {
+            0 => {}
+            1 => left_out.retain(|_| rng.once_in(5)),
+            _ => left_out.retain(|_| rng.once_in(2)),
+        }
+        zeros_left_out += left_out.len();
+        blanked(&good, &left_out, needed + 2, Some(&good));
+        let all = starts(&good);
+        for _ in 0..rng.pick(&[1, 1, 2, 3]) {
+            left_out.push(rng.pick(&all));
+        }
+        counts.add(blanked(&good, &left_out, needed + 2, None));
+        left_out.clear();
+        left_out.push(rng.pick(&all));
+        counts.add(blanked(&good, &left_out, needed + 2, None));
+    }
+    println!("read and written, zeros left out: {sheets} sheets, {zeros_left_out} blank columns");
+    counts.report("read, any columns left out of random sheets");
+    for number in [0, 3, 4, 5, 6, 7] {
+        assert!(counts.0[number] > 1000, "refusal {number} is rare");
+    }
+    // No count grows, so no line is cut short, and a blank column is a number.
+    assert_eq!((counts.0[1], counts.0[2]), (0, 0));
+}
+
+/// Every set of zeros of table T left out; every one and every two columns of each machine of data/machines; the zeros of
+/// the largest machine, and each of its last columns.
+#[test]
+fn blanked_columns_of_machines() {
+    let t = table_t();
+    let of_t = zeros(&t);
+    assert_eq!(of_t, [16, 32, 49, 54, 70]);
+    for set in 0..1 << of_t.len() {
+        let mut left_out = of_t.clone();
+        left_out.retain(|at| set >> of_t.iter().position(|other| other == at).unwrap() & 1 == 1);
+        assert_eq!(blanked(&t, &left_out, 18, Some(&t)), 0);
+    }
+    println!("read and written, every set of zeros of table T left out: 32 cases");
+    let mut counts = Counts::default();
+    for folder in folder::all() {
+        let sheet = sheet_of(&folder.machine);
+        let length = 3 * folder.machine.transitions.len();
+        assert_eq!(blanked(&sheet, &zeros(&sheet), length, Some(&sheet)), 0);
+        let all = starts(&sheet);
+        for (index, &one) in all.iter().enumerate() {
+            for &two in &all[index..] {
+                counts.add(blanked(&sheet, &[one, two], length, None));
+            }
+        }
+    }
+    counts.report("read, every one and every two columns of data/machines left out");
+    let (marks, transitions) = largest();
+    let largest = text([64, 250, 4000], &marks, &transitions);
+    let all = zeros(&largest);
+    assert_eq!(blanked(&largest, &all, 12_003, Some(&largest)), 0);
+    for &at in &all {
+        assert_eq!(blanked(&largest, &[at], 12_003, Some(&largest)), 0);
+    }
+    let mut counts = Counts::default();
+    for &at in starts(&largest).iter().rev().take(60) {
+        counts.add(blanked(&largest, &[at], 12_003, None));
+    }
+    counts.report("read, the last columns of the largest machine left out");
+    println!(
+        "read and written, zeros of the largest machine left out: {}, and all",
+        all.len()
+    );
 }
 
 /// The largest machine: 64 states, 250 letters, 4,000 transitions, all rising.
@@ -385,46 +584,42 @@ fn largest() -> (Vec<usize>, Vec<[usize; 3]>) {
 #[test]
 fn limits() {
     let mut counts = Counts::default();
-    let mut gives = |sheet: &[u8], length: usize, refusal: u8| {
-        assert_eq!(reads(sheet, length), refusal);
-        counts.add(refusal);
-    };
     let (marks, transitions) = largest();
     let good = text([64, 250, 4000], &marks, &transitions);
     assert_eq!(good.len(), 64_720);
     for length in [12_000, 12_001, 12_002, 12_003, 20_000] {
-        gives(&good, length, 0);
+        counts.gives(&good, length, 0);
     }
     for length in (0..12_000).step_by(97).chain(11_990..12_000) {
-        gives(&good, length, 15);
+        counts.gives(&good, length, 15);
     }
     for length in (0..64_720).step_by(701).chain(64_700..64_720) {
-        gives(&good[..length], 12_000, 1);
+        counts.gives(&good[..length], 12_000, 1);
     }
     for more in [&b"\n"[..], b"0", b"   63  250   63\n", &[0; 100_000]] {
-        gives(&[&good[..], more].concat(), 12_000, 7);
-        gives(&[&good[..], more].concat(), 5, 7);
+        counts.gives(&[&good[..], more].concat(), 12_000, 7);
+        counts.gives(&[&good[..], more].concat(), 5, 7);
     }
     // One past each limit, with all lines there.
     let mut more_marks = marks.clone();
     more_marks.push(0);
-    gives(&text([65, 250, 4000], &more_marks, &transitions), 12_003, 3);
-    gives(&text([64, 251, 4000], &marks, &transitions), 12_003, 3);
+    counts.gives(&text([65, 250, 4000], &more_marks, &transitions), 12_003, 3);
+    counts.gives(&text([64, 251, 4000], &marks, &transitions), 12_003, 3);
     let mut more = transitions.clone();
     more.insert(0, [0, 0, 0]);
-    gives(&text([64, 250, 4001], &marks, &more), 12_003, 3);
-    gives(&text([64, 250, 4000], &marks, &more), 12_003, 7);
+    counts.gives(&text([64, 250, 4001], &marks, &more), 12_003, 3);
+    counts.gives(&text([64, 250, 4000], &marks, &more), 12_003, 7);
     // The least counts.
-    gives(&text([1, 0, 0], &[0], &[]), 0, 0);
-    gives(&text([1, 0, 0], &[0], &[]), 1, 0);
-    gives(&text([0, 0, 0], &[], &[]), 1, 3);
-    gives(&text([1, 0, 1], &[0], &[[0, 0, 0]]), 3, 0);
-    gives(&text([1, 0, 1], &[0], &[[0, 1, 0]]), 3, 5);
-    gives(&text([64, 0, 0], &[0; 64], &[]), 0, 0);
-    gives(&text([65, 0, 0], &[0; 65], &[]), 0, 3);
-    gives(&text([1, 250, 1], &[0], &[[0, 250, 0]]), 3, 0);
-    gives(&text([1, 250, 1], &[0], &[[0, 251, 0]]), 3, 5);
-    gives(&text([1, 251, 1], &[0], &[[0, 250, 0]]), 3, 3);
+    counts.gives(&text([1, 0, 0], &[0], &[]), 0, 0);
+    counts.gives(&text([1, 0, 0], &[0], &[]), 1, 0);
+    counts.gives(&text([0, 0, 0], &[], &[]), 1, 3);
+    counts.gives(&text([1, 0, 1], &[0], &[[0, 0, 0]]), 3, 0);
+    counts.gives(&text([1, 0, 1], &[0], &[[0, 1, 0]]), 3, 5);
+    counts.gives(&text([64, 0, 0], &[0; 64], &[]), 0, 0);
+    counts.gives(&text([65, 0, 0], &[0; 65], &[]), 0, 3);
+    counts.gives(&text([1, 250, 1], &[0], &[[0, 250, 0]]), 3, 0);
+    counts.gives(&text([1, 250, 1], &[0], &[[0, 251, 0]]), 3, 5);
+    counts.gives(&text([1, 251, 1], &[0], &[[0, 250, 0]]), 3, 3);
     // A fault in the last two lines of the largest sheet.
     for (changed, refusal) in [
         ([63, 250, 64], 5),
@@ -436,12 +631,12 @@ fn limits() {
     ] {
         let mut other = transitions.clone();
         other[3999] = changed;
-        gives(&text([64, 250, 4000], &marks, &other), 12_000, refusal);
+        counts.gives(&text([64, 250, 4000], &marks, &other), 12_000, refusal);
     }
     // Every mark.
     for mark in 0..300 {
         let refusal = if mark < 16 && mark & 12 != 12 { 0 } else { 4 };
-        gives(&text([1, 0, 0], &[mark], &[]), 0, refusal);
+        counts.gives(&text([1, 0, 0], &[mark], &[]), 0, refusal);
     }
     counts.report("read, limits and one past them");
 }
@@ -450,21 +645,17 @@ fn limits() {
 #[test]
 fn around_the_smaller_array() {
     let mut counts = Counts::default();
-    let mut gives = |sheet: &[u8], length: usize, refusal: u8| {
-        assert_eq!(reads(sheet, length), refusal);
-        counts.add(refusal);
-    };
     let (marks, all) = largest();
     for number in [62, 63, 64, 65, 66] {
         let transitions = &all[..number];
         let needed = 3 * number;
         let good = text([64, 250, number], &marks, transitions);
         for length in 0..needed + 4 {
-            gives(&good, length, if length < needed { 15 } else { 0 });
+            counts.gives(&good, length, if length < needed { 15 } else { 0 });
         }
-        gives(&good[..good.len() - 1], needed, 1);
+        counts.gives(&good[..good.len() - 1], needed, 1);
         for length in [0, needed, needed + 5] {
-            gives(&[&good[..], b"\n"].concat(), length, 7);
+            counts.gives(&[&good[..], b"\n"].concat(), length, 7);
         }
         for (changed, refusal) in [
             ([64, 250, 0], 5),
@@ -473,10 +664,10 @@ fn around_the_smaller_array() {
         ] {
             let mut other = transitions.to_vec();
             other[number - 1] = changed;
-            gives(&text([64, 250, number], &marks, &other), needed, refusal);
+            counts.gives(&text([64, 250, number], &marks, &other), needed, refusal);
         }
         let more = text([64, 250, number], &marks, &all[..number + 1]);
-        gives(&more, needed + 3, 7);
+        counts.gives(&more, needed + 3, 7);
     }
     counts.report("read, 62 to 66 transitions");
 }

@@ -1,13 +1,16 @@
-//! Sheets: the reader and the writer.
+//! Sheets: the reader and the writer, and how blanks are filled.
 
 use crate::{Record, Refusal, BUFFERING, MATCHING};
 
-/// The number in a column of any width, right-justified, padded on the left with spaces, without leading zeros;
-/// nothing if the column is not so.
+/// The number in a column of any width, right-justified, padded on the left with spaces, without leading zeros; 0 if the
+/// column is blank, that is spaces alone or no byte at all; nothing if the column is not so.
 pub fn column(bytes: &[u8]) -> Option<usize> {
     let text = std::str::from_utf8(bytes).ok()?;
     let digits = text.trim_start_matches(' ');
-    if digits.is_empty() || !digits.bytes().all(|byte| byte.is_ascii_digit()) {
+    if digits.is_empty() {
+        return Some(0);
+    }
+    if !digits.bytes().all(|byte| byte.is_ascii_digit()) {
         return None;
     }
     if digits.len() > 1 && digits.starts_with('0') {
@@ -86,6 +89,26 @@ pub fn read(sheet: &[u8], list: &mut [u16]) -> Result<Record, Refusal> {
         transitions,
         marks,
     })
+}
+
+/// The sheet with its blanks filled: five spaces become the column of 0. Byte 10 where a column would begin is a line end
+/// and stays; every other byte there begins a column. Fewer than five bytes at the end stay.
+pub fn filled(sheet: &[u8]) -> Vec<u8> {
+    let mut bytes = Vec::with_capacity(sheet.len());
+    let mut rest = sheet;
+    while let Some(&first) = rest.first() {
+        let length = match first {
+            b'\n' => 1,
+            _ => rest.len().min(5),
+        };
+        let (front, behind) = rest.split_at(length);
+        bytes.extend_from_slice(match front {
+            b"     " => b"    0",
+            _ => front,
+        });
+        rest = behind;
+    }
+    bytes
 }
 
 /// Writes the sheet of a machine to the front of `sheet` and returns its length. Refusals 16, 19; then `sheet` is

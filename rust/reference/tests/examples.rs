@@ -249,7 +249,7 @@ fn refusals_of_sheets() {
     refused(read("???"), 1, 0);
     refused(read(&"x".repeat(16)), 2, 0);
     refused(change("    3    2    6", "  007    2    6"), 2, 0);
-    refused(change("    3    2    6", "         2    6"), 2, 0);
+    refused(change("    3    2    6", "         2    6"), 3, 0);
     refused(change("    3    2    6", "    3    2   6 "), 2, 0);
     refused(change("    3    2    6", "   +3    2    6"), 2, 0);
     refused(change("    3    2    6", "    3    2  6 6"), 2, 0);
@@ -293,6 +293,46 @@ fn refusals_of_sheets() {
     assert_eq!(many(1), Ok(1));
     refused(many(65), 3, 0);
     refused(many(0), 3, 0);
+}
+
+/// A blank column is 0 wherever a column is read.
+#[test]
+fn blank_columns() {
+    for width in 0..=20 {
+        assert_eq!(sheet::column(&vec![b' '; width]), Some(0));
+    }
+    let (record, list) = table_t().record();
+    let is_t = |text: &str| {
+        let mut read_list = vec![9; 20];
+        assert_eq!(
+            sheet::read(text.as_bytes(), &mut read_list),
+            Ok(record.clone())
+        );
+        assert_eq!(read_list[..18], list);
+        assert_eq!(sheet::filled(text.as_bytes()), SHEET.as_bytes());
+    };
+    is_t(SHEET);
+    is_t(&SHEET.replace("    0", "     "));
+    is_t(&SHEET.replace("    1    0    2\n", "    1         2\n"));
+    is_t(&SHEET.replace("    0    5\n", "         5\n"));
+    is_t(&SHEET.replace("    1    0\n", "    1     \n"));
+    let change = |from: &str, to: &str| read(&SHEET.replacen(from, to, 1)).map(|_| ());
+    refused(change("    3    2    6", "    3         6"), 5, 0);
+    refused(change("    3    2    6", "    3    2     "), 7, 0);
+    refused(change("    1    0\n", "         0\n"), 4, 0);
+    refused(change("    1    0    2\n", "    0         1\n"), 6, 0);
+    assert_eq!(change("    2    2    2\n", "    2    2     \n"), Ok(()));
+    // Five spaces are filled where a column stands, and nowhere else.
+    let filled = |text: &str| String::from_utf8(sheet::filled(text.as_bytes())).unwrap();
+    assert_eq!(filled(""), "");
+    assert_eq!(filled("    "), "    ");
+    assert_eq!(filled("     "), "    0");
+    assert_eq!(filled("         "), "    0    ");
+    assert_eq!(filled("\n     \n\n     "), "\n    0\n\n    0");
+    assert_eq!(filled("    1     \n"), "    1    0\n");
+    assert_eq!(filled("x         y"), "x        0y");
+    assert_eq!(filled("  x     y  "), "  x     y  ");
+    assert_eq!(filled("    \n     \n"), "    \n    0\n");
 }
 
 #[test]
@@ -530,7 +570,13 @@ fn listings() {
     assert_eq!(one("    \0"), "    1    2    2\n");
     assert_eq!(one("  257"), "    1    2    8\n");
     assert_eq!(one("    0"), "    1    2    8\n");
-    assert_eq!(one("     "), "    1    2    2\n");
+    assert_eq!(one("     "), "    1    2    8\n");
+    assert_eq!(one("    1     "), "    1    2    8\n");
+    assert_eq!(one("         x"), "    1    2    2\n");
+    assert_eq!(one("    "), "    1    2    2\n");
+    assert_eq!(one("      "), "    1    2    2\n");
+    assert_eq!(one(&" ".repeat(1_275)), "    1    2    8\n");
+    assert_eq!(one(&" ".repeat(1_276)), "    1    2    9\n");
     assert_eq!(listing(None, b"\n"), b"SHEET REFUSED    1\n");
     assert_eq!(listing(Some(b""), b"\n"), b"SHEET REFUSED    1\n");
     assert_eq!(listing(Some(&[b'x'; 16]), b"\n"), b"SHEET REFUSED    2\n");

@@ -7,7 +7,7 @@
 pub enum Refusal {
     /// 1: fewer bytes are left than the next line of the sheet takes.
     LineCutShort,
-    /// 2: a column or a line end of the sheet is not as described.
+    /// 2: a column or a line end of the sheet is not as described. A blank column is 0.
     ColumnBroken,
     /// 3: a count of the sheet is outside its range.
     CountOutOfRange,

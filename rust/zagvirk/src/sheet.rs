@@ -1,4 +1,5 @@
-//! Sheets: a machine as lines of decimal numbers in columns of five bytes.
+//! Sheets: a machine as lines of decimal numbers in columns of five bytes. A column of five spaces is 0; a sheet read and
+//! written comes back with its blanks filled.
 
 use crate::{Machine, Refusal, Table};
 
@@ -80,6 +81,11 @@ pub fn write_record(table: Table, sheet: &mut [u8]) -> WrittenRecord {
 /// let mut written = [0; 60];
 /// assert_eq!(sheet::write(Table::new(&machine, &list), &mut written), Ok(54));
 /// assert_eq!(&written[..54], text);
+///
+/// // The same with its zeros left out.
+/// let blank = b"    2    1    1\n         1\n    1    2\n         1    1\n";
+/// assert_eq!(sheet::read(blank, &mut list), Ok(machine));
+/// assert_eq!(list, [0, 1, 1, 7, 7]);
 /// ```
 pub fn read(sheet: &[u8], list: &mut [u16]) -> Result<Machine, Refusal> {
     let read = read_record(sheet, list);
@@ -92,7 +98,7 @@ pub fn read(sheet: &[u8], list: &mut [u16]) -> Result<Machine, Refusal> {
 ///
 /// Refuses, in this order: [`Refusal::MachineBroken`], [`Refusal::SheetTooShort`].
 ///
-/// A sheet has 16 + 11 x states + 16 x transitions bytes, 64,720 at most.
+/// A sheet has 16 + 11 x states + 16 x transitions bytes, 64,720 at most. A 0 is written as 0, so that no column is blank.
 ///
 /// Time: in proportion to the sheet's bytes. Memory: constant.
 pub fn write(table: Table, sheet: &mut [u8]) -> Result<usize, Refusal> {

@@ -2,25 +2,37 @@
 --
 -- column-length    == a column of width w has w bytes
 -- number-of-column == a number that fits the width, written and read, is itself
--- column-of-number == a column that holds a number is the column of that number
+-- column-of-number == the column of the number that a column holds is that column, filled where it is blank
+-- column-holds     == a column of at most widestColumn bytes holds n, exactly if it is the column of n, or it is blank and n is 0
+-- column-none      == it holds no number, exactly if it is neither the column of one nor blank
+-- blank-column     == a column of spaces alone holds 0, whatever its width
+-- filled-same, filled-blank == a column that is not blank is filled already; one that is blank is filled to the column of 0
+-- filled-length    == a column that is filled keeps its width
+-- filled-number    == and its number
+-- line-end-none    == a column that holds a number does not begin with byte 10
+-- blank-iff-spaces == a blank column is a column of spaces
+-- column-not-blank == the column of a number is not blank
 -- passFrom-append  == a pass over two parts is a pass over the second from where the first left it
 -- pass-broken      == a pass that is broken stays so
 -- pass-spaces, pass-nought, pass-digits == what a pass holds after spaces, after the column of 0, after that of a number above 0
 -- digit-range      == the bytes that are digits
 -- spaces-passed, nought-passed, digits-passed == the way back: what the bytes are by what a pass over them holds
+-- padded-spaces    == no digits are spaces alone
 use Prim.Native.Nat.{ℕ, zero, suc, _+_, _*_, _-_, _/_, _%_, _<_, _≤_, _^_}
 use mathlib.Core.Path.{_≡_, refl, sym, ap, _∙_, subst}
-use mathlib.Core.Logic.{_⊎_, inl, inr}
+use mathlib.Core.Logic.{_⊎_, inl, inr, _↔_}
 use mathlib.Core.List.{List, [], _∷_, _++_, append-assoc, append-nil}
 use mathlib.Core.Bool.{Bool, true, false, cond}
 use native.Mathlib.Omega.{arith}
-use native.Mathlib.Nat.{pow-suc, one-le-pow}
+use native.Mathlib.Nat.{pow-suc, one-le-pow, pow-le-pow-right}
 use native.Mathlib.Numerals.{add-one}
-use lib.ListN.{length, length-append}
+use native.Mathlib.Decide.{ℕ-discrete}
+use lib.ListN.{length, getD, replicate, length-append, replicate-append-replicate}
 use lib.Dec.{leb, eqb}
 use borrow.Author.Tests.{le-leb, ne-eqb, eqb-true, eqb-false, leb-true}
+use Rattle.basics.specs.Search.{allIn}
 use Rattle.basics.specs.Search.Laws.{true-or-false, and-true, and-both-true}
-use Rattle.columns.specs.Column.{noNumber, isDigit, Pass, blank, nought, digits, broken, next, passFrom, found, columnNumber, digitOr, padded, columnOf}
+use Rattle.columns.specs.Column.{widestColumn, noNumber, isDigit, Pass, blank, nought, digits, broken, next, passFrom, found, columnNumber, digitOr, padded, columnOf, isBlank, filledColumn}
 
 pub passFrom-append : (p : Pass) (l r : List ℕ) → passFrom p (l ++ r) ≡ passFrom (passFrom p l) r
 unfolding passFrom
@@ -249,14 +261,152 @@ digits-passed l v e =
     let t : (l ≡ padded (length l) v) × (0 < v) × (v < 10 ^ length l) = subst (λ (p : Pass). Told p (length l) l) e (told l) in
     (t .1, t .2, t .0 ∙ sym (column-padded (length l) v (t .1) (t .2)))
 
--- a pass that found a number
-column-found : (p : Pass) (k : ℕ) (l : List ℕ) → Told p k l → (found p ≡ noNumber → ⊥) → columnOf k (found p) ≡ l
-unfolding Told found
-column-found blank k l h n = absurd (n refl)
-column-found nought k l h n = sym (h .1)
-column-found (digits v) k l h n = column-padded k v (h .1) (h .2) ∙ sym (h .0)
-column-found broken k l h n = absurd (n refl)
+-- Blank columns
 
-pub column-of-number : (l : List ℕ) → (columnNumber l ≡ noNumber → ⊥) → columnOf (length l) (columnNumber l) ≡ l
+pub padded-spaces : (k : ℕ) → padded k 0 ≡ replicate k 32
+unfolding padded digitOr
+padded-spaces zero = refl
+padded-spaces (suc k) = ap (λ (l : List ℕ). l ++ (32 ∷ [])) (padded-spaces k) ∙ (replicate-append-replicate k 1 32 ∙ ap (λ (n : ℕ). replicate n 32) (add-one k))
+
+blank-spaces : (l : List ℕ) → isBlank l ≡ true → l ≡ replicate (length l) 32
+unfolding isBlank allIn
+blank-spaces [] h = refl
+blank-spaces (b ∷ l) h =
+    let s = and-true (eqb b 32) (isBlank l) h in
+    ap (λ (x : ℕ). x ∷ l) (eqb-true b 32 (s .0)) ∙ ap (λ (r : List ℕ). 32 ∷ r) (blank-spaces l (s .1))
+
+spaces-blank : (k : ℕ) → isBlank (replicate k 32) ≡ true
+unfolding isBlank allIn
+spaces-blank zero = refl
+spaces-blank (suc k) = spaces-blank k
+
+pub blank-iff-spaces : (l : List ℕ) → (isBlank l ≡ true) ↔ (l ≡ replicate (length l) 32)
+blank-iff-spaces l = (blank-spaces l, λ (e : l ≡ replicate (length l) 32). ap isBlank e ∙ spaces-blank (length l))
+
+pass-blank : (l : List ℕ) → isBlank l ≡ true → passFrom blank l ≡ blank
+pass-blank l h = ap (passFrom blank) (blank-spaces l h ∙ sym (padded-spaces (length l))) ∙ pass-spaces (length l)
+
+pub blank-column : (w : ℕ) → columnNumber (replicate w 32) ≡ 0
+unfolding columnNumber found
+blank-column w = ap found (pass-blank (replicate w 32) (spaces-blank w))
+
+pub filled-same : (l : List ℕ) → isBlank l ≡ false → filledColumn l ≡ l
+unfolding filledColumn
+filled-same l h = ap (λ (b : Bool). cond b (columnOf (length l) 0) l) h
+
+pub filled-blank : (l : List ℕ) → isBlank l ≡ true → filledColumn l ≡ columnOf (length l) 0
+unfolding filledColumn
+filled-blank l h = ap (λ (b : Bool). cond b (columnOf (length l) 0) l) h
+
+pub filled-length : (l : List ℕ) → length (filledColumn l) ≡ length l
+filled-length l = at (true-or-false (isBlank l))
+  where
+    at : (isBlank l ≡ true) ⊎ (isBlank l ≡ false) → length (filledColumn l) ≡ length l
+    at (inl t) = ap length (filled-blank l t) ∙ column-length (length l) 0
+    at (inr f) = ap length (filled-same l f)
+
+pub filled-number : (l : List ℕ) → columnNumber (filledColumn l) ≡ columnNumber l
+filled-number l = at (true-or-false (isBlank l))
+  where
+    zero-column : (w : ℕ) → columnNumber (columnOf w 0) ≡ 0
+    zero-column zero = unfold columnOf in blank-column 0
+    zero-column (suc w) = number-of-column w 0 (one-le-pow (suc w) 10 (omega arith))
+
+    at : (isBlank l ≡ true) ⊎ (isBlank l ≡ false) → columnNumber (filledColumn l) ≡ columnNumber l
+    at (inl t) = ap columnNumber (filled-blank l t) ∙ (zero-column (length l) ∙ sym (ap columnNumber (blank-spaces l t) ∙ blank-column (length l)))
+    at (inr f) = ap columnNumber (filled-same l f)
+
+pub line-end-none : (l : List ℕ) → (columnNumber l ≡ noNumber → ⊥) → getD l 0 0 ≡ 10 → ⊥
+unfolding columnNumber passFrom next found
+line-end-none [] n e = omega arith
+line-end-none (b ∷ l) n e = n (ap (λ (z : ℕ). columnNumber (z ∷ l)) e ∙ ap found (pass-broken l))
+
+-- a pass that holds something else than spaces
+not-blank : (l : List ℕ) (p : Pass) → passFrom blank l ≡ p → (p ≡ blank → ⊥) → isBlank l ≡ false
+not-blank l p e n = at (true-or-false (isBlank l))
+  where
+    at : (isBlank l ≡ true) ⊎ (isBlank l ≡ false) → isBlank l ≡ false
+    at (inl t) = absurd (n (sym e ∙ pass-blank l t))
+    at (inr f) = f
+
+nought-not-blank : nought ≡ blank → ⊥
+nought-not-blank e = let z : _≡_ {A = ℕ} 0 1 = cc in omega arith
+
+digits-not-blank : (v : ℕ) → digits v ≡ blank → ⊥
+digits-not-blank v e = let z : _≡_ {A = ℕ} 0 1 = cc in omega arith
+
+pub column-not-blank : (w n : ℕ) → n < 10 ^ suc w → isBlank (columnOf (suc w) n) ≡ false
+unfolding columnPass
+column-not-blank w zero h = not-blank (columnOf (suc w) 0) nought (pass-column w 0 h) nought-not-blank
+column-not-blank w (suc n) h = not-blank (columnOf (suc w) (suc n)) (digits (suc n)) (pass-column w (suc n) h) (digits-not-blank (suc n))
+
+-- a pass that found a number
+column-found : (p : Pass) (l : List ℕ) → passFrom blank l ≡ p → (found p ≡ noNumber → ⊥) → columnOf (length l) (found p) ≡ filledColumn l
+unfolding found
+column-found blank l e n =
+    sym (filled-blank l (blank-iff-spaces l .1 (spaces-passed l e ∙ padded-spaces (length l))))
+column-found nought l e n = sym (nought-passed l e .1) ∙ sym (filled-same l (not-blank l nought e nought-not-blank))
+column-found (digits v) l e n = sym (digits-passed l v e .2) ∙ sym (filled-same l (not-blank l (digits v) e (digits-not-blank v)))
+column-found broken l e n = absurd (n refl)
+
+pub column-of-number : (l : List ℕ) → (columnNumber l ≡ noNumber → ⊥) → columnOf (length l) (columnNumber l) ≡ filledColumn l
 unfolding columnNumber
-column-of-number l n = column-found (passFrom blank l) (length l) l (told l) n
+column-of-number l n = column-found (passFrom blank l) l refl n
+
+-- What a column holds
+
+number-below : (p : Pass) (l : List ℕ) → passFrom blank l ≡ p → (found p ≡ noNumber → ⊥) → found p < 10 ^ length l
+unfolding found
+number-below blank l e n = one-le-pow (length l) 10 (omega arith)
+number-below nought l e n = one-le-pow (length l) 10 (omega arith)
+number-below (digits v) l e n = digits-passed l v e .1
+number-below broken l e n = absurd (n refl)
+
+-- a column of w bytes
+module _ (l : List ℕ) (w : ℕ) (wide : length l ≡ w) (narrow : w ≤ widestColumn) where
+  small : (n : ℕ) → n < 10 ^ w → n ≡ noNumber → ⊥
+  small n fits e = let m : 10 ^ w ≤ 10 ^ 10 = pow-le-pow-right (omega arith) narrow in omega arith
+
+  spaces-zero : l ≡ replicate w 32 → columnNumber l ≡ 0
+  spaces-zero b = ap columnNumber b ∙ blank-column w
+
+  holds : (n : ℕ) → n < 10 ^ w → columnNumber l ≡ n → (l ≡ columnOf w n) ⊎ ((l ≡ replicate w 32) × (n ≡ 0))
+  holds n fits e = at (true-or-false (isBlank l))
+    where
+      at : (isBlank l ≡ true) ⊎ (isBlank l ≡ false) → (l ≡ columnOf w n) ⊎ ((l ≡ replicate w 32) × (n ≡ 0))
+      at (inl t) = let b = blank-spaces l t ∙ ap (λ (k : ℕ). replicate k 32) wide in inr (b, sym e ∙ spaces-zero b)
+      at (inr f) =
+          inl (sym (filled-same l f)
+          ∙ (sym (column-of-number l (λ (z : columnNumber l ≡ noNumber). small n fits (sym e ∙ z))) ∙ (ap (columnOf (length l)) e ∙ ap (λ (k : ℕ). columnOf k n) wide)))
+
+  written : (k n : ℕ) → w ≡ k → n < 10 ^ k → l ≡ columnOf k n → columnNumber l ≡ n
+  unfolding columnOf
+  written zero n z fits e = let q : 0 ≡ n = omega arith in ap columnNumber e ∙ (blank-column 0 ∙ q)
+  written (suc k) n z fits e = ap columnNumber e ∙ number-of-column k n fits
+
+  pub column-holds : (n : ℕ) → n < 10 ^ w → (columnNumber l ≡ n) ↔ ((l ≡ columnOf w n) ⊎ ((l ≡ replicate w 32) × (n ≡ 0)))
+  column-holds n fits = (holds n fits, by)
+    where
+      by : (l ≡ columnOf w n) ⊎ ((l ≡ replicate w 32) × (n ≡ 0)) → columnNumber l ≡ n
+      by (inl e) = written w n refl fits e
+      by (inr b) = spaces-zero (b .0) ∙ sym (b .1)
+
+  pub column-none : (columnNumber l ≡ noNumber) ↔ (((n : ℕ) → n < 10 ^ w → l ≡ columnOf w n → ⊥) × (l ≡ replicate w 32 → ⊥))
+  column-none = (
+    λ (e : columnNumber l ≡ noNumber). (
+      λ n fits c. small n fits (sym (written w n refl fits c) ∙ e),
+      λ (b : l ≡ replicate w 32). let z : 0 ≡ noNumber = sym (spaces-zero b) ∙ e in omega arith,
+    ),
+    none (ℕ-discrete (columnNumber l) noNumber),
+  )
+    where
+      none : Dec (columnNumber l ≡ noNumber) → ((n : ℕ) → n < 10 ^ w → l ≡ columnOf w n → ⊥) × (l ≡ replicate w 32 → ⊥) → columnNumber l ≡ noNumber
+      none (yes e) h = e
+      none (no d) h = absurd (by (holds (columnNumber l) fits refl))
+        where
+          fits : columnNumber l < 10 ^ w
+          fits = unfold columnNumber in subst (λ (k : ℕ). found (passFrom blank l) < 10 ^ k) wide (number-below (passFrom blank l) l refl d)
+
+          by : (l ≡ columnOf w (columnNumber l)) ⊎ ((l ≡ replicate w 32) × (columnNumber l ≡ 0)) → ⊥
+          by (inl c) = h .0 (columnNumber l) fits c
+          by (inr b) = h .1 (b .0)

@@ -6,7 +6,6 @@
 -- held-says      == h is held after the bytes l exactly if Says h l
 -- may-follow     == a byte breaks what is held exactly if no column begins with the bytes and that one
 -- as-before      == the number at the end is that of specs/Column.antt, for every column of every width
--- blank-column   == a column of spaces alone holds blankNumber, whatever its width
 -- so-far-below   == the number so far has at most as many digits as there were bytes
 use Prim.Native.Nat.{ℕ, zero, suc, _+_, _*_, _-_, _<_, _^_}
 use mathlib.Core.Path.{_≡_, refl, sym, ap, _∙_, subst}
@@ -16,14 +15,14 @@ use mathlib.Core.Bool.{Bool, true, false, cond}
 use native.Mathlib.Omega.{arith}
 use native.Mathlib.Nat.{one-le-pow, zero-add}
 use native.Mathlib.Numerals.{add-one}
-use lib.ListN.{length, take, drop, getD, replicate, length-drop, replicate-append-replicate}
+use lib.ListN.{length, take, drop, getD, length-drop}
 use lib.Seq.{take-suc, getD-drop}
 use lib.Dec.{eqb}
 use borrow.Author.Tests.{eqb-true, ne-eqb}
 use Rattle.basics.specs.Search.{allIn}
 use Rattle.basics.specs.Search.Laws.{true-or-false, not-both}
-use Rattle.columns.specs.Column.{blankNumber, isDigit, Pass, blank, nought, digits, broken, next, passFrom, found, columnNumber, digitOr, padded, columnOf}
-use Rattle.columns.specs.Column.Laws.{passFrom-append, pass-broken, pass-spaces, pass-nought, pass-digits, spaces-passed, nought-passed, digits-passed}
+use Rattle.columns.specs.Column.{isDigit, Pass, blank, nought, digits, broken, next, passFrom, found, columnNumber, columnOf}
+use Rattle.columns.specs.Column.Laws.{passFrom-append, pass-broken, pass-spaces, pass-nought, pass-digits, spaces-passed, nought-passed, digits-passed, padded-spaces}
 use Rattle.columns.specs.Held.{unpadded, valueFrom, heldDigits, held, heldNext, soFar, heldNumber, NoColumn, Says}
 use Rattle.columns.specs.declared.Held.{Held}
 use Rattle.columns.specs.declared.Held.the-variants.{Blank, Nought, Digits, Broken}
@@ -124,11 +123,6 @@ as-before l = ap heldNumber (held-pass l) ∙ found-same (passFrom blank l)
 
 -- What each held state says
 
-padded-spaces : (k : ℕ) → padded k 0 ≡ replicate k 32
-unfolding padded digitOr
-padded-spaces zero = refl
-padded-spaces (suc k) = ap (λ (l : List ℕ). l ++ (32 ∷ [])) (padded-spaces k) ∙ (replicate-append-replicate k 1 32 ∙ ap (λ (n : ℕ). replicate n 32) (add-one k))
-
 not-broken : (w n : ℕ) → n < 10 ^ w → passFrom blank (columnOf w n) ≡ broken → ⊥
 unfolding passFrom columnOf
 not-broken zero n h e = let z : _≡_ {A = ℕ} 0 1 = cc in omega arith
@@ -174,10 +168,6 @@ unfolding Says
 may-follow l b =
     let s = held-says (l ++ (b ∷ [])) Broken in
     (λ (e : heldNext (held l) b ≡ Broken). s .0 (held-told l b ∙ e), λ (n : NoColumn (l ++ (b ∷ []))). sym (held-told l b) ∙ s .1 n)
-
-pub blank-column : (w : ℕ) → columnNumber (replicate w 32) ≡ blankNumber
-unfolding columnNumber found
-blank-column w = ap found (ap (passFrom blank) (sym (padded-spaces w)) ∙ pass-spaces w)
 
 below-pass : (p : Pass) (l : List ℕ) → passFrom blank l ≡ p → soFar (asHeld p) < 10 ^ length l
 unfolding soFar asHeld

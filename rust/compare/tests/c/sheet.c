@@ -1,5 +1,5 @@
-/* Reads, writes and reads again the sheet of table T. Returns 0 if every answer is right, else the number of the first
- * wrong one. */
+/* Reads, writes and reads again the sheet of table T, also with its zeros left out. Returns 0 if every answer is right,
+ * else the number of the first wrong one. */
 #include "zagvirk.h"
 
 #include <stdio.h>
@@ -7,6 +7,9 @@
 
 static const char text[] =
     "    3    2    6\n    0    5\n    1    0\n    2   10\n    0    0    1\n    1    0    2\n    1    1    1\n"
+    "    1    2    1\n    2    1    2\n    2    2    2\n";
+static const char blank[] =
+    "    3    2    6\n         5\n    1     \n    2   10\n              1\n    1         2\n    1    1    1\n"
     "    1    2    1\n    2    1    2\n    2    2    2\n";
 static const uint16_t expected[18] = {0, 0, 1, 1, 0, 2, 1, 1, 1, 1, 2, 1, 2, 1, 2, 2, 2, 2};
 
@@ -37,6 +40,14 @@ int main(void) {
   if (memcmp(sheet, text, 145) != 0 || sheet[145] != 7) return 10;
   written = zagvirk_write_sheet(read.machine, list, 17, sheet, 150);
   if (written.refusal != ZAGVIRK_MACHINE_BROKEN || written.bytes != 0) return 11;
+
+  memset(list, 7, sizeof list);
+  memset(sheet, 7, sizeof sheet);
+  read = zagvirk_read_sheet((const uint8_t *)blank, 145, list, 20);
+  if (read.refusal != 0 || memcmp(list, expected, sizeof expected) != 0 || list[18] != 0x0707) return 12;
+  written = zagvirk_write_sheet(read.machine, list, 20, sheet, 150);
+  if (written.refusal != 0 || written.bytes != 145) return 13;
+  if (memcmp(sheet, text, 145) != 0 || sheet[145] != 7) return 14;
 
   puts("sheets are read and written right from C");
   return 0;
