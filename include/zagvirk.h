@@ -32,7 +32,7 @@
  * is 0, records and answers may change with the minor version: compile again then.
  */
 #define ZAGVIRK_VERSION_MAJOR 0
-#define ZAGVIRK_VERSION_MINOR 5
+#define ZAGVIRK_VERSION_MINOR 6
 #define ZAGVIRK_VERSION_PATCH 0
 #define ZAGVIRK_VERSION (10000 * ZAGVIRK_VERSION_MAJOR + 100 * ZAGVIRK_VERSION_MINOR + ZAGVIRK_VERSION_PATCH)
 
@@ -239,8 +239,8 @@ zagvirk_joined zagvirk_join(zagvirk_machine first, const uint16_t *first_list, s
 
 /* Copies. */
 
-/* The result of zagvirk_list_copies: the number of copies and the number of letters stored in all, both 0 after a
- * refusal. */
+/* The result of zagvirk_list_copies: the number of copies listed and the number of letters stored in all, both 0 after
+ * a refusal. */
 typedef struct {
   uint8_t refusal; /* 0, 16, 9, 8, 14 or 20 */
   size_t needed;
@@ -248,12 +248,15 @@ typedef struct {
   size_t total;
 } zagvirk_copies_listed;
 
-/* Writes for each entry 65,534 of an accepting run, in order, the position where buffering began and the number of
- * letters stored, two elements, to the front of copies.
+/* Writes for each copy of an accepting run that has letters, in order, the position where buffering began and the
+ * number of letters stored, two elements, to the front of copies. A copy is an entry 65,534 of the run; one of no
+ * letters is not listed. The letters of a copy that is listed stand twice in the word, so an array of word_len elements
+ * is always long enough.
  *
- * Refuses, in this order: 16, 9 over 255 letters, 8, 14, 20.
+ * Refuses, in this order: 16, 9 over 255 letters, 8, 14, 20 if copies has fewer than two elements for each copy with
+ * letters.
  *
- * Time: one pass over the machine and the word, three over the run. Stack: ZAGVIRK_STACK_SMALL.
+ * Time: one pass over the machine and the word, three over the run and one over the copies. Stack: ZAGVIRK_STACK_SMALL.
  */
 zagvirk_copies_listed zagvirk_list_copies(zagvirk_machine machine, const uint16_t *list, size_t list_len,
                                           const uint8_t *word, size_t word_len, const uint16_t *run, size_t run_len,

@@ -1,85 +1,125 @@
 -- The functions of src/lib.rt case by case, over plain variables: what each turn of a loop and each way through a function gives.
 --
--- marksIn es           == how many entries of es are 65,534
--- count-is             == so many copies do the entries make
--- count-few            == a run has no more copies than entries
--- marks-hit, marks-miss, marks-end == the loop that counts: an entry 65,534, another one, the end
+-- passed-still, passed-read == the stretch past a transition without a letter, and with one
+-- read-next            == one entry on, the rest of the run reads up to the same position
+-- kept-other, kept-empty, kept-copy == the copies with letters from an entry on: at another entry than 65,534, at a copy of no letters, at one with letters
+-- Counting ..          == what the loop that counts has done before entry i
+-- counting-start, counting-copy, counting-same, counting-end == the loop begins, meets a copy with letters, meets anything else, ends
 -- Writing ..           == what the loop that writes has done before entry i
--- writing-start, writing-copy, writing-other, writing-end == the loop begins, meets an entry 65,534, meets another one, ends
--- refused-early, refused-run, refused-room, listed == the ways through list_copies: its answer and the slice afterwards
+-- writing-start, writing-copy, writing-same, writing-end == the same of it
+-- CopyRoom, copy-room  == at a copy with letters: its numbers are small, and there is room for them
+-- Adding ..            == what the loop that adds has done once the copies from k on are added
+-- adding-start, adding-copy, adding-end == it begins, adds copy k - 1, ends
+-- entries-fit, count-few == the entries stay in the list of transitions and the word; there are no more than 127 copies with letters
+-- early, not-accepting, no-room, listed == the ways through list_copies: its answer and the slice afterwards
 -- copies-says          == the number and values of its answer
--- CopyRoom, copy-room  == at an entry 65,534: the copy's numbers are small, and there is room for them
 use Prim.Native.Nat.{ℕ, zero, suc, _+_, _*_, _-_, _≤_, _<_}
 use mathlib.Core.Path.{_≡_, refl, sym, ap, _∙_}
-use mathlib.Core.Bool.{Bool, true, false, cond, _&&_, false≢true}
+use mathlib.Core.Bool.{Bool, true, false, cond}
 use mathlib.Core.List.{List, [], _∷_, _++_}
 use native.Mathlib.Omega.{arith}
 use native.Mathlib.Numerals.{add-one}
 use native.Mathlib.Nat.{add-zero}
 use lib.ListN.{length, getD, drop, set, drop-of-length-le, length-drop}
 use lib.Seq.{drop-cons, paste, paste-zero, paste-suc, length-paste, take-all, getD-drop, drop-drop}
-use lib.Dec.{eqb, ltb}
-use borrow.Author.Tests.{eq-eqb, ne-eqb, le-leb, lt-leb}
-use Rattle.basics.specs.Search.Laws.{and-true}
+use lib.Dec.{eqb}
+use borrow.Author.Tests.{eq-eqb, ne-eqb}
 use Rattle.basics.specs.Search.Loops.{first, second}
-use Rattle.fsbm.specs.Machine.{wellFormed, initial}
-use Rattle.fsbm.specs.Moves.{move, startAt, acceptingFrom, accepting, beginEmptying}
+use Rattle.fsbm.specs.Machine.{wellFormed, transitionAt}
+use Rattle.fsbm.specs.Rules.{rules}
+use Rattle.fsbm.specs.Moves.{accepting, advanced, beginBuffering, beginEmptying}
 use Rattle.fsbm.specs.Answers.{tableAndWord, refusal}
+use Rattle.fsbm.proofs.AnswerCases.{table-good}
 use Rattle.fsbm.specs.declared.machine.Machine.{Machine}
-use Rattle.fsbm.specs.declared.config.Config.{Config}
-use Rattle.fsbm.specs.declared.config.Move.{Move}
-use Rattle.fsbm.specs.Moves.Laws.{move-from}
+use Rattle.fsbm.specs.declared.machine.Transition.{Transition}
 use Rattle.fsbm.specs.declared.answer.Refusal.{Refusal}
 use Rattle.copies.specs.declared.Copied.{Copied}
 use Rattle.copies.specs.declared.Copied.the-variants.{Refused, Listed}
-use Rattle.copies.specs.Copies.{Copy, copyAt, copiesFrom, copiesOf, pairs, totalStored, longestCopied, copiesNeed, copiesRefusal, copiesAnswer, copiesAfter, copiedValues, copiesValues}
-use Rattle.copies.specs.Copies.Laws.{total-fits}
+use Rattle.copies.specs.declared.Stretch.{Stretch}
+use Rattle.copies.specs.Copies.{Copy, withLetters, copyList, pairs, totalBack, longestCopied, copiesNeed, copiesRefusal, copiesAnswer, copiesAfter, copiedValues, copiesValues}
+use Rattle.copies.specs.Stretches.{passed, stretchCopy, entriesFrom, readFrom, atFirst, entryList, entriesRead}
+use Rattle.copies.specs.Copies.Laws.{Leaves, need-fits}
+use Rattle.copies.specs.Copies.Laws as laws
+use Rattle.copies.specs.Stretches.Laws.{passed-takes, passed-forward, read-on, entries-are, entries-read}
 
-pub marksIn : List ℕ → ℕ
-marksIn [] = 0
-marksIn (e ∷ es) = cond (eqb e beginEmptying) (suc (marksIn es)) (marksIn es)
+-- One entry
 
-count-from : (m : Machine) (list w : List ℕ) (c : Config) (es : List ℕ) → marksIn es ≡ length (copiesFrom m list w c es)
-unfolding marksIn copiesFrom
-count-from m list w c [] = refl
-count-from m list w c (e ∷ es) = at (eqb e beginEmptying) (count-from m list w (move m list w c e .config) es)
-  where
-    at : (b : Bool) → marksIn es ≡ length (copiesFrom m list w (move m list w c e .config) es)
-        → cond b (suc (marksIn es)) (marksIn es) ≡ length (cond b (copyAt c ∷ copiesFrom m list w (move m list w c e .config) es) (copiesFrom m list w (move m list w c e .config) es))
-    at true h = ap suc h
-    at false h = h
+module _ (n : ℕ) (list : List ℕ) (s : Stretch) (e : ℕ) (not-begin : e ≡ beginBuffering → ⊥) (lt : e < n) (t : Transition) (at-t : t ≡ transitionAt list e) where
+  takes : record { start = s .start; position = advanced (s .position) (t .letter) } ≡ passed n list s e
+  takes = ap (λ (z : Transition). record { start = s .start; position = advanced (s .position) (z .letter) }) at-t ∙ passed-takes n list s e not-begin lt
 
-pub count-is : (m : Machine) (list w run : List ℕ) → marksIn (drop 1 run) ≡ length (copiesOf m list w run)
-unfolding marksIn copiesOf
-count-is m list w [] = refl
-count-is m list w (q ∷ es) = count-from m list w (startAt q) es
+  pub passed-still : t .letter ≡ 0 → s ≡ passed n list s e
+  passed-still h = ap (λ (p : ℕ). record { start = s .start; position = p }) (first _ (eq-eqb (t .letter) 0 h) refl) ∙ takes
 
-marks-few : (es : List ℕ) → marksIn es ≤ length es
-unfolding marksIn
-marks-few [] = omega arith
-marks-few (e ∷ es) = at (eqb e beginEmptying) (marks-few es)
-  where
-    at : (b : Bool) → marksIn es ≤ length es → cond b (suc (marksIn es)) (marksIn es) ≤ suc (length es)
-    at true h = omega arith
-    at false h = omega arith
+  pub passed-read : (t .letter ≡ 0 → ⊥) → record { start = s .start; position = s .position + 1 } ≡ passed n list s e
+  passed-read h = ap (λ (p : ℕ). record { start = s .start; position = p }) (second _ (ne-eqb (t .letter) 0 h) refl) ∙ takes
 
-pub count-few : (m : Machine) (list w run : List ℕ) → length (copiesOf m list w run) ≤ length run
-count-few m list w run = let h = marks-few (drop 1 run) in let n = count-is m list w run in let l = length-drop 1 run in omega arith
+-- One turn of a loop through a run, from entry i to the next one
 
-module _ (run : List ℕ) (i : ℕ) where
-  marks-at : i < length run → marksIn (drop i run) ≡ cond (eqb (getD run i 0) beginEmptying) (suc (marksIn (drop (i + 1) run))) (marksIn (drop (i + 1) run))
-  unfolding marksIn
-  marks-at h = rw (drop-cons run i 0 h, add-one)
+module _ (n : ℕ) (list run : List ℕ) (s next : Stretch) (i : ℕ) (at-next : next ≡ passed n list s (getD run i 0)) (lt : i < length run) where
+  pub read-next : readFrom n list s (drop i run) ≡ readFrom n list next (drop (i + 1) run)
+  unfolding readFrom
+  read-next =
+      ap (readFrom n list s) (drop-cons run i 0 lt)
+      ∙ ap (λ (z : Stretch). readFrom n list z (drop (suc i) run)) (sym at-next)
+      ∙ ap (λ (j : ℕ). readFrom n list next (drop j run)) (sym (add-one i))
 
-  pub marks-hit : i < length run → getD run i 0 ≡ 65534 → marksIn (drop i run) ≡ suc (marksIn (drop (i + 1) run))
-  marks-hit h e = marks-at h ∙ sym (first (marksIn (drop (i + 1) run)) (eq-eqb (getD run i 0) beginEmptying e) refl)
+  rest-copies : entriesFrom n list s (drop i run)
+      ≡ cond (eqb (getD run i 0) beginEmptying) (stretchCopy s ∷ entriesFrom n list next (drop (i + 1) run)) (entriesFrom n list next (drop (i + 1) run))
+  unfolding entriesFrom
+  rest-copies =
+      ap (entriesFrom n list s) (drop-cons run i 0 lt)
+      ∙ ap (λ (z : Stretch). cond (eqb (getD run i 0) beginEmptying) (stretchCopy s ∷ entriesFrom n list z (drop (suc i) run)) (entriesFrom n list z (drop (suc i) run))) (sym at-next)
+      ∙ ap (λ (j : ℕ). cond (eqb (getD run i 0) beginEmptying) (stretchCopy s ∷ entriesFrom n list next (drop j run)) (entriesFrom n list next (drop j run))) (sym (add-one i))
 
-  pub marks-miss : i < length run → (getD run i 0 ≡ 65534 → ⊥) → marksIn (drop i run) ≡ marksIn (drop (i + 1) run)
-  marks-miss h e = marks-at h ∙ sym (second (suc (marksIn (drop (i + 1) run))) (ne-eqb (getD run i 0) beginEmptying e) refl)
+  pub kept-other : (getD run i 0 ≡ 65534 → ⊥) → withLetters (entriesFrom n list s (drop i run)) ≡ withLetters (entriesFrom n list next (drop (i + 1) run))
+  kept-other ne = ap withLetters (rest-copies ∙ sym (second _ (ne-eqb (getD run i 0) beginEmptying ne) refl))
 
-  pub marks-end : length run ≤ i → marksIn (drop i run) ≡ 0
-  unfolding marksIn
-  marks-end h = ap marksIn (drop-of-length-le run h)
+  module _ (is : getD run i 0 ≡ 65534) where
+    one-copy : entriesFrom n list s (drop i run) ≡ stretchCopy s ∷ entriesFrom n list next (drop (i + 1) run)
+    one-copy = rest-copies ∙ sym (first _ (eq-eqb (getD run i 0) beginEmptying is) refl)
+
+    pub kept-empty : s .position ≤ s .start → withLetters (entriesFrom n list s (drop i run)) ≡ withLetters (entriesFrom n list next (drop (i + 1) run))
+    unfolding withLetters
+    kept-empty none = ap withLetters one-copy ∙ sym (first _ (eq-eqb (s .position - s .start) 0 (omega arith)) refl)
+
+    pub kept-copy : s .start < s .position → withLetters (entriesFrom n list s (drop i run)) ≡ stretchCopy s ∷ withLetters (entriesFrom n list next (drop (i + 1) run))
+    unfolding withLetters
+    kept-copy some = ap withLetters one-copy ∙ sym (second _ (ne-eqb (s .position - s .start) 0 (λ (z : s .position - s .start ≡ 0). omega arith)) refl)
+
+-- The loop that counts
+
+module _ (n : ℕ) (list run : List ℕ) where
+  pub record Counting (s : Stretch) (count i : ℕ) : Type 0 where
+    pub few : count ≤ i
+    pub small : readFrom n list s (drop i run) ≤ 255
+    pub sum : count + length (withLetters (entriesFrom n list s (drop i run))) ≡ length (entryList n list run)
+
+  pub counting-start : entriesRead n list run ≤ 255 → Counting atFirst 0 1
+  counting-start small = record { few = omega arith; small = small; sum = omega arith }
+
+  module _ {s : Stretch} {count i : ℕ} (r : Counting s count i) where
+    pub counting-position : s .position ≤ 255
+    counting-position = let on = read-on n list s (drop i run) in omega (arith, r .small)
+
+    pub counting-end : length run ≤ i → count ≡ length (entryList n list run)
+    unfolding entriesFrom withLetters
+    counting-end h =
+        let none : length (withLetters (entriesFrom n list s (drop i run))) ≡ 0 = ap (λ (es : List ℕ). length (withLetters (entriesFrom n list s es))) (drop-of-length-le run h) in
+        omega (arith, r .sum)
+
+    module _ (next : Stretch) (at-next : next ≡ passed n list s (getD run i 0)) (lt : i < length run) where
+      pub counting-same : withLetters (entriesFrom n list s (drop i run)) ≡ withLetters (entriesFrom n list next (drop (i + 1) run)) → Counting next count (i + 1)
+      counting-same same =
+          let read = read-next n list run s next i at-next lt in
+          let size = ap length same in
+          record { few = omega (arith, r .few); small = omega (arith, r .small); sum = omega (arith, r .sum) }
+
+      pub counting-copy : withLetters (entriesFrom n list s (drop i run)) ≡ stretchCopy s ∷ withLetters (entriesFrom n list next (drop (i + 1) run)) → Counting next (count + 1) (i + 1)
+      counting-copy copy =
+          let read = read-next n list run s next i at-next lt in
+          let size = ap length copy in
+          record { few = omega (arith, r .few); small = omega (arith, r .small); sum = omega (arith, r .sum) }
 
 -- The loop that writes
 
@@ -98,169 +138,120 @@ store-next d slice all j {v} {rest} holds room left =
       sym (drop-drop 1 j all) ∙ ap (drop 1) left,
     )
 
-module _ (m : Machine) (list w run : List ℕ) where
-  pub record Writing (slice₀ slice : List ℕ) (c : Config) (k total i : ℕ) : Type 0 where
-    pub inside : i ≤ length run
-    pub good : wellFormed m list ≡ true
-    pub short : length w ≤ 255
-    pub accepts : accepting m list w run ≡ true
-    pub accepts-on : acceptingFrom m list w c (drop i run) ≡ true
-    pub room : length (pairs (copiesOf m list w run)) ≤ length slice₀
-    pub done : k ≤ length (pairs (copiesOf m list w run))
-    pub left : drop k (pairs (copiesOf m list w run)) ≡ pairs (copiesFrom m list w c (drop i run))
-    pub sum : total + totalStored (copiesFrom m list w c (drop i run)) ≡ totalStored (copiesOf m list w run)
-    pub holds : slice ≡ paste slice₀ 0 (pairs (copiesOf m list w run)) k
+pairs-length : (ks : List Copy) → length (pairs ks) ≡ length ks * 2
+unfolding pairs
+pairs-length [] = refl
+pairs-length (k ∷ ks) = let h = pairs-length ks in omega arith
 
-  pairs-length : (ks : List Copy) → length (pairs ks) ≡ length ks * 2
-  unfolding pairs
-  pairs-length [] = refl
-  pairs-length (k ∷ ks) = let h = pairs-length ks in omega arith
+module _ (n : ℕ) (list run : List ℕ) where
+  pub record Writing (slice₀ slice : List ℕ) (s : Stretch) (k i : ℕ) : Type 0 where
+    pub forward : s .start ≤ s .position
+    pub small : readFrom n list s (drop i run) ≤ 255
+    pub room : length (pairs (entryList n list run)) ≤ length slice₀
+    pub done : k ≤ length (pairs (entryList n list run))
+    pub left : drop k (pairs (entryList n list run)) ≡ pairs (withLetters (entriesFrom n list s (drop i run)))
+    pub holds : slice ≡ paste slice₀ 0 (pairs (entryList n list run)) k
 
-  run-first : accepting m list w run ≡ true → (1 ≤ length run) × (acceptingFrom m list w (startAt (getD run 0 0)) (drop 1 run) ≡ true)
-  unfolding accepting
-  run-first = at run
-    where
-      at : (r : List ℕ) → accepting m list w r ≡ true → (1 ≤ length r) × (acceptingFrom m list w (startAt (getD r 0 0)) (drop 1 r) ≡ true)
-      at [] h = absurd (false≢true h)
-      at (q ∷ es) h =
-          let (lt, r) = and-true (ltb q (m .states)) (initial (m .marks) q && acceptingFrom m list w (startAt q) es) h in
-          let (i, a) = and-true (initial (m .marks) q) (acceptingFrom m list w (startAt q) es) r in
-          (omega arith, a)
+  pub writing-start : (slice : List ℕ) → entriesRead n list run ≤ 255 → length (entryList n list run) * 2 ≤ length slice → Writing slice slice atFirst 0 1
+  writing-start slice small fits =
+      let long = pairs-length (entryList n list run) in
+      record { forward = omega arith; small = small; room = omega arith; done = omega arith; left = refl; holds = paste-zero slice 0 (pairs (entryList n list run)) }
 
-  copies-first : 1 ≤ length run → copiesOf m list w run ≡ copiesFrom m list w (startAt (getD run 0 0)) (drop 1 run)
-  unfolding copiesOf
-  copies-first = at run
-    where
-      at : (r : List ℕ) → 1 ≤ length r → copiesOf m list w r ≡ copiesFrom m list w (startAt (getD r 0 0)) (drop 1 r)
-      at [] h = absurd (omega arith)
-      at (q ∷ es) h = refl
-
-  pub some-entry : accepting m list w run ≡ true → 1 ≤ length run
-  some-entry a = run-first a .0
-
-  pub writing-start : (slice : List ℕ) (c : Config) → wellFormed m list ≡ true → length w ≤ 255 → accepting m list w run ≡ true
-      → length (copiesOf m list w run) * 2 ≤ length slice → c ≡ startAt (getD run 0 0) → Writing slice slice c 0 0 1
-  writing-start slice c good short a fits at-c =
-      let (some, on) = run-first a in
-      let all = copies-first some ∙ ap (λ (z : Config). copiesFrom m list w z (drop 1 run)) (sym at-c) in
-      let long = pairs-length (copiesOf m list w run) in
-      record {
-        inside = some;
-        good = good;
-        short = short;
-        accepts = a;
-        accepts-on = ap (λ (z : Config). acceptingFrom m list w z (drop 1 run)) at-c ∙ on;
-        room = omega arith;
-        done = omega arith;
-        left = ap pairs all;
-        sum = let s = ap totalStored all in omega arith;
-        holds = paste-zero slice 0 (pairs (copiesOf m list w run));
-      }
-
-  module _ {slice₀ slice : List ℕ} {c : Config} {k total i : ℕ} (r : Writing slice₀ slice c k total i) where
+  module _ {slice₀ slice : List ℕ} {s : Stretch} {k i : ℕ} (r : Writing slice₀ slice s k i) where
     pub slice-length : length slice ≡ length slice₀
-    slice-length = ap length (r .holds) ∙ length-paste slice₀ 0 (pairs (copiesOf m list w run)) k (omega (arith, r .done, r .room)) (r .done)
+    slice-length = ap length (r .holds) ∙ length-paste slice₀ 0 (pairs (entryList n list run)) k (omega (arith, r .done, r .room)) (r .done)
 
-    pub writing-end : length run ≤ i → (total ≡ totalStored (copiesOf m list w run)) × (slice ≡ pairs (copiesOf m list w run) ++ drop (length (copiesOf m list w run) * 2) slice₀)
-    unfolding copiesFrom pairs totalStored
+    pub writing-position : s .position ≤ 255
+    writing-position = let on = read-on n list s (drop i run) in omega (arith, r .small)
+
+    pub writing-end : length run ≤ i → slice ≡ pairs (entryList n list run) ++ drop (length (entryList n list run) * 2) slice₀
+    unfolding entriesFrom withLetters pairs
     writing-end h =
-        let all = pairs (copiesOf m list w run) in
-        let over : drop i run ≡ [] = drop-of-length-le run h in
-        let none : drop k all ≡ [] = r .left ∙ ap (λ (es : List ℕ). pairs (copiesFrom m list w c es)) over in
+        let all = pairs (entryList n list run) in
+        let none : drop k all ≡ [] = r .left ∙ ap (λ (es : List ℕ). pairs (withLetters (entriesFrom n list s es))) (drop-of-length-le run h) in
         let size : length all - k ≡ 0 = sym (length-drop k all) ∙ ap length none in
-        let long = pairs-length (copiesOf m list w run) in
-        let at-end : k ≡ length (copiesOf m list w run) * 2 = omega (arith, r .done) in
-        let index : 0 + k ≡ length (copiesOf m list w run) * 2 = omega arith in
-        let nothing : totalStored (copiesFrom m list w c (drop i run)) ≡ 0 = ap (λ (es : List ℕ). totalStored (copiesFrom m list w c es)) over in (
-          omega (arith, r .sum),
-          r .holds ∙ ap (λ (z : List ℕ). z ++ drop (0 + k) slice₀) (take-all k all (omega arith)) ∙ ap (λ (z : ℕ). all ++ drop z slice₀) index,
-        )
+        let long = pairs-length (entryList n list run) in
+        let index : 0 + k ≡ length (entryList n list run) * 2 = omega (arith, r .done) in
+        r .holds ∙ ap (λ (z : List ℕ). z ++ drop (0 + k) slice₀) (take-all k all (omega arith)) ∙ ap (λ (z : ℕ). all ++ drop z slice₀) index
 
-    module _ (v : Move) (at-v : v ≡ move m list w c (getD run i 0)) (lt : i < length run) where
-      -- the entry's move is allowed, and the rest accepts
-      goes-on : (move m list w c (getD run i 0) .allowed ≡ true) × (acceptingFrom m list w (v .config) (drop (i + 1) run) ≡ true)
-      unfolding acceptingFrom
-      goes-on =
-          let h : acceptingFrom m list w c (getD run i 0 ∷ drop (suc i) run) ≡ true = ap (acceptingFrom m list w c) (sym (drop-cons run i 0 lt)) ∙ r .accepts-on in
-          let (a, on) = and-true (move m list w c (getD run i 0) .allowed) (acceptingFrom m list w (move m list w c (getD run i 0) .config) (drop (suc i) run)) h in
-          (a, ap (λ (z : Move). acceptingFrom m list w (z .config) (drop (i + 1) run)) at-v ∙ ap (λ (n : ℕ). acceptingFrom m list w (move m list w c (getD run i 0) .config) (drop n run)) (add-one i) ∙ on)
+    module _ (next : Stretch) (at-next : next ≡ passed n list s (getD run i 0)) (lt : i < length run) where
+      next-forward : next .start ≤ next .position
+      next-forward = let h = passed-forward n list s (getD run i 0) (r .forward) in let a = ap (λ (z : Stretch). z .start) at-next in let b = ap (λ (z : Stretch). z .position) at-next in omega arith
 
-      rest-copies : copiesFrom m list w c (drop i run)
-          ≡ cond (eqb (getD run i 0) beginEmptying) (copyAt c ∷ copiesFrom m list w (v .config) (drop (i + 1) run)) (copiesFrom m list w (v .config) (drop (i + 1) run))
-      unfolding copiesFrom
-      rest-copies =
-          ap (copiesFrom m list w c) (drop-cons run i 0 lt)
-          ∙ ap (λ (z : Move). cond (eqb (getD run i 0) beginEmptying) (copyAt c ∷ copiesFrom m list w (z .config) (drop (suc i) run)) (copiesFrom m list w (z .config) (drop (suc i) run))) (sym at-v)
-          ∙ ap (λ (n : ℕ). cond (eqb (getD run i 0) beginEmptying) (copyAt c ∷ copiesFrom m list w (v .config) (drop n run)) (copiesFrom m list w (v .config) (drop n run))) (sym (add-one i))
+      pub writing-same : withLetters (entriesFrom n list s (drop i run)) ≡ withLetters (entriesFrom n list next (drop (i + 1) run)) → Writing slice₀ slice next k (i + 1)
+      writing-same same =
+          let read = read-next n list run s next i at-next lt in
+          record { forward = next-forward; small = omega (arith, r .small); room = r .room; done = r .done; left = r .left ∙ ap pairs same; holds = r .holds }
 
-      pub writing-other : (getD run i 0 ≡ 65534 → ⊥) → Writing slice₀ slice (v .config) k total (i + 1)
-      writing-other ne =
-          let same = rest-copies ∙ sym (second _ (ne-eqb (getD run i 0) beginEmptying ne) refl) in
-          record {
-            inside = omega arith;
-            good = r .good;
-            short = r .short;
-            accepts = r .accepts;
-            accepts-on = goes-on .1;
-            room = r .room;
-            done = r .done;
-            left = r .left ∙ ap pairs same;
-            sum = let s = ap totalStored same in omega (arith, r .sum);
-            holds = r .holds;
-          }
-
-      module _ (is : getD run i 0 ≡ 65534) where
-        same : copiesFrom m list w c (drop i run) ≡ copyAt c ∷ copiesFrom m list w (v .config) (drop (i + 1) run)
-        same = rest-copies ∙ sym (first _ (eq-eqb (getD run i 0) beginEmptying is) refl)
-
-        left-now : drop k (pairs (copiesOf m list w run)) ≡ c .start ∷ (c .end - c .start) ∷ pairs (copiesFrom m list w (v .config) (drop (i + 1) run))
+      module _ (copy : withLetters (entriesFrom n list s (drop i run)) ≡ stretchCopy s ∷ withLetters (entriesFrom n list next (drop (i + 1) run))) where
+        left-now : drop k (pairs (entryList n list run)) ≡ s .start ∷ (s .position - s .start) ∷ pairs (withLetters (entriesFrom n list next (drop (i + 1) run)))
         unfolding pairs
-        left-now = r .left ∙ ap pairs same
+        left-now = r .left ∙ ap pairs copy
 
-        sum-now : total + ((c .end - c .start) + totalStored (copiesFrom m list w (v .config) (drop (i + 1) run))) ≡ totalStored (copiesOf m list w run)
-        unfolding totalStored
-        sum-now = ap (λ (z : List Copy). total + totalStored z) (sym same) ∙ r .sum
-
-        pub record CopyRoom : Type 0 where
-          pub forward : c .start ≤ c .end
-          pub small : c .end ≤ 255
-          pub place : k + 1 < length slice
-          pub sum-small : total + (c .end - c .start) ≤ 255
-
-        pub copy-room : CopyRoom
+        pub copy-room : k + 1 < length slice
         copy-room =
-            let p = move-from m list w c (getD run i 0) (goes-on .0) in
-            let size : length (pairs (copiesOf m list w run)) - k ≡ suc (suc (length (pairs (copiesFrom m list w (v .config) (drop (i + 1) run)))))
-            = sym (length-drop k (pairs (copiesOf m list w run))) ∙ ap length left-now in
-            let whole = total-fits m list w run (r .good) (r .accepts) in
-            let now = sum-now in
+            let size : length (pairs (entryList n list run)) - k ≡ suc (suc (length (pairs (withLetters (entriesFrom n list next (drop (i + 1) run))))))
+            = sym (length-drop k (pairs (entryList n list run))) ∙ ap length left-now in
             let same-size = slice-length in
-            record {
-              forward = p .forward;
-              small = omega (arith, p .behind, p .in-word, r .short);
-              place = omega (arith, r .room);
-              sum-small = omega (arith, r .short);
-            }
+            omega (arith, r .room)
 
-        pub writing-copy : Writing slice₀ (set (set slice k (c .start)) (k + 1) (c .end - c .start)) (v .config) (k + 2) (total + (c .end - c .start)) (i + 1)
+        pub writing-copy : Writing slice₀ (set (set slice k (s .start)) (k + 1) (s .position - s .start)) next (k + 2) (i + 1)
         writing-copy =
-            let all = pairs (copiesOf m list w run) in
-            let size : length all - k ≡ suc (suc (length (pairs (copiesFrom m list w (v .config) (drop (i + 1) run))))) = sym (length-drop k all) ∙ ap length left-now in
+            let all = pairs (entryList n list run) in
+            let size : length all - k ≡ suc (suc (length (pairs (withLetters (entriesFrom n list next (drop (i + 1) run)))))) = sym (length-drop k all) ∙ ap length left-now in
             let (store₁, left₁) = store-next slice₀ slice all k (r .holds) (r .room) left-now in
-            let (store₂, left₂) = store-next slice₀ (set slice k (c .start)) all (k + 1) store₁ (r .room) left₁ in
+            let (store₂, left₂) = store-next slice₀ (set slice k (s .start)) all (k + 1) store₁ (r .room) left₁ in
             let two : k + 1 + 1 ≡ k + 2 = omega arith in
+            let read = read-next n list run s next i at-next lt in
             record {
-              inside = omega arith;
-              good = r .good;
-              short = r .short;
-              accepts = r .accepts;
-              accepts-on = goes-on .1;
+              forward = next-forward;
+              small = omega (arith, r .small);
               room = r .room;
               done = omega arith;
-              left = ap (λ (n : ℕ). drop n all) (sym two) ∙ left₂;
-              sum = let now = sum-now in omega arith;
+              left = ap (λ (j : ℕ). drop j all) (sym two) ∙ left₂;
               holds = store₂ ∙ ap (paste slice₀ 0 all) two;
             }
+
+-- The loop that adds
+
+added : (ks : List Copy) (rest : List ℕ) (k : ℕ) → k < length ks → totalBack (drop k ks) ≡ totalBack (drop (k + 1) ks) + getD (pairs ks ++ rest) (k * 2 + 1) 0
+unfolding pairs totalBack
+added [] rest k lt = absurd (omega arith)
+added (c ∷ ks) rest zero lt = refl
+added (c ∷ ks) rest (suc k) lt =
+    let behind : drop (suc k + 1) (c ∷ ks) ≡ drop (k + 1) ks = ap (λ (j : ℕ). drop j (c ∷ ks)) {x = suc k + 1} {y = suc (k + 1)} (omega arith) in
+    let place : suc k * 2 + 1 ≡ suc (suc (k * 2 + 1)) = omega arith in
+    added ks rest k (omega arith)
+    ∙ ap (λ (l : List Copy). totalBack l + getD (pairs ks ++ rest) (k * 2 + 1) 0) (sym behind)
+    ∙ ap (λ (j : ℕ). totalBack (drop (suc k + 1) (c ∷ ks)) + getD (c .start ∷ c .stored ∷ (pairs ks ++ rest)) j 0) (sym place)
+
+module _ (slice : List ℕ) (count : ℕ) where
+  pub record Adding (total k : ℕ) : Type 0 where
+    pub inside : k ≤ count
+    pub small : total ≤ (count - k) * 65535
+    pub sum : (ks : List Copy) (rest : List ℕ) → slice ≡ pairs ks ++ rest → count ≡ length ks → total ≡ totalBack (drop k ks)
+
+  pub adding-start : Adding 0 count
+  unfolding totalBack
+  adding-start = record {
+    inside = omega arith;
+    small = omega arith;
+    sum = λ ks rest at-slice size. sym (ap totalBack (drop-of-length-le ks {i = count} (omega arith)));
+  }
+
+  pub adding-copy : {total k : ℕ} → Adding total k → 0 < k → getD slice ((k - 1) * 2 + 1) 0 ≤ 65535 → Adding (total + getD slice ((k - 1) * 2 + 1) 0) (k - 1)
+  adding-copy {total} {k} r some fits = record {
+    inside = omega (arith, r .inside);
+    small = omega (arith, r .inside, r .small);
+    sum = λ ks rest at-slice size.
+        let h = added ks rest (k - 1) (omega (arith, r .inside)) in
+        let back : totalBack (drop (k - 1 + 1) ks) ≡ totalBack (drop k ks) = ap (λ (j : ℕ). totalBack (drop j ks)) {x = k - 1 + 1} {y = k} (omega arith) in
+        let value : getD slice ((k - 1) * 2 + 1) 0 ≡ getD (pairs ks ++ rest) ((k - 1) * 2 + 1) 0 = ap (λ (l : List ℕ). getD l ((k - 1) * 2 + 1) 0) at-slice in
+        omega (arith, r .sum ks rest at-slice size);
+  }
+
+  pub adding-end : {total k : ℕ} → Adding total k → k ≤ 0 → (ks : List Copy) (rest : List ℕ) → slice ≡ pairs ks ++ rest → count ≡ length ks → total ≡ totalBack ks
+  adding-end {total} {k} r none ks rest at-slice size = r .sum ks rest at-slice size ∙ ap (λ (j : ℕ). totalBack (drop j ks)) {x = k} {y = 0} (omega arith)
 
 -- The public call
 
@@ -269,7 +260,7 @@ module _ (m : Machine) (list w run slice : List ℕ) where
       → (r ≡ copiesAnswer m list w run (length slice)) × (after ≡ copiesAfter m list w run slice) × (copiedValues r ≡ copiesValues m list w run (length slice))
   unfolding copiesAnswer copiesValues
   copies-says r after (a, s) =
-      (a, s, ap copiedValues a ∙ by (eqb (copiesRefusal m list w run (length slice) .number) 0) (copiesRefusal m list w run (length slice)) (length (copiesOf m list w run)) (totalStored (copiesOf m list w run)))
+      (a, s, ap copiedValues a ∙ by (eqb (copiesRefusal m list w run (length slice) .number) 0) (copiesRefusal m list w run (length slice)) (length (copyList m list w run)) (totalBack (copyList m list w run)))
     where
       by : (b : Bool) (f : Refusal) (n total : ℕ)
           → copiedValues (cond b (Listed n total) (Refused f))
@@ -278,43 +269,53 @@ module _ (m : Machine) (list w run slice : List ℕ) where
       by false f n total = refl
 
 module _ (m : Machine) (list w run slice : List ℕ) (n : ℕ) (at-n : n ≡ tableAndWord longestCopied m list w) where
-  -- the answer and the slice, by the refusal
+  -- the answer and the slice as the contract has them
   abbrev Answers : Copied → List ℕ → Type 0
   Answers r after = (r ≡ copiesAnswer m list w run (length slice)) × (after ≡ copiesAfter m list w run slice)
 
-  refuses : (f : Refusal) → f ≡ copiesRefusal m list w run (length slice) → (f .number ≡ 0 → ⊥) → Answers (Refused f) slice
-  unfolding copiesAnswer copiesAfter
-  refuses f e some =
-      let no : eqb (copiesRefusal m list w run (length slice) .number) 0 ≡ false = ap (λ (z : Refusal). eqb (z .number) 0) (sym e) ∙ ne-eqb (f .number) 0 some in
-      (second _ no (ap Refused e), second _ no refl)
+  as-left : {r : Copied} {after : List ℕ} → Leaves m list w run slice r after → Answers r after
+  as-left (a, s) = (sym a, sym s)
 
-  no-table : (n ≡ 0 → ⊥) → eqb (tableAndWord longestCopied m list w) 0 ≡ false
-  no-table h = ap (λ (z : ℕ). eqb z 0) (sym at-n) ∙ ne-eqb n 0 h
-
-  table : n ≡ 0 → eqb (tableAndWord longestCopied m list w) 0 ≡ true
-  table h = ap (λ (z : ℕ). eqb z 0) (sym at-n) ∙ eq-eqb n 0 h
-
-  pub refused-early : (n ≡ 0 → ⊥) → Answers (Refused (refusal n)) slice
-  unfolding copiesRefusal
-  refused-early h = refuses (refusal n) (second _ (no-table h) (ap refusal at-n)) h
+  pub early : (n ≡ 0 → ⊥) → Answers (Refused (refusal n)) slice
+  early h =
+      let (a, s) = as-left (laws.refused-first m list w run slice (λ (z : tableAndWord longestCopied m list w ≡ 0). h (at-n ∙ z))) in
+      (ap (λ (z : ℕ). Refused (refusal z)) at-n ∙ a, s)
 
   module _ (good : n ≡ 0) where
-    pub refused-run : accepting m list w run ≡ false → Answers (Refused (refusal 14)) slice
-    unfolding copiesRefusal
-    refused-run h = refuses (refusal 14) (first _ (table good) (second _ h refl)) (λ (z : _≡_ {A = ℕ} 14 0). omega arith)
+    tested : tableAndWord longestCopied m list w ≡ 0
+    tested = sym at-n ∙ good
 
-    module _ (a : accepting m list w run ≡ true) (count : ℕ) (at-count : count ≡ length (copiesOf m list w run)) where
-      pub refused-room : length slice < count * 2 → Answers (Refused (record { number = 20; needed = count * 2 })) slice
-      unfolding copiesRefusal copiesNeed
-      refused-room h =
-          refuses (record { number = 20; needed = count * 2 })
-          (first _ (table good) (first _ a (second _ (lt-leb (length (copiesOf m list w run) * 2) (length slice) (omega arith)) (ap (λ (z : ℕ). record { number = 20; needed = z * 2 }) at-count))))
-          (λ (z : _≡_ {A = ℕ} 20 0). omega arith)
+    pub not-accepting : accepting m list w run ≡ false → Answers (Refused (refusal 14)) slice
+    not-accepting h = as-left (laws.refused-run m list w run slice tested h)
 
-      pub listed : count * 2 ≤ length slice → (total : ℕ) → total ≡ totalStored (copiesOf m list w run) → (after : List ℕ)
-          → after ≡ pairs (copiesOf m list w run) ++ drop (length (copiesOf m list w run) * 2) slice → Answers (Listed count total) after
-      unfolding copiesRefusal copiesAnswer copiesAfter copiesNeed
-      listed h total at-total after at-after =
-          let none : refusal 0 ≡ copiesRefusal m list w run (length slice) = first _ (table good) (first _ a (first _ (le-leb (length (copiesOf m list w run) * 2) (length slice) (omega arith)) refl)) in
-          let yes : eqb (copiesRefusal m list w run (length slice) .number) 0 ≡ true = ap (λ (z : Refusal). eqb (z .number) 0) (sym none) in
-          (first _ yes (ap (λ (z : ℕ). Listed z total) at-count ∙ ap (Listed (length (copiesOf m list w run))) at-total), first _ yes at-after)
+    module _ (a : accepting m list w run ≡ true) where
+      in-order : (wellFormed m list ≡ true) × (length w ≤ 255)
+      in-order = let all = table-good 255 m list w tested in (all .0, all .1)
+
+      told : entryList (m .transitions) list run ≡ copyList m list w run
+      told = entries-are m list w (in-order .0) run a
+
+      pub entries-fit : (m .transitions * 3 ≤ length list) × (entriesRead (m .transitions) list run ≤ 255)
+      entries-fit = let read = entries-read m list w (in-order .0) run a in let short = in-order .1 in (rules m list (in-order .0) .list-fits, omega arith)
+
+      module _ (count : ℕ) (at-count : count ≡ length (entryList (m .transitions) list run)) where
+        count-is : count ≡ length (copyList m list w run)
+        count-is = at-count ∙ ap length told
+
+        pub count-few : count ≤ 127
+        unfolding copiesNeed
+        count-few = let is = count-is in let fits = need-fits m list w run (in-order .0) a in let short = in-order .1 in omega arith
+
+        pub no-room : length slice < count * 2 → Answers (Refused (record { number = 20; needed = count * 2 })) slice
+        no-room h =
+            let is = count-is in
+            let (answer, kept) = as-left (laws.refused-room m list w run slice tested a (omega arith)) in
+            (ap (λ (z : ℕ). Refused (record { number = 20; needed = z * 2 })) is ∙ answer, kept)
+
+        pub listed : count * 2 ≤ length slice → (after : List ℕ) → after ≡ pairs (entryList (m .transitions) list run) ++ drop (length (entryList (m .transitions) list run) * 2) slice
+            → (total : ℕ) → ((ks : List Copy) (rest : List ℕ) → after ≡ pairs ks ++ rest → count ≡ length ks → total ≡ totalBack ks) → Answers (Listed count total) after
+        listed h after at-after total at-total =
+            let is = count-is in
+            let holds = at-after ∙ ap (λ (ks : List Copy). pairs ks ++ drop (length ks * 2) slice) told in
+            let (answer, left) = as-left (laws.listed-all m list w run slice tested a (omega arith)) in
+            (ap (λ (z : ℕ). Listed z total) is ∙ ap (Listed (length (copyList m list w run))) (at-total (copyList m list w run) _ holds is) ∙ answer, holds ∙ left)

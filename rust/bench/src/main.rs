@@ -2,17 +2,19 @@
 //!
 //! Each section prints its own table. With names after `--`, only the sections named run: `checking`, `sheet`,
 //! `recognize` (with a run, one call a word), `words` (yes or no for a list of words in one call), `listing` (the same by
-//! the listing program, as a process), `reach` (the states that runs reach, one call a word), `survey`, `common`,
-//! `command` (the command beside pcre2grep). A further call is measured by a function like [`checking::section`] and one
-//! more line in `main`.
+//! the listing program, as a process), `reach` (the states that runs reach, one call a word), `copies` (the copy list of a
+//! run), `survey`, `common`, `command` (the command beside pcre2grep). A further call is measured by a function like
+//! [`checking::section`] and one more line in `main`.
 
 mod checking;
 mod command;
 mod common;
+mod copies;
 mod listing;
 mod measure;
 mod plain;
 mod plain_common;
+mod plain_copies;
 mod plain_decide;
 mod plain_listing;
 mod plain_moves;
@@ -27,13 +29,14 @@ mod survey;
 mod words;
 
 fn main() {
-    let sections: [(&str, fn()); 9] = [
+    let sections: [(&str, fn()); 10] = [
         ("checking", checking::section),
         ("sheet", sheet::section),
         ("recognize", recognize::section),
         ("words", words::section),
         ("listing", listing::section),
         ("reach", reach::section),
+        ("copies", copies::section),
         ("survey", survey::section),
         ("common", common::section),
         ("command", command::section),

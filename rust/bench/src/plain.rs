@@ -44,6 +44,15 @@ pub fn keeps_rules(machine: &Machine, list: &[u16]) -> bool {
     true
 }
 
+/// Whether the machine has every letter of the word.
+pub fn has_letters(machine: &Machine, word: &[u8]) -> bool {
+    // Letter 0 becomes 255, which is above every count.
+    let greatest = word
+        .iter()
+        .fold(0, |greatest, letter| letter.wrapping_sub(1).max(greatest));
+    word.is_empty() || usize::from(greatest) < machine.letters
+}
+
 /// Whether the run accepts the word, or the number of the refusal.
 pub fn check_run(machine: &Machine, list: &[u16], word: &[u8], run: &[u16]) -> Result<bool, u8> {
     if !keeps_rules(machine, list) {
@@ -52,18 +61,23 @@ pub fn check_run(machine: &Machine, list: &[u16], word: &[u8], run: &[u16]) -> R
     if word.len() > LONGEST_WORD {
         return Err(9);
     }
-    // Letter 0 becomes 255, which is above every count.
-    let greatest = word
-        .iter()
-        .fold(0, |greatest, letter| letter.wrapping_sub(1).max(greatest));
-    if !word.is_empty() && usize::from(greatest) >= machine.letters {
+    if !has_letters(machine, word) {
         return Err(8);
     }
-    Ok(accepts(&machine.marks, &list[..3 * machine.transitions], word, run).is_some())
+    Ok(accepts(machine, list, word, run, |_, _| {}).is_some())
 }
 
-/// Follows the run; `None` as soon as it cannot accept.
-fn accepts(marks: &[u8; 64], list: &[u16], word: &[u8], run: &[u16]) -> Option<()> {
+/// Follows the run; `None` as soon as it cannot accept. For each copy that it meets, `copied` gets the position where
+/// storing began and the number of letters stored. The machine and its list keep the rules.
+#[inline]
+pub fn accepts(
+    machine: &Machine,
+    list: &[u16],
+    word: &[u8],
+    run: &[u16],
+    mut copied: impl FnMut(usize, usize),
+) -> Option<()> {
+    let (marks, list) = (&machine.marks, &list[..3 * machine.transitions]);
     let (&first, entries) = run.split_first()?;
     let mut state = usize::from(first);
     let mut mark = *marks.get(state)?;
@@ -110,6 +124,7 @@ fn accepts(marks: &[u8; 64], list: &[u16], word: &[u8], run: &[u16]) -> Option<(
             BEGIN_EMPTYING if mode == Mode::Buffering && mark & MATCHING != 0 => {
                 mode = Mode::Emptying;
                 end = position;
+                copied(start, end - start);
             }
             BACK_TO_NORMAL if mode == Mode::Emptying && start == end && mark & MATCHING != 0 => {
                 mode = Mode::Normal;

@@ -5,7 +5,7 @@
 //! - [`Move`]: one entry that is allowed, with the configurations before and after it; [`Move::line`] has it in words.
 //! - [`Fault`]: why a run does not accept; [`Fault::sentence`] has it in words.
 //! - [`fault`]: the fault of a run, or that it accepts, as [`zagvirk::check_run`] says.
-//! - [`copies`]: the copies of an accepting run in words.
+//! - [`copies`]: the copies with letters of an accepting run, in words.
 
 use crate::sentences::{counted, has, transition, Spelling};
 use zagvirk::recognize::LONGEST_RECOGNIZED;
@@ -487,8 +487,8 @@ impl End {
     }
 }
 
-/// The copies of an accepting run in words, a line each behind one with their number: where each began, and the letters
-/// that were stored.
+/// The copies with letters of an accepting run in words, a line each behind one with their number: which letters of the
+/// word were stored.
 ///
 /// Refuses as [`zagvirk::copies::list_copies`] does, but for the length of its slice.
 pub fn copies(
@@ -497,9 +497,8 @@ pub fn copies(
     run: &[u16],
     spelling: Spelling,
 ) -> Result<Vec<String>, Refusal> {
-    let begun = run.iter().filter(|&&entry| entry == BEGIN_EMPTYING).count();
-    // The start state may be the same number: then the slice is one copy longer than needed.
-    let mut list = vec![0; 2 * begun];
+    // The letters of each copy stand twice in the word, so two elements for each are not more than it has letters.
+    let mut list = vec![0; word.len()];
     let listed = zagvirk::copies::list_copies(table, word, run, &mut list)?;
     let mut lines = vec![match listed.count {
         0 => "no copy".to_string(),
@@ -523,10 +522,8 @@ pub fn copies(
 /// One copy: where storing began and what was stored.
 fn copied(word: &[u8], place: usize, letters: usize, spelling: Spelling) -> String {
     let stored = word.get(place..place + letters).unwrap_or(&[]);
-    match (letters, place == word.len()) {
-        (0, true) => "  nothing, at the end of the word".to_string(),
-        (0, false) => format!("  nothing, before letter {}", place + 1),
-        (1, _) => format!("  letter {}: {}", place + 1, spelling.word(stored)),
+    match letters {
+        1 => format!("  letter {}: {}", place + 1, spelling.word(stored)),
         _ => format!(
             "  letters {} to {}: {}",
             place + 1,
@@ -606,7 +603,7 @@ mod tests {
         );
         assert_eq!(
             copies(table, &[1], &run, Spelling::Signs).unwrap(),
-            ["1 copy, 0 letters:", "  nothing, at the end of the word"]
+            ["no copy"]
         );
         let plain = Machine::new(1, 1, &[1, 2]);
         let plain = Table::new(&plain, &[0, 1, 1]);
@@ -616,6 +613,38 @@ mod tests {
         );
         let refused = copies(plain, &[1], &[0], Spelling::Signs);
         assert_eq!(refused, Err(Refusal::NotAccepting));
+    }
+
+    #[test]
+    fn copies_of_nothing_among_others() {
+        // T with an epsilon transition from its last state back to its first.
+        let machine = Machine::new(2, 7, &[5, 0, 10]);
+        let list = [
+            0, 0, 1, 1, 0, 2, 1, 1, 1, 1, 2, 1, 2, 0, 0, 2, 1, 2, 2, 2, 2,
+        ];
+        let table = Table::new(&machine, &list);
+        let nothing = &[65_533, 0, 1, 65_534, 65_535][..];
+        let a = &[65_533, 0, 2, 1, 65_534, 5, 65_535][..];
+        let shown = |word: &[u8], parts: &[&[u16]]| {
+            let run = [&[0], parts.join(&4).as_slice()].concat();
+            copies(table, word, &run, Spelling::Signs).unwrap()
+        };
+        assert_eq!(shown(&[], &[nothing; 40]), ["no copy"]);
+        assert_eq!(
+            shown(&[1, 1], &[nothing, a, nothing, nothing]),
+            ["1 copy, 1 letter:", "  letter 1: \"a\""]
+        );
+        assert_eq!(
+            shown(&[1; 4], &[nothing, a, nothing, a, nothing]),
+            [
+                "2 copies, 2 letters in all:",
+                "  letter 1: \"a\"",
+                "  letter 3: \"a\""
+            ]
+        );
+        let lines = shown(&[1; 254], &[a; 127]);
+        assert_eq!(lines.len(), 128);
+        assert_eq!(lines[127], "  letter 253: \"a\"");
     }
 
     /// The sentence of the fault of a run of T.

@@ -24,6 +24,16 @@ const ABAB_IN_WORDS: &str = "\
   letters 1 to 2: \"ab\"
 ";
 
+const NOTHING_IN_WORDS: &str = "\
+0  start in state 0
+1  begin storing in state 0
+2  nothing read by transition 0: 0 → 1, storing, nothing yet
+3  nothing read by transition 1: 1 → 2, storing, nothing yet
+4  begin matching in state 2, nothing left to match
+5  back to normal in state 2
+no copy
+";
+
 const WHY: &str = "zagvirk: 'zagvirk why' with the same arguments says why not\n";
 
 #[test]
@@ -36,6 +46,7 @@ fn a_run_in_words() {
     run(&["run", "table.txt", "1 2 1 2", "--raw"]).is(0, &format!("{RUN_OF_ABAB}\n"), "");
     run(&["run", "--raw", "table.txt", "abba"]).is(1, "no\n", "");
     run(&["run", "--raw", "table.txt", ""]).is(0, "0 65533 0 1 65534 65535\n", "");
+    run(&["run", "table.txt", ""]).is(0, NOTHING_IN_WORDS, "");
     let table = place.read("table.txt");
     zagvirk(["run", "-", "abab"])
         .input(table)
@@ -147,11 +158,8 @@ fn copies_of_a_run_and_refusal_14() {
             .run()
     };
     copies("abab", RUN_OF_ABAB).is(0, "yes\n1 copy, 2 letters:\n  letters 1 to 2: \"ab\"\n", "");
-    copies("", "0 65533 0 1 65534 65535").is(
-        0,
-        "yes\n1 copy, 0 letters:\n  nothing, at the end of the word\n",
-        "",
-    );
+    // A copy of no letters is not listed.
+    copies("", "0 65533 0 1 65534 65535").is(0, "yes\nno copy\n", "");
     copies("abab", "0").is(
         2,
         "",
@@ -159,6 +167,32 @@ fn copies_of_a_run_and_refusal_14() {
          ends: state 0 is not final; it has read 0 of 4 letters (refusal 14)\n",
     );
     copies(&"a".repeat(256), "0").fails_with("256 letters, at most 255 are allowed (refusal 9)");
+}
+
+/// Doubled words one after another: copies of no letters stand in the run and not among the copies.
+#[test]
+fn copies_of_no_letters() {
+    let place = Place::new();
+    let back = "    2    0    0\n    2    1    2\n";
+    let sheet = common::TABLE_T
+        .replace("    6\n", "    7\n")
+        .replace("    2    1    2\n", back);
+    place.file("table.txt", sheet);
+    let nothing = "65533 0 1 65534 65535";
+    let (ab, b) = ("65533 0 2 3 1 65534 5 6 65535", "65533 0 3 1 65534 6 65535");
+    let copies = |word: &str, parts: &[&str]| {
+        let run = format!("0 {}", parts.join(" 4 "));
+        zagvirk(["check-run", "--copies", "table.txt", word, &run])
+            .inside(&place)
+            .run()
+    };
+    copies("", &[nothing; 3]).is(0, "yes\nno copy\n", "");
+    copies("abab", &[nothing, ab]).is(0, "yes\n1 copy, 2 letters:\n  letters 1 to 2: \"ab\"\n", "");
+    copies("ababbb", &[ab, nothing, nothing, b, nothing]).is(
+        0,
+        "yes\n2 copies, 3 letters in all:\n  letters 1 to 2: \"ab\"\n  letter 5: \"b\"\n",
+        "",
+    );
 }
 
 #[test]

@@ -1,6 +1,7 @@
 //! Comparison of the proved calls with the reference. The functions here make one comparison each; the tests choose
 //! the inputs and print how many cases they compared.
 
+pub mod accepting_runs;
 pub mod c;
 pub mod calls;
 pub mod columns;

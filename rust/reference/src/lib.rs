@@ -14,7 +14,7 @@
 //! - [`sheet`]: reader and writer of sheets.
 //! - [`spelling`]: written words to letters.
 //! - [`product`]: the joined machine.
-//! - [`copies`]: the copy list of a run.
+//! - [`copies`]: the copy list of a run, and all its copies.
 //! - [`common`]: a shortest common word of two small machines.
 //! - [`relations`]: the least number of letters of a word that a small machine accepts, for words of any length.
 //! - [`listing`]: the listing program as a function from bytes to bytes.

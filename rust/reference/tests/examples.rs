@@ -2,7 +2,7 @@
 
 use reference::accepts::{accept_words, accepts};
 use reference::common::{self, Common};
-use reference::copies::{copies, Copies};
+use reference::copies::{all_copies, copies, Copies};
 use reference::listing::listing;
 use reference::moves::{accepting, check_run_call, step, step_call};
 use reference::product::join;
@@ -425,14 +425,44 @@ fn copy_lists() {
     refused(call(&[3], &[], &mut []), 8, 0);
     refused(call(&[3; 256], &[], &mut []), 9, 0);
     refused(copies(&record, &list[1..], &[3; 256], &[], &mut []), 16, 0);
+    // An empty copy alone: nothing is listed, and no element is needed.
+    let run = [0, 65533, 0, 1, 65534, 65535];
+    assert_eq!(all_copies(&table_t(), &[], &run), Some(vec![(0, 0)]));
+    let answer = call(&[], &run, &mut []);
+    assert_eq!(answer, Ok(Copies { count: 0, total: 0 }));
+    refused(call(&[], &run[..5], &mut []), 14, 0);
+    assert_eq!(all_copies(&table_t(), &[], &run[..5]), None);
     // Two copies, the second one empty.
     let m = Machine::new(1, &[5, 10], &[(0, 1, 1), (0, 0, 1), (1, 1, 1), (1, 0, 0)]);
     let (record, list) = m.record();
     let run = [0, 65533, 1, 65534, 3, 65535, 2, 65533, 0, 65534, 65535];
     assert!(accepting(&m, &[1, 1], &run));
+    assert_eq!(all_copies(&m, &[1, 1], &run), Some(vec![(0, 1), (2, 0)]));
+    let mut out = vec![9; 4];
     let answer = copies(&record, &list, &[1, 1], &run, &mut out);
-    assert_eq!(answer, Ok(Copies { count: 2, total: 1 }));
-    assert_eq!(out, [0, 1, 2, 0]);
+    assert_eq!(answer, Ok(Copies { count: 1, total: 1 }));
+    assert_eq!(out, [0, 1, 9, 9]);
+    refused(copies(&record, &list, &[1, 1], &run, &mut [9]), 20, 2);
+    // Empty copies at the start, twice in a row between two others, and at the end.
+    let empty = [65533, 0, 65534, 65535, 2];
+    let one = [65533, 1, 65534, 3, 65535, 2];
+    let mut run = vec![0];
+    for part in [&empty[..], &one, &empty, &empty, &one, &empty] {
+        run.extend(part);
+    }
+    // It ends in state 1.
+    run.pop();
+    let word = [1; 4];
+    assert_eq!(
+        all_copies(&m, &word, &run),
+        Some(vec![(0, 0), (0, 1), (2, 0), (2, 0), (2, 1), (4, 0)])
+    );
+    out.push(9);
+    let answer = copies(&record, &list, &word, &run, &mut out);
+    assert_eq!(answer, Ok(Copies { count: 2, total: 2 }));
+    assert_eq!(out, [0, 1, 2, 1, 9]);
+    refused(copies(&record, &list, &word, &run, &mut out[..3]), 20, 4);
+    assert_eq!(out, [0, 1, 2, 1, 9]);
     // A run without copies has an empty copy list.
     let (record, list) = some_two().record();
     let answer = copies(&record, &list, &[2], &[0, 1], &mut []);

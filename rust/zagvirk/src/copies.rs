@@ -17,7 +17,7 @@ pub struct CopiesRecord {
 #[derive(Clone, Copy, PartialEq, Eq, Debug)]
 #[non_exhaustive]
 pub struct Copies {
-    /// The number of copies; the list has two elements for each.
+    /// The number of copies with letters; the list has two elements for each.
     pub count: usize,
     /// The number of letters stored in all.
     pub total: usize,
@@ -61,9 +61,13 @@ pub fn list_copies_record(
     }
 }
 
-/// The number of copies of an accepting run and the number of letters stored in all. For each entry
-/// [`crate::BEGIN_EMPTYING`] of the run, in order, the position where buffering began and the number of letters stored
-/// are written to the front of `copies`; the rest of `copies` stays as it was, and after a refusal all of it.
+/// The number of copies of an accepting run that have letters, and the number of letters stored in all. For each of
+/// these copies, in the run's order, the position where buffering began and the number of letters stored are written to
+/// the front of `copies`; the rest of `copies` stays as it was, and after a refusal all of it. A copy is an entry
+/// [`crate::BEGIN_EMPTYING`] of the run; one of no letters is not listed.
+///
+/// `copies` needs two elements for each copy that is listed. The letters of each stand twice in the word, so a slice of
+/// as many elements as the word has letters is always long enough.
 ///
 /// Refuses, in this order: [`Refusal::MachineBroken`], [`Refusal::WordTooLong`] over 255 letters,
 /// [`Refusal::WordLetter`], [`Refusal::NotAccepting`], [`Refusal::CopiesTooShort`].
@@ -80,6 +84,11 @@ pub fn list_copies_record(
 /// let listed = list_copies(doubled, &[1, 2, 1, 2], &run, &mut copies).unwrap();
 /// assert_eq!((listed.count, listed.total), (1, 2));
 /// assert_eq!(copies, [0, 2, 7]);
+///
+/// // The empty word has a run with a copy of no letters, which is not listed.
+/// let run = [0, 65_533, 0, 1, 65_534, 65_535];
+/// let listed = list_copies(doubled, &[], &run, &mut []).unwrap();
+/// assert_eq!((listed.count, listed.total), (0, 0));
 /// ```
 pub fn list_copies(
     table: Table,

@@ -9,7 +9,7 @@
 //! - [`sheet`]: reading and writing of sheets, the text form of a machine.
 //! - [`spelling`]: written words to letters.
 //! - [`product`]: the product of a machine with a plain machine.
-//! - [`copies`]: the copy list of an accepting run.
+//! - [`copies`]: the copy list of an accepting run, without copies of no letters.
 //! - [`recognize`]: whether a machine accepts a word, with a run.
 //! - [`accepts`]: yes or no without a run, for a word or for each word of a list.
 //! - [`reach`]: the states that runs reach at each position of a word, and why a word is not accepted.

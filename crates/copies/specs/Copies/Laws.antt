@@ -1,20 +1,32 @@
 -- The laws of specs/Copies.antt.
 --
+-- kept-total              == the copies with letters have the total of all copies
+-- total-same              == their total from the last to the first is that of all copies from the first to the last
+-- kept-letters            == each copy that is kept has a letter, so there are no more of them than letters
+-- kept-each               == so the second number of each, as they are written, is not 0
+-- kept-none, none-kept    == none is kept, if and only if all copies are empty
+-- kept-iff                == a copy is kept, if and only if it is there and not empty
+-- Leaves r after          == list_copies answers r and leaves after in the slice
+-- refused-first, refused-run, refused-room, listed-all == it does so, in its four cases: by 16, 9 or 8; by 14; by 20; or the list
 -- owed c t, held c t      == the buffered letters of c still to match in emptying mode, and those stored in buffering mode
 -- storedAt e c            == the letters of the copy that entry e completes in c
 -- Balance c t n next      == from c in mode t to next: letters read in normal mode and twice the n stored ones account for the positions
 -- move-balance            == every allowed move keeps the balance
 -- plain-and-copies        == letters read in normal mode and twice the letters stored make the word's length
--- total-fits              == the total is at most the word's length
+-- total-fits              == twice the total is at most the word's length
+-- need-fits               == so is the length that the list needs
 use Prim.Native.Nat.{ℕ, zero, suc, _+_, _*_, _-_, _≤_, _<_}
-use mathlib.Core.Path.{_≡_, refl, sym, subst}
+use mathlib.Core.Path.{_≡_, refl, sym, ap, _∙_, subst}
 use mathlib.Core.Bool.{Bool, true, false, cond, _&&_, false≢true}
-use mathlib.Core.List.{List, [], _∷_}
+use mathlib.Core.Logic.{_↔_, _⊎_, inl, inr}
+use mathlib.Core.List.{List, [], _∷_, _++_, List·Memᴰ, List·Memᴰ·head, List·Memᴰ·tail, List·Memᴰ·not-nil, List·Memᴰ·cases-cons}
 use native.Mathlib.Omega.{arith}
-use lib.ListN.{length}
-use lib.Dec.{ltb, eqb, eqb·suc-zero}
-use borrow.Author.Tests.{eqb-true, ne-eqb}
+use lib.ListN.{length, getD, drop}
+use lib.Dec.{leb, ltb, eqb, eqb·suc-zero}
+use borrow.Author.Tests.{le-leb, lt-leb, eqb-true, eqb-false, eq-eqb, ne-eqb}
+use Rattle.basics.specs.Search.{allIn}
 use Rattle.basics.specs.Search.Laws.{and-true}
+use Rattle.basics.specs.Search.Loops.{first, second}
 use Rattle.fsbm.specs.Machine.{wellFormed, transitionAt, initial, buffering, matching, final}
 use Rattle.fsbm.specs.Moves.{advanced, readsStored, after, mayChange, changed, move, startAt, isNormal, accepts, acceptingFrom, accepting, beginBuffering, beginEmptying, backToNormal}
 use Rattle.fsbm.specs.declared.machine.Machine.{Machine}
@@ -24,7 +36,137 @@ use Rattle.fsbm.specs.declared.config.Mode.{Mode}
 use Rattle.fsbm.specs.declared.config.Mode.the-variants.{Normal, Buffering, Emptying}
 use Rattle.fsbm.specs.Rules.{rules, Placed}
 use Rattle.fsbm.specs.Moves.Laws.{advanced-fits, move-elim}
-use Rattle.copies.specs.Copies.{copyAt, copiesFrom, copiesOf, totalStored, plainFrom, plainLetters}
+use Rattle.fsbm.specs.Answers.{tableAndWord, refusal}
+use Rattle.fsbm.specs.declared.answer.Refusal.{Refusal}
+use Rattle.copies.specs.declared.Copied.{Copied}
+use Rattle.copies.specs.declared.Copied.the-variants.{Refused, Listed}
+use Rattle.copies.specs.Copies.{Copy, copyAt, copiesFrom, copiesOf, withLetters, copyList, isEmpty, pairs, totalBack, totalForward, plainFrom, plainLetters, longestCopied, copiesNeed, copiesRefusal, copiesAnswer, copiesAfter}
+
+-- Totals
+
+pub kept-total : (ks : List Copy) → totalBack (withLetters ks) ≡ totalBack ks
+unfolding withLetters totalBack
+kept-total [] = refl
+kept-total (k ∷ ks) = at (eqb (k .stored) 0) refl (kept-total ks)
+  where
+    at : (b : Bool) → eqb (k .stored) 0 ≡ b → totalBack (withLetters ks) ≡ totalBack ks → totalBack (cond b (withLetters ks) (k ∷ withLetters ks)) ≡ totalBack ks + k .stored
+    at true h same = let none = eqb-true (k .stored) 0 h in omega arith
+    at false h same = omega arith
+
+forward-on : (n : ℕ) (ks : List Copy) → totalForward n ks ≡ n + totalBack ks
+unfolding totalForward totalBack
+forward-on n [] = omega arith
+forward-on n (k ∷ ks) = let on = forward-on (n + k .stored) ks in omega arith
+
+pub total-same : (ks : List Copy) → totalBack (withLetters ks) ≡ totalForward 0 ks
+total-same ks = let kept = kept-total ks in let on = forward-on 0 ks in omega arith
+
+pub kept-letters : (ks : List Copy) → length (withLetters ks) ≤ totalBack (withLetters ks)
+unfolding withLetters totalBack
+kept-letters [] = omega arith
+kept-letters (k ∷ ks) = at (eqb (k .stored) 0) refl (kept-letters ks)
+  where
+    at : (b : Bool) → eqb (k .stored) 0 ≡ b → length (withLetters ks) ≤ totalBack (withLetters ks)
+        → length (cond b (withLetters ks) (k ∷ withLetters ks)) ≤ totalBack (cond b (withLetters ks) (k ∷ withLetters ks))
+    at true h few = few
+    at false h few = let some : k .stored ≡ 0 → ⊥ = eqb-false (k .stored) 0 h in omega arith
+
+pub kept-each : (ks : List Copy) (rest : List ℕ) (i : ℕ) → i < length (withLetters ks) → 1 ≤ getD (pairs (withLetters ks) ++ rest) (i * 2 + 1) 0
+unfolding withLetters pairs
+kept-each [] rest i lt = absurd (omega arith)
+kept-each (k ∷ ks) rest i lt = at (eqb (k .stored) 0) refl i lt (kept-each ks rest)
+  where
+    at : (b : Bool) → eqb (k .stored) 0 ≡ b → (i : ℕ) → i < length (cond b (withLetters ks) (k ∷ withLetters ks))
+        → ((j : ℕ) → j < length (withLetters ks) → 1 ≤ getD (pairs (withLetters ks) ++ rest) (j * 2 + 1) 0) → 1 ≤ getD (pairs (cond b (withLetters ks) (k ∷ withLetters ks)) ++ rest) (i * 2 + 1) 0
+    at true h i lt each = each i lt
+    at false h zero lt each = let some : k .stored ≡ 0 → ⊥ = eqb-false (k .stored) 0 h in omega arith
+    at false h (suc i) lt each =
+        let place : suc i * 2 + 1 ≡ suc (suc (i * 2 + 1)) = omega arith in
+        let here = each i (omega arith) in
+        subst (λ (j : ℕ). 1 ≤ getD (k .start ∷ k .stored ∷ (pairs (withLetters ks) ++ rest)) j 0) (sym place) here
+
+pub kept-none : (ks : List Copy) → allIn isEmpty ks ≡ true → withLetters ks ≡ []
+unfolding withLetters allIn
+kept-none [] h = refl
+kept-none (k ∷ ks) h = let (here, rest) = and-true (isEmpty k) (allIn isEmpty ks) h in sym (first _ here (sym (kept-none ks rest)))
+
+pub none-kept : (ks : List Copy) → length (withLetters ks) ≡ 0 → allIn isEmpty ks ≡ true
+unfolding withLetters allIn
+none-kept [] h = refl
+none-kept (k ∷ ks) h = at (isEmpty k) h (none-kept ks)
+  where
+    at : (b : Bool) → length (cond b (withLetters ks) (k ∷ withLetters ks)) ≡ 0 → (length (withLetters ks) ≡ 0 → allIn isEmpty ks ≡ true) → (b && allIn isEmpty ks) ≡ true
+    at true h rest = rest h
+    at false h rest = absurd (omega arith)
+
+module _ (k : Copy) where
+  kept-to : (ks : List Copy) → List·Memᴰ k (withLetters ks) → List·Memᴰ k ks × (isEmpty k ≡ false)
+  unfolding withLetters
+  kept-to [] z = absurd (List·Memᴰ·not-nil z)
+  kept-to (x ∷ ks) z = at (isEmpty x) refl z (kept-to ks)
+    where
+      at : (b : Bool) → isEmpty x ≡ b → List·Memᴰ k (cond b (withLetters ks) (x ∷ withLetters ks)) → (List·Memᴰ k (withLetters ks) → List·Memᴰ k ks × (isEmpty k ≡ false))
+          → List·Memᴰ k (x ∷ ks) × (isEmpty k ≡ false)
+      at true h z rest = let (there, some) = rest z in (List·Memᴰ·tail there, some)
+      at false h z rest = by (List·Memᴰ·cases-cons z)
+        where
+          by : (k ≡ x) ⊎ List·Memᴰ k (withLetters ks) → List·Memᴰ k (x ∷ ks) × (isEmpty k ≡ false)
+          by (inl e) = (List·Memᴰ·head e, ap isEmpty e ∙ h)
+          by (inr t) = let (there, some) = rest t in (List·Memᴰ·tail there, some)
+
+  kept-from : (ks : List Copy) → List·Memᴰ k ks → isEmpty k ≡ false → List·Memᴰ k (withLetters ks)
+  unfolding withLetters
+  kept-from ks (List·Memᴰ·head {x = x} {xs = l} d) some =
+      subst (λ (r : List Copy). List·Memᴰ k r) (second _ (sym (ap isEmpty d) ∙ some) refl) (List·Memᴰ·head d)
+  kept-from ks (List·Memᴰ·tail {x = x} {xs = l} z) some = at (isEmpty x) (kept-from l z some)
+    where
+      at : (b : Bool) → List·Memᴰ k (withLetters l) → List·Memᴰ k (cond b (withLetters l) (x ∷ withLetters l))
+      at true there = there
+      at false there = List·Memᴰ·tail there
+
+  pub kept-iff : (ks : List Copy) → List·Memᴰ k (withLetters ks) ↔ (List·Memᴰ k ks × (isEmpty k ≡ false))
+  kept-iff ks = (kept-to ks, λ z. kept-from ks (z .0) (z .1))
+
+-- Answers
+
+module _ (m : Machine) (list w run slice : List ℕ) where
+  -- what list_copies answers, and what it leaves in the slice
+  abbrev pub Leaves : Copied → List ℕ → Type 0
+  Leaves r after = (copiesAnswer m list w run (length slice) ≡ r) × (copiesAfter m list w run slice ≡ after)
+
+  refuses : (f : Refusal) → copiesRefusal m list w run (length slice) ≡ f → (f .number ≡ 0 → ⊥) → Leaves (Refused f) slice
+  unfolding copiesAnswer copiesAfter
+  refuses f e some =
+      let no : eqb (copiesRefusal m list w run (length slice) .number) 0 ≡ false = ap (λ (z : Refusal). eqb (z .number) 0) e ∙ ne-eqb (f .number) 0 some in
+      (sym (second _ no (ap Refused (sym e))), sym (second _ no refl))
+
+  pub refused-first : (tableAndWord longestCopied m list w ≡ 0 → ⊥) → Leaves (Refused (refusal (tableAndWord longestCopied m list w))) slice
+  unfolding copiesRefusal
+  refused-first h = refuses (refusal (tableAndWord longestCopied m list w)) (sym (second _ (ne-eqb (tableAndWord longestCopied m list w) 0 h) refl)) h
+
+  module _ (good : tableAndWord longestCopied m list w ≡ 0) where
+    tested : eqb (tableAndWord longestCopied m list w) 0 ≡ true
+    tested = eq-eqb (tableAndWord longestCopied m list w) 0 good
+
+    pub refused-run : accepting m list w run ≡ false → Leaves (Refused (refusal 14)) slice
+    unfolding copiesRefusal
+    refused-run h = refuses (refusal 14) (sym (first _ tested (second _ h refl))) (λ (z : _≡_ {A = ℕ} 14 0). omega arith)
+
+    module _ (a : accepting m list w run ≡ true) where
+      pub refused-room : length slice < length (copyList m list w run) * 2 → Leaves (Refused (record { number = 20; needed = length (copyList m list w run) * 2 })) slice
+      unfolding copiesRefusal copiesNeed
+      refused-room h =
+          refuses (record { number = 20; needed = length (copyList m list w run) * 2 })
+          (sym (first _ tested (first _ a (second _ (lt-leb (length (copyList m list w run) * 2) (length slice) h) refl))))
+          (λ (z : _≡_ {A = ℕ} 20 0). omega arith)
+
+      pub listed-all : length (copyList m list w run) * 2 ≤ length slice
+          → Leaves (Listed (length (copyList m list w run)) (totalBack (copyList m list w run))) (pairs (copyList m list w run) ++ drop (length (copyList m list w run) * 2) slice)
+      unfolding copiesRefusal copiesAnswer copiesAfter copiesNeed
+      listed-all h =
+          let none : refusal 0 ≡ copiesRefusal m list w run (length slice) = first _ tested (first _ a (first _ (le-leb (length (copyList m list w run) * 2) (length slice) h) refl)) in
+          let yes : eqb (copiesRefusal m list w run (length slice) .number) 0 ≡ true = ap (λ (z : Refusal). eqb (z .number) 0) (sym none) in
+          (sym (first _ yes refl), sym (first _ yes refl))
 
 abbrev owed : Config → Mode → ℕ
 owed c Normal = 0
@@ -91,13 +233,13 @@ module _ (m : Machine) (list w : List ℕ) where
           let other : eqb e beginEmptying ≡ false = ne-eqb e beginEmptying (λ (z : e ≡ beginEmptying). omega arith) in
           subst (λ (t : Bool). Balance c (c .mode) (cond t (c .end - c .start) 0) next) (sym other) b
 
-  total-step : (c : Config) (e : ℕ) (es : List ℕ) → totalStored (copiesFrom m list w c (e ∷ es)) ≡ storedAt e c + totalStored (copiesFrom m list w (move m list w c e .config) es)
-  unfolding copiesFrom totalStored
+  total-step : (c : Config) (e : ℕ) (es : List ℕ) → totalBack (copiesFrom m list w c (e ∷ es)) ≡ storedAt e c + totalBack (copiesFrom m list w (move m list w c e .config) es)
+  unfolding copiesFrom totalBack
   total-step c e es = at (eqb e beginEmptying)
     where
-      at : (b : Bool) → totalStored (cond b (copyAt c ∷ copiesFrom m list w (move m list w c e .config) es) (copiesFrom m list w (move m list w c e .config) es))
-          ≡ cond b (c .end - c .start) 0 + totalStored (copiesFrom m list w (move m list w c e .config) es)
-      at true = refl
+      at : (b : Bool) → totalBack (cond b (copyAt c ∷ copiesFrom m list w (move m list w c e .config) es) (copiesFrom m list w (move m list w c e .config) es))
+          ≡ cond b (c .end - c .start) 0 + totalBack (copiesFrom m list w (move m list w c e .config) es)
+      at true = omega arith
       at false = omega arith
 
   accepts-at : (c : Config) (t : Mode) → (isNormal t ≡ true) → c .position ≡ length w → 0 + 0 * 2 + (c .position + owed c t) ≡ length w + held c t
@@ -106,8 +248,8 @@ module _ (m : Machine) (list w : List ℕ) where
   accepts-at c Emptying h e = absurd (false≢true h)
 
   balance-end : (c : Config) → accepts (m .marks) (length w) c ≡ true
-      → 0 + totalStored (copiesFrom m list w c []) * 2 + (c .position + owed c (c .mode)) ≡ length w + held c (c .mode)
-  unfolding accepts copiesFrom totalStored
+      → 0 + totalBack (copiesFrom m list w c []) * 2 + (c .position + owed c (c .mode)) ≡ length w + held c (c .mode)
+  unfolding accepts copiesFrom totalBack
   balance-end c h =
       let (f, r₁) = and-true (final (m .marks) (c .state)) (isNormal (c .mode) && (eqb (c .start) (c .end) && eqb (c .position) (length w))) h in
       let (n, r₂) = and-true (isNormal (c .mode)) (eqb (c .start) (c .end) && eqb (c .position) (length w)) r₁ in
@@ -115,7 +257,7 @@ module _ (m : Machine) (list w : List ℕ) where
       accepts-at c (c .mode) n (eqb-true (c .position) (length w) p)
 
   balance-from : wellFormed m list ≡ true → (c : Config) (es : List ℕ) → acceptingFrom m list w c es ≡ true
-      → plainFrom m list w c es + totalStored (copiesFrom m list w c es) * 2 + (c .position + owed c (c .mode)) ≡ length w + held c (c .mode)
+      → plainFrom m list w c es + totalBack (copiesFrom m list w c es) * 2 + (c .position + owed c (c .mode)) ≡ length w + held c (c .mode)
   unfolding acceptingFrom plainFrom
   balance-from good c [] h = balance-end c h
   balance-from good c (e ∷ es) h =
@@ -126,15 +268,23 @@ module _ (m : Machine) (list w : List ℕ) where
       let split = total-step c e es in
       omega arith
 
-  pub plain-and-copies : (run : List ℕ) → wellFormed m list ≡ true → accepting m list w run ≡ true
-      → plainLetters m list w run + totalStored (copiesOf m list w run) * 2 ≡ length w
+  plain-and-all : (run : List ℕ) → wellFormed m list ≡ true → accepting m list w run ≡ true
+      → plainLetters m list w run + totalBack (copiesOf m list w run) * 2 ≡ length w
   unfolding accepting plainLetters copiesOf
-  plain-and-copies [] good h = absurd (false≢true h)
-  plain-and-copies (q ∷ es) good h =
+  plain-and-all [] good h = absurd (false≢true h)
+  plain-and-all (q ∷ es) good h =
       let (lt, r) = and-true (ltb q (m .states)) (initial (m .marks) q && acceptingFrom m list w (startAt q) es) h in
       let (i, a) = and-true (initial (m .marks) q) (acceptingFrom m list w (startAt q) es) r in
       let all = balance-from good (startAt q) es a in
       omega arith
 
-  pub total-fits : (run : List ℕ) → wellFormed m list ≡ true → accepting m list w run ≡ true → totalStored (copiesOf m list w run) ≤ length w
-  total-fits run good h = let all = plain-and-copies run good h in omega arith
+  module _ (run : List ℕ) (good : wellFormed m list ≡ true) (accepts : accepting m list w run ≡ true) where
+    pub plain-and-copies : plainLetters m list w run + totalBack (copyList m list w run) * 2 ≡ length w
+    plain-and-copies = let all = plain-and-all run good accepts in let kept = kept-total (copiesOf m list w run) in omega arith
+
+    pub total-fits : totalBack (copyList m list w run) * 2 ≤ length w
+    total-fits = let all = plain-and-copies in omega arith
+
+    pub need-fits : copiesNeed m list w run ≤ length w
+    unfolding copiesNeed
+    need-fits = let few = kept-letters (copiesOf m list w run) in let fits = total-fits in omega arith

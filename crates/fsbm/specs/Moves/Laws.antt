@@ -9,7 +9,6 @@
 -- listed-normal, listed-buffering, listed-emptying == a listed transition that the published definition lets be taken passes
 -- Took                 == what mayTake says of a transition, part by part
 -- move-elim            == an allowed move takes a transition or changes the mode: what holds after both holds after it
--- move-from            == an allowed move starts at a configuration that a move is allowed from
 -- move-takes, move-changes == the move by the number of a transition, and by any other entry
 -- move-stays           == an allowed move of a machine that obeys the rules leads to a configuration that a move is allowed from
 -- move-placed          == the same, with the tests
@@ -191,9 +190,6 @@ module _ (m : Machine) (list w : List ℕ) (c : Config) (e : ℕ) where
     where
       Good : Move → Type 0
       Good v = v .allowed ≡ true → P (v .config)
-
-  pub move-from : move m list w c e .allowed ≡ true → Placed m w c (c .mode)
-  move-from = move-elim (λ d. Placed m w c (c .mode)) (λ p lt t. p) (λ p ge h. p)
 
   pub move-takes : Placed m w c (c .mode) → e < m .transitions → move m list w c e ≡ goes (mayTake (m .marks) w c (transitionAt list e)) (after c (transitionAt list e) (c .mode)) c
   unfolding move

@@ -25,8 +25,9 @@ state, then an entry a move, which is the number of a transition, counted from
 0, or 65533 (begin storing), 65534 (begin matching), 65535 (back to normal).
 'zagvirk run --raw' prints a run so.
 
-      --copies  print what an accepting run copies; one that does not accept is
-                refused (14), and words have at most 255 letters
+      --copies  print what an accepting run copies, without copies of no
+                letters; one that does not accept is refused (14), and words
+                have at most 255 letters
   -h, --help    this text
 
 Exit status: 0 if the run accepts, 1 if it does not, 2 if something is refused

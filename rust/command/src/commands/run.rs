@@ -17,8 +17,8 @@ Usage: zagvirk run [--raw] TABLE WORD
 
 Prints a run by which the table accepts the word, a line for each entry: what
 happens, the states, and the mode and the stored letters after it; then what
-was copied. Or 'no' if the table does not accept the word. Which accepting run
-it is, where there are more, is left open.
+was copied, without copies of no letters. Or 'no' if the table does not accept
+the word. Which accepting run it is, where there are more, is left open.
 
 TABLE is the file of a sheet, '-' is standard input. The word has at most 255
 letters, spelled (abab) or as numbers ('1 2 1 2').
