@@ -6,7 +6,7 @@
  *   zagvirk_write_sheet   a machine's sheet
  *   zagvirk_translate     a written word to letters
  *   zagvirk_join          the product of a machine with a plain machine
- *   zagvirk_list_copies   the copies of an accepting run
+ *   zagvirk_list_copies   the copies with letters of an accepting run
  *   zagvirk_recognize     whether a machine accepts a word, with a run
  *   zagvirk_accepts       whether a machine accepts a word, without a run
  *   zagvirk_accept_words  the same for each word of a list
@@ -251,7 +251,9 @@ typedef struct {
 /* Writes for each copy of an accepting run that has letters, in order, the position where buffering began and the
  * number of letters stored, two elements, to the front of copies. A copy is an entry 65,534 of the run; one of no
  * letters is not listed. The letters of a copy that is listed stand twice in the word, so an array of word_len elements
- * is always long enough.
+ * is always long enough. If all copies are empty, or there is none, 0 copies and total 0 are given, and copies_len may
+ * be 0. The total is added up from the last copy to the first; it is that of all copies of the run.
+ * The letters read in normal mode and twice the total make the word's length.
  *
  * Refuses, in this order: 16, 9 over 255 letters, 8, 14, 20 if copies has fewer than two elements for each copy with
  * letters.

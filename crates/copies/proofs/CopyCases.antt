@@ -7,10 +7,11 @@
 -- counting-start, counting-copy, counting-same, counting-end == the loop begins, meets a copy with letters, meets anything else, ends
 -- Writing ..           == what the loop that writes has done before entry i
 -- writing-start, writing-copy, writing-same, writing-end == the same of it
--- CopyRoom, copy-room  == at a copy with letters: its numbers are small, and there is room for them
+-- counting-position, writing-position == the position is at most longestCopied
+-- copy-room            == at a copy with letters there is room for its two numbers
 -- Adding ..            == what the loop that adds has done once the copies from k on are added
 -- adding-start, adding-copy, adding-end == it begins, adds copy k - 1, ends
--- entries-fit, count-few == the entries stay in the list of transitions and the word; there are no more than 127 copies with letters
+-- entries-fit, count-few == the entries stay in the list of transitions and the word; there are no more than mostCopies copies with letters
 -- early, not-accepting, no-room, listed == the ways through list_copies: its answer and the slice afterwards
 -- copies-says          == the number and values of its answer
 use Prim.Native.Nat.{ℕ, zero, suc, _+_, _*_, _-_, _≤_, _<_}
@@ -37,7 +38,7 @@ use Rattle.copies.specs.declared.Copied.{Copied}
 use Rattle.copies.specs.declared.Copied.the-variants.{Refused, Listed}
 use Rattle.copies.specs.declared.Stretch.{Stretch}
 use Rattle.copies.specs.Copies.{Copy, withLetters, copyList, pairs, totalBack, longestCopied, copiesNeed, copiesRefusal, copiesAnswer, copiesAfter, copiedValues, copiesValues}
-use Rattle.copies.specs.Stretches.{passed, stretchCopy, entriesFrom, readFrom, atFirst, entryList, entriesRead}
+use Rattle.copies.specs.Stretches.{mostCopies, passed, stretchCopy, entriesFrom, readFrom, atFirst, entryList, entriesRead}
 use Rattle.copies.specs.Copies.Laws.{Leaves, need-fits}
 use Rattle.copies.specs.Copies.Laws as laws
 use Rattle.copies.specs.Stretches.Laws.{passed-takes, passed-forward, read-on, entries-are, entries-read}
@@ -72,10 +73,10 @@ module _ (n : ℕ) (list run : List ℕ) (s next : Stretch) (i : ℕ) (at-next :
       ∙ ap (λ (z : Stretch). cond (eqb (getD run i 0) beginEmptying) (stretchCopy s ∷ entriesFrom n list z (drop (suc i) run)) (entriesFrom n list z (drop (suc i) run))) (sym at-next)
       ∙ ap (λ (j : ℕ). cond (eqb (getD run i 0) beginEmptying) (stretchCopy s ∷ entriesFrom n list next (drop j run)) (entriesFrom n list next (drop j run))) (sym (add-one i))
 
-  pub kept-other : (getD run i 0 ≡ 65534 → ⊥) → withLetters (entriesFrom n list s (drop i run)) ≡ withLetters (entriesFrom n list next (drop (i + 1) run))
+  pub kept-other : (getD run i 0 ≡ beginEmptying → ⊥) → withLetters (entriesFrom n list s (drop i run)) ≡ withLetters (entriesFrom n list next (drop (i + 1) run))
   kept-other ne = ap withLetters (rest-copies ∙ sym (second _ (ne-eqb (getD run i 0) beginEmptying ne) refl))
 
-  module _ (is : getD run i 0 ≡ 65534) where
+  module _ (is : getD run i 0 ≡ beginEmptying) where
     one-copy : entriesFrom n list s (drop i run) ≡ stretchCopy s ∷ entriesFrom n list next (drop (i + 1) run)
     one-copy = rest-copies ∙ sym (first _ (eq-eqb (getD run i 0) beginEmptying is) refl)
 
@@ -92,14 +93,14 @@ module _ (n : ℕ) (list run : List ℕ) (s next : Stretch) (i : ℕ) (at-next :
 module _ (n : ℕ) (list run : List ℕ) where
   pub record Counting (s : Stretch) (count i : ℕ) : Type 0 where
     pub few : count ≤ i
-    pub small : readFrom n list s (drop i run) ≤ 255
+    pub small : readFrom n list s (drop i run) ≤ longestCopied
     pub sum : count + length (withLetters (entriesFrom n list s (drop i run))) ≡ length (entryList n list run)
 
-  pub counting-start : entriesRead n list run ≤ 255 → Counting atFirst 0 1
+  pub counting-start : entriesRead n list run ≤ longestCopied → Counting atFirst 0 1
   counting-start small = record { few = omega arith; small = small; sum = omega arith }
 
   module _ {s : Stretch} {count i : ℕ} (r : Counting s count i) where
-    pub counting-position : s .position ≤ 255
+    pub counting-position : s .position ≤ longestCopied
     counting-position = let on = read-on n list s (drop i run) in omega (arith, r .small)
 
     pub counting-end : length run ≤ i → count ≡ length (entryList n list run)
@@ -146,13 +147,13 @@ pairs-length (k ∷ ks) = let h = pairs-length ks in omega arith
 module _ (n : ℕ) (list run : List ℕ) where
   pub record Writing (slice₀ slice : List ℕ) (s : Stretch) (k i : ℕ) : Type 0 where
     pub forward : s .start ≤ s .position
-    pub small : readFrom n list s (drop i run) ≤ 255
+    pub small : readFrom n list s (drop i run) ≤ longestCopied
     pub room : length (pairs (entryList n list run)) ≤ length slice₀
     pub done : k ≤ length (pairs (entryList n list run))
     pub left : drop k (pairs (entryList n list run)) ≡ pairs (withLetters (entriesFrom n list s (drop i run)))
     pub holds : slice ≡ paste slice₀ 0 (pairs (entryList n list run)) k
 
-  pub writing-start : (slice : List ℕ) → entriesRead n list run ≤ 255 → length (entryList n list run) * 2 ≤ length slice → Writing slice slice atFirst 0 1
+  pub writing-start : (slice : List ℕ) → entriesRead n list run ≤ longestCopied → length (entryList n list run) * 2 ≤ length slice → Writing slice slice atFirst 0 1
   writing-start slice small fits =
       let long = pairs-length (entryList n list run) in
       record { forward = omega arith; small = small; room = omega arith; done = omega arith; left = refl; holds = paste-zero slice 0 (pairs (entryList n list run)) }
@@ -161,7 +162,7 @@ module _ (n : ℕ) (list run : List ℕ) where
     pub slice-length : length slice ≡ length slice₀
     slice-length = ap length (r .holds) ∙ length-paste slice₀ 0 (pairs (entryList n list run)) k (omega (arith, r .done, r .room)) (r .done)
 
-    pub writing-position : s .position ≤ 255
+    pub writing-position : s .position ≤ longestCopied
     writing-position = let on = read-on n list s (drop i run) in omega (arith, r .small)
 
     pub writing-end : length run ≤ i → slice ≡ pairs (entryList n list run) ++ drop (length (entryList n list run) * 2) slice₀
@@ -269,53 +270,46 @@ module _ (m : Machine) (list w run slice : List ℕ) where
       by false f n total = refl
 
 module _ (m : Machine) (list w run slice : List ℕ) (n : ℕ) (at-n : n ≡ tableAndWord longestCopied m list w) where
-  -- the answer and the slice as the contract has them
-  abbrev Answers : Copied → List ℕ → Type 0
-  Answers r after = (r ≡ copiesAnswer m list w run (length slice)) × (after ≡ copiesAfter m list w run slice)
-
-  as-left : {r : Copied} {after : List ℕ} → Leaves m list w run slice r after → Answers r after
-  as-left (a, s) = (sym a, sym s)
-
-  pub early : (n ≡ 0 → ⊥) → Answers (Refused (refusal n)) slice
+  pub early : (n ≡ 0 → ⊥) → Leaves m list w run slice (Refused (refusal n)) slice
   early h =
-      let (a, s) = as-left (laws.refused-first m list w run slice (λ (z : tableAndWord longestCopied m list w ≡ 0). h (at-n ∙ z))) in
+      let (a, s) = laws.refused-first m list w run slice (λ (z : tableAndWord longestCopied m list w ≡ 0). h (at-n ∙ z)) in
       (ap (λ (z : ℕ). Refused (refusal z)) at-n ∙ a, s)
 
   module _ (good : n ≡ 0) where
     tested : tableAndWord longestCopied m list w ≡ 0
     tested = sym at-n ∙ good
 
-    pub not-accepting : accepting m list w run ≡ false → Answers (Refused (refusal 14)) slice
-    not-accepting h = as-left (laws.refused-run m list w run slice tested h)
+    pub not-accepting : accepting m list w run ≡ false → Leaves m list w run slice (Refused (refusal 14)) slice
+    not-accepting h = laws.refused-run m list w run slice tested h
 
     module _ (a : accepting m list w run ≡ true) where
-      in-order : (wellFormed m list ≡ true) × (length w ≤ 255)
-      in-order = let all = table-good 255 m list w tested in (all .0, all .1)
+      in-order : (wellFormed m list ≡ true) × (length w ≤ longestCopied)
+      in-order = let all = table-good longestCopied m list w tested in (all .0, all .1)
 
       told : entryList (m .transitions) list run ≡ copyList m list w run
       told = entries-are m list w (in-order .0) run a
 
-      pub entries-fit : (m .transitions * 3 ≤ length list) × (entriesRead (m .transitions) list run ≤ 255)
+      pub entries-fit : (m .transitions * 3 ≤ length list) × (entriesRead (m .transitions) list run ≤ longestCopied)
       entries-fit = let read = entries-read m list w (in-order .0) run a in let short = in-order .1 in (rules m list (in-order .0) .list-fits, omega arith)
 
       module _ (count : ℕ) (at-count : count ≡ length (entryList (m .transitions) list run)) where
         count-is : count ≡ length (copyList m list w run)
         count-is = at-count ∙ ap length told
 
-        pub count-few : count ≤ 127
+        pub count-few : count ≤ mostCopies
         unfolding copiesNeed
         count-few = let is = count-is in let fits = need-fits m list w run (in-order .0) a in let short = in-order .1 in omega arith
 
-        pub no-room : length slice < count * 2 → Answers (Refused (record { number = 20; needed = count * 2 })) slice
+        pub no-room : length slice < count * 2 → Leaves m list w run slice (Refused (record { number = 20; needed = count * 2 })) slice
         no-room h =
             let is = count-is in
-            let (answer, kept) = as-left (laws.refused-room m list w run slice tested a (omega arith)) in
+            let (answer, kept) = laws.refused-room m list w run slice tested a (omega arith) in
             (ap (λ (z : ℕ). Refused (record { number = 20; needed = z * 2 })) is ∙ answer, kept)
 
         pub listed : count * 2 ≤ length slice → (after : List ℕ) → after ≡ pairs (entryList (m .transitions) list run) ++ drop (length (entryList (m .transitions) list run) * 2) slice
-            → (total : ℕ) → ((ks : List Copy) (rest : List ℕ) → after ≡ pairs ks ++ rest → count ≡ length ks → total ≡ totalBack ks) → Answers (Listed count total) after
+            → (total : ℕ) → ((ks : List Copy) (rest : List ℕ) → after ≡ pairs ks ++ rest → count ≡ length ks → total ≡ totalBack ks) → Leaves m list w run slice (Listed count total) after
         listed h after at-after total at-total =
             let is = count-is in
             let holds = at-after ∙ ap (λ (ks : List Copy). pairs ks ++ drop (length ks * 2) slice) told in
-            let (answer, left) = as-left (laws.listed-all m list w run slice tested a (omega arith)) in
+            let (answer, left) = laws.listed-all m list w run slice tested a (omega arith) in
             (ap (λ (z : ℕ). Listed z total) is ∙ ap (Listed (length (copyList m list w run))) (at-total (copyList m list w run) _ holds is) ∙ answer, holds ∙ left)

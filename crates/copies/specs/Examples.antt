@@ -2,8 +2,8 @@
 --
 -- tMachine, tList  == table T: doubled words over the letters 1 and 2
 -- abab, none       == its run for 1 2 1 2, and the one for the empty word, which stores nothing
--- repeated, mixed  == a table with doubled words one after another, and its run for 1 1 with a copy of letter 1 between two of nothing
--- abab-listed      == the copy of abab: from position 0, 2 letters; what stands past it is as it was
+-- repeated, repeatedList, mixed == a table with doubled words one after another, and its run for 1 1 with a copy of letter 1 between two of nothing
+-- abab-listed, abab-answer == the copy of abab: from position 0, 2 letters; what stands past it is as it was
 -- none-has-one, none-listed == the run of the empty word has a copy; it is not listed, and no slice is needed
 -- mixed-listed, mixed-short == of three copies one is listed, and two numbers are needed
 use Prim.Native.Nat.{ℕ}
@@ -58,6 +58,10 @@ mixed =
 pub abab-listed : copiesAfter tMachine tList (1 ∷ 2 ∷ 1 ∷ 2 ∷ []) abab (7 ∷ 7 ∷ 7 ∷ []) ≡ 0 ∷ 2 ∷ 7 ∷ []
 unfolding tMachine tList abab copiesAfter copiesRefusal copiesNeed tableAndWord wellFormed allBelow allIn accepting acceptingFrom accepts move mayTake passes readsLetter readsStored after changes wellPlaced copiesOf copiesFrom withLetters pairs
 abab-listed = refl
+
+pub abab-answer : copiesAnswer tMachine tList (1 ∷ 2 ∷ 1 ∷ 2 ∷ []) abab 3 ≡ Listed 1 2
+unfolding tMachine tList abab copiesAnswer copiesRefusal copiesNeed tableAndWord wellFormed allBelow allIn accepting acceptingFrom accepts move mayTake passes readsLetter readsStored after changes wellPlaced copiesOf copiesFrom withLetters totalBack
+abab-answer = refl
 
 pub none-has-one : copiesOf tMachine tList [] none ≡ record { start = 0; stored = 0 } ∷ []
 unfolding tMachine tList none move mayTake passes readsLetter readsStored after changes wellPlaced copiesOf copiesFrom

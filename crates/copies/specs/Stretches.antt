@@ -3,12 +3,13 @@
 --
 -- mostCopies            == the largest number of copies with letters
 -- passed n list s e     == the stretch s once entry e is passed, in a list of n transitions
+-- stretchCopy s         == the copy that stores the stretch
 -- entriesFrom n list s es == the copies that the entries es make from the stretch s
 -- readFrom n list s es  == the position after them
 -- atFirst               == the stretch at a run's first entry
 -- entryList n list run  == the copies with letters of a whole run
 -- entriesRead n list run == the number of letters that it reads
-use Prim.Native.Nat.{ℕ, _-_}
+use Prim.Native.Nat.{ℕ, _-_, _/_}
 use mathlib.Core.List.{List, [], _∷_}
 use mathlib.Core.Bool.{cond}
 use lib.ListN.{drop}
@@ -16,12 +17,12 @@ use lib.Dec.{ltb, eqb}
 use Rattle.fsbm.specs.Machine.{transitionAt}
 use Rattle.fsbm.specs.Moves.{advanced, beginBuffering, beginEmptying}
 use Rattle.copies.specs.declared.Stretch.{Stretch}
-use Rattle.copies.specs.Copies.{Copy, withLetters}
+use Rattle.copies.specs.Copies.{Copy, withLetters, longestCopied}
 pub mod Laws
 
 -- a word of longestCopied letters has no more copies with letters than this
 abbrev pub mostCopies : ℕ
-mostCopies = 127
+mostCopies = longestCopied / 2
 
 -- storing begins at the position; a transition moves the position on if it has a letter
 unfoldable pub passed : ℕ → List ℕ → Stretch → ℕ → Stretch
@@ -30,7 +31,6 @@ passed n list s e =
     (cond (ltb e n) (record { start = s .start; position = advanced (s .position) (transitionAt list e .letter) })
     s)
 
--- the copy of the stretch
 abbrev pub stretchCopy : Stretch → Copy
 stretchCopy s = record { start = s .start; stored = s .position - s .start }
 

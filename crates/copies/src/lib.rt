@@ -130,10 +130,11 @@ fn total_back(copies: &[u16], count: usize) -> usize
 }
 
 // The public call: writes two numbers for each copy with letters of an accepting run, in the run's order: the position where
-// buffering began and the number of letters stored. A copy is an entry 65,534; one of no letters is passed over. It refuses 16
-// (the record and its list break the rules of a table), 9 (a word of more than 255 letters), 8 (a letter that is not there), 14
-// (the run does not accept), 20 (the slice is too short; two numbers a copy are needed), in this order. A refusal leaves the
-// slice as it was; on success what stands past the copies is as it was.
+// buffering began and the number of letters stored. A copy is an entry 65,534; one of no letters is not listed. It returns the
+// number of copies listed and the total of their letters, added up from the last copy to the first. It refuses 16 (the record
+// and its list break the rules of a table), 9 (a word of more than 255 letters), 8 (a letter that is not there), 14 (the run does
+// not accept), 20 (the slice is too short; two numbers for each copy with letters are needed), in this order. A refusal leaves
+// the slice as it was; on success what stands past the copies is as it was.
 // Time: the table and the word once, the run three times (it is followed once, to check it), the copies once. Memory: none
 // beside its arguments.
 pub fn list_copies(m: Machine, list: &[u16], word: &[u8], run: &[u16], copies: &mut [u16]) -> Copied

@@ -8,11 +8,12 @@
 -- copies-listed    == the slice is long enough: the copies with letters are listed, in order; what stands past them is as it was
 --
 -- 2. Copies of no letters are dropped from the list:
--- in-list-iff      == a copy is in the list, if and only if the run has it and it has letters
--- no-empty         == no copy in the slice has length 0
+-- listed-iff       == two numbers of the list in the slice are a copy, if and only if the run has this copy and it has letters
+-- no-empty         == no length in the list is 0
 --
--- 3. The slice needed shrinks with it:
--- need-in-word     == a slice as long as the word is always long enough
+-- 3. The slice needed shrinks with it (slice-refused has its length):
+-- need-shrinks     == it is shorter than two numbers for every copy, if and only if some copy is empty
+-- word-enough      == a slice as long as the word is always long enough
 --
 -- 4. The total is taken from the last copy backwards, and comes to the same:
 -- total-from-last  == it is the total of the copies listed, from the last to the first
@@ -20,12 +21,13 @@
 -- plain-and-twice  == letters read in normal mode and twice the total make the word's length
 --
 -- 5. A run with empty copies alone:
--- empty-alone      == if all copies of an accepting run are empty, the answer is 0 copies and total 0, whatever the slice, which is as it was
+-- empty-alone      == if all copies of an accepting run are empty, or it has none, the answer is 0 copies and total 0, whatever the slice, which is as
+--                     it was
 -- empty-alone-iff  == and only then
 --
 -- Runs and recognition keep empty copies: the definitions of moves, runs and acceptance are those of document 01.
 use Prim.Native.Nat.{ℕ, _+_, _*_, _≤_, _<_}
-use mathlib.Core.Path.{_≡_, sym, _∙_, ap, subst}
+use mathlib.Core.Path.{_≡_, refl, sym, _∙_, ap, subst}
 use mathlib.Core.Logic.{_↔_, _⊎_, inl, inr}
 use mathlib.Core.Bool.{true, false}
 use mathlib.Core.List.{List, [], _++_, List·Memᴰ}
@@ -33,21 +35,21 @@ use native.Mathlib.Omega.{arith}
 use lib.ListN.{length, getD, drop}
 use lib.Dec.{leb, eqb}
 use borrow.Author.Tests.{leb-true, leb-false, eqb-true, eqb-false}
-use Rattle.basics.specs.Search.{allIn}
+use Rattle.basics.specs.Search.{allIn, anyIn}
 use Rattle.basics.specs.Search.Laws.{true-or-false}
 use Rattle.fsbm.specs.Moves.{accepting}
 use Rattle.fsbm.specs.Answers.{tableAndWord, refusal}
 use Rattle.fsbm.specs.declared.machine.Machine.{Machine}
 use Rattle.fsbm.proofs.AnswerCases.{table-good}
 use Rattle.copies.specs.Copies.{Copy, isEmpty, copiesOf, copyList, pairs, totalBack, totalForward, plainLetters, longestCopied, copiesNeed, copiesAnswer, copiesAfter, copiedValues}
-use Rattle.copies.specs.Copies.Laws.{kept-iff, kept-each, kept-none, none-kept, total-same, plain-and-copies, need-fits, refused-first, refused-run, refused-room, listed-all}
+use Rattle.copies.specs.Copies.Laws.{Leaves, InFront, written-iff, kept-iff, kept-fewer, kept-none, none-kept, total-same, plain-and-copies, need-fits, refused-first, refused-run, refused-room, listed-all}
 use Rattle.copies.specs.declared.Copied.{Copied}
 use Rattle.copies.specs.declared.Copied.the-variants.{Refused, Listed}
 
 module _ (m : Machine) (list w run entry exit : List ℕ) (r : Copied)
     (contract : (r ≡ copiesAnswer m list w run (length entry)) × (exit ≡ copiesAfter m list w run entry)) where
-  by : {x : Copied} {l : List ℕ} → (copiesAnswer m list w run (length entry) ≡ x) × (copiesAfter m list w run entry ≡ l) → (r ≡ x) × (exit ≡ l)
-  by (a, s) = (contract .0 ∙ a, contract .1 ∙ s)
+  by : {x : Copied} {l : List ℕ} → Leaves m list w run entry x l → (r ≡ x) × (exit ≡ l)
+  by (a, s) = (contract .0 ∙ sym a, contract .1 ∙ sym s)
 
   -- 1. The four cases
 
@@ -70,9 +72,16 @@ module _ (m : Machine) (list w run entry exit : List ℕ) (r : Copied)
 
       -- 3. The length needed
 
-      pub need-in-word : length (copyList m list w run) * 2 ≤ length w
+      pub need-shrinks : (length (copyList m list w run) * 2 < length (copiesOf m list w run) * 2) ↔ (anyIn isEmpty (copiesOf m list w run) ≡ true)
+      need-shrinks =
+          let exactly = kept-fewer (copiesOf m list w run) in
+          (λ (lt : length (copyList m list w run) * 2 < length (copiesOf m list w run) * 2). exactly .0 (omega arith), λ h. let lt = exactly .1 h in omega arith)
+
+      pub word-enough : length w ≤ length entry
+          → (r ≡ Listed (length (copyList m list w run)) (totalBack (copyList m list w run)))
+          × (exit ≡ pairs (copyList m list w run) ++ drop (length (copyList m list w run) * 2) entry)
       unfolding copiesNeed
-      need-in-word = need-fits m list w run (table-good longestCopied m list w passes .0) accepts
+      word-enough h = let fits = need-fits m list w run (table-good longestCopied m list w passes .0) accepts in copies-listed (omega arith)
 
   -- an answer that lists copies
 
@@ -110,11 +119,22 @@ module _ (m : Machine) (list w run entry exit : List ℕ) (r : Copied)
 
     -- 2. Dropped from the list
 
+    pub listed-iff : (k : Copy)
+        → ((i : ℕ) × (i < n) × (getD exit (i * 2) 0 ≡ k .start) × (getD exit (i * 2 + 1) 0 ≡ k .stored)) ↔ (List·Memᴰ k (copiesOf m list w run) × (isEmpty k ≡ false))
+    listed-iff k =
+        let ks = copyList m list w run in
+        let written = pairs ks ++ drop (length ks * 2) entry in
+        let exactly = written-iff k ks (drop (length ks * 2) entry) in
+        let kept = kept-iff k (copiesOf m list w run) in
+        let to : InFront k n exit → InFront k (length ks) written = λ z. subst (InFront k (length ks)) (all .1) (subst (λ (c : ℕ). InFront k c exit) count z) in
+        let from : InFront k (length ks) written → InFront k n exit = λ z. subst (λ (c : ℕ). InFront k c exit) (sym count) (subst (InFront k (length ks)) (sym (all .1)) z) in
+        (λ z. kept .0 (exactly .0 (to z)), λ z. from (exactly .1 (kept .1 z)))
+
     pub no-empty : (i : ℕ) → i < n → 1 ≤ getD exit (i * 2 + 1) 0
     no-empty i lt =
-        let is = count in
-        let letters = kept-each (copiesOf m list w run) (drop (length (copyList m list w run) * 2) entry) i (omega arith) in
-        subst (λ (l : List ℕ). 1 ≤ getD l (i * 2 + 1) 0) (sym (all .1)) letters
+        let k : Copy = record { start = getD exit (i * 2) 0; stored = getD exit (i * 2 + 1) 0 } in
+        let some : getD exit (i * 2 + 1) 0 ≡ 0 → ⊥ = eqb-false (getD exit (i * 2 + 1) 0) 0 (listed-iff k .0 (i, lt, refl, refl) .1) in
+        omega arith
 
     -- 4. The total
 
@@ -142,8 +162,3 @@ module _ (m : Machine) (list w run entry exit : List ℕ) (r : Copied)
 
     pub empty-alone-iff : (r ≡ Listed 0 0) ↔ (allIn isEmpty (copiesOf m list w run) ≡ true)
     empty-alone-iff = (λ (e : r ≡ Listed 0 0). none-kept (copiesOf m list w run) (sym (count 0 0 e)), λ h. empty-alone h .0)
-
--- 2. The copies that are listed
-
-pub in-list-iff : (m : Machine) (list w run : List ℕ) (k : Copy) → List·Memᴰ k (copyList m list w run) ↔ (List·Memᴰ k (copiesOf m list w run) × (isEmpty k ≡ false))
-in-list-iff m list w run k = kept-iff k (copiesOf m list w run)

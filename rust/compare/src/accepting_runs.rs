@@ -4,7 +4,7 @@ use crate::Rng;
 use reference::{moves, Config, Machine, FINAL, INITIAL};
 
 /// A word and an accepting run of it, both made by random moves: a move that reads a letter adds it to the word. The
-/// run is cut at one of the places where it accepts, if there is one.
+/// run is cut at one of the places where it accepts; nothing if there is none.
 pub fn walk(rng: &mut Rng, machine: &Machine) -> Option<(Vec<u8>, Vec<u16>)> {
     let initial: Vec<usize> = (0..machine.states())
         .filter(|&state| machine.has(state, INITIAL))

@@ -341,8 +341,8 @@ fn among(letters: &[usize], empty: usize) -> Vec<usize> {
     halves
 }
 
-/// Runs of very many empty copies: they need no element, whatever their number, also around others. All copies together
-/// are more than a 16-bit number of elements.
+/// Runs of very many empty copies: they need no element, whatever their number, also around others. All copies but 32,767
+/// of them would need more elements than a 16-bit number says.
 #[test]
 fn many_empty_copies() {
     let (record, list) = repeated();

@@ -69,6 +69,9 @@ pub fn list_copies_record(
 /// `copies` needs two elements for each copy that is listed. The letters of each stand twice in the word, so a slice of
 /// as many elements as the word has letters is always long enough.
 ///
+/// The total is added up from the last copy to the first; it is that of all copies of the run, and the letters read in
+/// normal mode and twice the total make the word's length.
+///
 /// Refuses, in this order: [`Refusal::MachineBroken`], [`Refusal::WordTooLong`] over 255 letters,
 /// [`Refusal::WordLetter`], [`Refusal::NotAccepting`], [`Refusal::CopiesTooShort`].
 ///

@@ -10,47 +10,36 @@ Inv-loop copies count total₀ k₀ total k = Adding copies count total k
 abbrev μ-loop : tie.MeasureT-loop
 μ-loop copies count total₀ k₀ total k = k
 
--- src/lib.rt:125:5
 loop-holds : tie.Need-loop-holds Inv-loop μ-loop
 loop-holds c = adding-start (((c) .args .copies) .now) ((c) .args .count)
 
--- src/lib.rt:126:9
 sub-k : tie.Need-sub-k Inv-loop μ-loop
 sub-k c = omega (arith, ((c) .loop-test .taken))
 
--- src/lib.rt:127:25
 mul-total : tie.Need-mul-total Inv-loop μ-loop
 mul-total c = omega (arith, ((c .before) .loop .inv) .inside, ((c .before .before) .pre) .1)
 
--- src/lib.rt:127:25
 add-total : tie.Need-add-total Inv-loop μ-loop
 add-total c = omega (arith, ((c .before) .loop .inv) .inside, ((c .before .before) .pre) .1)
 
--- src/lib.rt:127:18
 mul-total-2 : tie.Need-mul-total-2 Inv-loop μ-loop
 mul-total-2 c = omega (arith, ((c .before) .loop .inv) .inside, ((c .before .before) .pre) .1)
 
--- src/lib.rt:127:18
 shared-slice-read-total : tie.Need-shared-slice-read-total Inv-loop μ-loop
 shared-slice-read-total c = omega (arith, ((c .before) .loop-test .taken), ((c .before .before) .loop .inv) .inside, ((c .before .before .before) .pre) .0)
 
--- src/lib.rt:127:18
 cast-total : tie.Need-cast-total Inv-loop μ-loop
 cast-total c = omega (arith, ((c) .shared-slice-known .given) (((c .before .before) .loop .k - 1) * 2 + 1))
 
--- src/lib.rt:127:9
 add-total-2 : tie.Need-add-total-2 Inv-loop μ-loop
 add-total-2 c = omega (arith, ((c) .shared-slice-known .given) (((c .before .before) .loop .k - 1) * 2 + 1), ((c .before .before) .loop .inv) .small, ((c .before .before) .loop .inv) .inside, ((c .before .before .before) .pre) .1)
 
--- src/lib.rt:125:5
 loop-less : tie.Need-loop-less Inv-loop μ-loop
 loop-less c = omega (arith, ((c .before) .loop-test .taken))
 
--- src/lib.rt:125:5
 loop-again : tie.Need-loop-again Inv-loop μ-loop
 loop-again c = adding-copy (((c .before .before .before) .args .copies) .now) ((c .before .before .before) .args .count) ((c .before .before) .loop .inv) ((c .before) .loop-test .taken) (omega (arith, ((c) .shared-slice-known .given) (((c .before .before) .loop .k - 1) * 2 + 1)))
 
--- src/lib.rt:119:1
 returns : tie.Need-returns Inv-loop μ-loop
 returns c = adding-end (((c .before .before) .args .copies) .now) ((c .before .before) .args .count) ((c .before) .loop .inv) ((c) .loop-test .left)
 

@@ -3,9 +3,11 @@
 -- kept-total              == the copies with letters have the total of all copies
 -- total-same              == their total from the last to the first is that of all copies from the first to the last
 -- kept-letters            == each copy that is kept has a letter, so there are no more of them than letters
--- kept-each               == so the second number of each, as they are written, is not 0
 -- kept-none, none-kept    == none is kept, if and only if all copies are empty
 -- kept-iff                == a copy is kept, if and only if it is there and not empty
+-- kept-fewer              == fewer are kept, if and only if some copy is empty
+-- InFront k n l           == among the first n pairs of numbers of l is the copy k
+-- written-iff             == so it is in what is written, if and only if it is one of the copies
 -- Leaves r after          == list_copies answers r and leaves after in the slice
 -- refused-first, refused-run, refused-room, listed-all == it does so, in its four cases: by 16, 9 or 8; by 14; by 20; or the list
 -- owed c t, held c t      == the buffered letters of c still to match in emptying mode, and those stored in buffering mode
@@ -13,18 +15,17 @@
 -- Balance c t n next      == from c in mode t to next: letters read in normal mode and twice the n stored ones account for the positions
 -- move-balance            == every allowed move keeps the balance
 -- plain-and-copies        == letters read in normal mode and twice the letters stored make the word's length
--- total-fits              == twice the total is at most the word's length
--- need-fits               == so is the length that the list needs
+-- need-fits               == the length that the list needs is at most the word's
 use Prim.Native.Nat.{ℕ, zero, suc, _+_, _*_, _-_, _≤_, _<_}
 use mathlib.Core.Path.{_≡_, refl, sym, ap, _∙_, subst}
-use mathlib.Core.Bool.{Bool, true, false, cond, _&&_, false≢true}
+use mathlib.Core.Bool.{Bool, true, false, cond, _&&_, _||_, false≢true}
 use mathlib.Core.Logic.{_↔_, _⊎_, inl, inr}
 use mathlib.Core.List.{List, [], _∷_, _++_, List·Memᴰ, List·Memᴰ·head, List·Memᴰ·tail, List·Memᴰ·not-nil, List·Memᴰ·cases-cons}
 use native.Mathlib.Omega.{arith}
 use lib.ListN.{length, getD, drop}
-use lib.Dec.{leb, ltb, eqb, eqb·suc-zero}
+use lib.Dec.{ltb, eqb, eqb·suc-zero}
 use borrow.Author.Tests.{le-leb, lt-leb, eqb-true, eqb-false, eq-eqb, ne-eqb}
-use Rattle.basics.specs.Search.{allIn}
+use Rattle.basics.specs.Search.{allIn, anyIn}
 use Rattle.basics.specs.Search.Laws.{and-true}
 use Rattle.basics.specs.Search.Loops.{first, second}
 use Rattle.fsbm.specs.Machine.{wellFormed, transitionAt, initial, buffering, matching, final}
@@ -44,7 +45,7 @@ use Rattle.copies.specs.Copies.{Copy, copyAt, copiesFrom, copiesOf, with
 
 -- Totals
 
-pub kept-total : (ks : List Copy) → totalBack (withLetters ks) ≡ totalBack ks
+kept-total : (ks : List Copy) → totalBack (withLetters ks) ≡ totalBack ks
 unfolding withLetters totalBack
 kept-total [] = refl
 kept-total (k ∷ ks) = at (eqb (k .stored) 0) refl (kept-total ks)
@@ -61,7 +62,7 @@ forward-on n (k ∷ ks) = let on = forward-on (n + k .stored) ks in omega arith
 pub total-same : (ks : List Copy) → totalBack (withLetters ks) ≡ totalForward 0 ks
 total-same ks = let kept = kept-total ks in let on = forward-on 0 ks in omega arith
 
-pub kept-letters : (ks : List Copy) → length (withLetters ks) ≤ totalBack (withLetters ks)
+kept-letters : (ks : List Copy) → length (withLetters ks) ≤ totalBack (withLetters ks)
 unfolding withLetters totalBack
 kept-letters [] = omega arith
 kept-letters (k ∷ ks) = at (eqb (k .stored) 0) refl (kept-letters ks)
@@ -70,20 +71,6 @@ kept-letters (k ∷ ks) = at (eqb (k .stored) 0) refl (kept-letters ks)
         → length (cond b (withLetters ks) (k ∷ withLetters ks)) ≤ totalBack (cond b (withLetters ks) (k ∷ withLetters ks))
     at true h few = few
     at false h few = let some : k .stored ≡ 0 → ⊥ = eqb-false (k .stored) 0 h in omega arith
-
-pub kept-each : (ks : List Copy) (rest : List ℕ) (i : ℕ) → i < length (withLetters ks) → 1 ≤ getD (pairs (withLetters ks) ++ rest) (i * 2 + 1) 0
-unfolding withLetters pairs
-kept-each [] rest i lt = absurd (omega arith)
-kept-each (k ∷ ks) rest i lt = at (eqb (k .stored) 0) refl i lt (kept-each ks rest)
-  where
-    at : (b : Bool) → eqb (k .stored) 0 ≡ b → (i : ℕ) → i < length (cond b (withLetters ks) (k ∷ withLetters ks))
-        → ((j : ℕ) → j < length (withLetters ks) → 1 ≤ getD (pairs (withLetters ks) ++ rest) (j * 2 + 1) 0) → 1 ≤ getD (pairs (cond b (withLetters ks) (k ∷ withLetters ks)) ++ rest) (i * 2 + 1) 0
-    at true h i lt each = each i lt
-    at false h zero lt each = let some : k .stored ≡ 0 → ⊥ = eqb-false (k .stored) 0 h in omega arith
-    at false h (suc i) lt each =
-        let place : suc i * 2 + 1 ≡ suc (suc (i * 2 + 1)) = omega arith in
-        let here = each i (omega arith) in
-        subst (λ (j : ℕ). 1 ≤ getD (k .start ∷ k .stored ∷ (pairs (withLetters ks) ++ rest)) j 0) (sym place) here
 
 pub kept-none : (ks : List Copy) → allIn isEmpty ks ≡ true → withLetters ks ≡ []
 unfolding withLetters allIn
@@ -127,22 +114,76 @@ module _ (k : Copy) where
   pub kept-iff : (ks : List Copy) → List·Memᴰ k (withLetters ks) ↔ (List·Memᴰ k ks × (isEmpty k ≡ false))
   kept-iff ks = (kept-to ks, λ z. kept-from ks (z .0) (z .1))
 
+kept-no-more : (ks : List Copy) → length (withLetters ks) ≤ length ks
+unfolding withLetters
+kept-no-more [] = omega arith
+kept-no-more (k ∷ ks) = at (isEmpty k) (kept-no-more ks)
+  where
+    at : (b : Bool) → length (withLetters ks) ≤ length ks → length (cond b (withLetters ks) (k ∷ withLetters ks)) ≤ suc (length ks)
+    at true le = omega arith
+    at false le = omega arith
+
+pub kept-fewer : (ks : List Copy) → (length (withLetters ks) < length ks) ↔ (anyIn isEmpty ks ≡ true)
+unfolding withLetters anyIn
+kept-fewer [] = (λ (lt : 0 < 0). absurd (omega arith), λ h. absurd (false≢true h))
+kept-fewer (k ∷ ks) = at (isEmpty k) (kept-no-more ks) (kept-fewer ks)
+  where
+    at : (b : Bool) → length (withLetters ks) ≤ length ks → (length (withLetters ks) < length ks) ↔ (anyIn isEmpty ks ≡ true)
+        → (length (cond b (withLetters ks) (k ∷ withLetters ks)) < suc (length ks)) ↔ ((b || anyIn isEmpty ks) ≡ true)
+    at true le rest = (λ lt. refl, λ h. omega arith)
+    at false le rest =
+        (λ (lt : suc (length (withLetters ks)) < suc (length ks)). rest .0 (omega arith), λ h. let lt = rest .1 h in omega arith)
+
+module _ (k : Copy) where
+  -- among the first n pairs of numbers of l is the copy
+  abbrev pub InFront : ℕ → List ℕ → Type 0
+  InFront n l = (i : ℕ) × (i < n) × (getD l (i * 2) 0 ≡ k .start) × (getD l (i * 2 + 1) 0 ≡ k .stored)
+
+  written-to : (ks : List Copy) (rest : List ℕ) (i : ℕ) → i < length ks → getD (pairs ks ++ rest) (i * 2) 0 ≡ k .start → getD (pairs ks ++ rest) (i * 2 + 1) 0 ≡ k .stored → List·Memᴰ k ks
+  unfolding pairs
+  written-to [] rest i lt a b = absurd (omega arith)
+  written-to (x ∷ ks) rest zero lt a b =
+      List·Memᴰ·head (ap (λ (z : ℕ). record { start = z; stored = k .stored }) (sym a) ∙ ap (λ (z : ℕ). record { start = x .start; stored = z }) (sym b))
+  written-to (x ∷ ks) rest (suc i) lt a b =
+      let here : suc (suc (i * 2)) ≡ suc i * 2 = omega arith in
+      let next : suc (suc (i * 2 + 1)) ≡ suc i * 2 + 1 = omega arith in
+      List·Memᴰ·tail
+      (written-to ks rest i (omega arith)
+      (ap (λ (j : ℕ). getD (x .start ∷ x .stored ∷ (pairs ks ++ rest)) j 0) here ∙ a)
+      (ap (λ (j : ℕ). getD (x .start ∷ x .stored ∷ (pairs ks ++ rest)) j 0) next ∙ b))
+
+  written-from : (ks : List Copy) (rest : List ℕ) → List·Memᴰ k ks → InFront (length ks) (pairs ks ++ rest)
+  unfolding pairs
+  written-from ks rest (List·Memᴰ·head {x = x} {xs = l} e) = (0, omega arith, ap (λ (z : Copy). z .start) (sym e), ap (λ (z : Copy). z .stored) (sym e))
+  written-from ks rest (List·Memᴰ·tail {x = x} {xs = l} z) =
+      let (i, lt, a, b) = written-from l rest z in
+      let here : suc i * 2 ≡ suc (suc (i * 2)) = omega arith in
+      let next : suc i * 2 + 1 ≡ suc (suc (i * 2 + 1)) = omega arith in (
+        suc i,
+        omega arith,
+        ap (λ (j : ℕ). getD (x .start ∷ x .stored ∷ (pairs l ++ rest)) j 0) here ∙ a,
+        ap (λ (j : ℕ). getD (x .start ∷ x .stored ∷ (pairs l ++ rest)) j 0) next ∙ b,
+      )
+
+  pub written-iff : (ks : List Copy) (rest : List ℕ) → InFront (length ks) (pairs ks ++ rest) ↔ List·Memᴰ k ks
+  written-iff ks rest = (λ z. let (i, lt, a, b) = z in written-to ks rest i lt a b, written-from ks rest)
+
 -- Answers
 
 module _ (m : Machine) (list w run slice : List ℕ) where
   -- what list_copies answers, and what it leaves in the slice
   abbrev pub Leaves : Copied → List ℕ → Type 0
-  Leaves r after = (copiesAnswer m list w run (length slice) ≡ r) × (copiesAfter m list w run slice ≡ after)
+  Leaves r after = (r ≡ copiesAnswer m list w run (length slice)) × (after ≡ copiesAfter m list w run slice)
 
-  refuses : (f : Refusal) → copiesRefusal m list w run (length slice) ≡ f → (f .number ≡ 0 → ⊥) → Leaves (Refused f) slice
+  refuses : (f : Refusal) → f ≡ copiesRefusal m list w run (length slice) → (f .number ≡ 0 → ⊥) → Leaves (Refused f) slice
   unfolding copiesAnswer copiesAfter
   refuses f e some =
-      let no : eqb (copiesRefusal m list w run (length slice) .number) 0 ≡ false = ap (λ (z : Refusal). eqb (z .number) 0) e ∙ ne-eqb (f .number) 0 some in
-      (sym (second _ no (ap Refused (sym e))), sym (second _ no refl))
+      let no : eqb (copiesRefusal m list w run (length slice) .number) 0 ≡ false = ap (λ (z : Refusal). eqb (z .number) 0) (sym e) ∙ ne-eqb (f .number) 0 some in
+      (second _ no (ap Refused e), second _ no refl)
 
   pub refused-first : (tableAndWord longestCopied m list w ≡ 0 → ⊥) → Leaves (Refused (refusal (tableAndWord longestCopied m list w))) slice
   unfolding copiesRefusal
-  refused-first h = refuses (refusal (tableAndWord longestCopied m list w)) (sym (second _ (ne-eqb (tableAndWord longestCopied m list w) 0 h) refl)) h
+  refused-first h = refuses (refusal (tableAndWord longestCopied m list w)) (second _ (ne-eqb (tableAndWord longestCopied m list w) 0 h) refl) h
 
   module _ (good : tableAndWord longestCopied m list w ≡ 0) where
     tested : eqb (tableAndWord longestCopied m list w) 0 ≡ true
@@ -150,14 +191,14 @@ module _ (m : Machine) (list w run slice : List ℕ) where
 
     pub refused-run : accepting m list w run ≡ false → Leaves (Refused (refusal 14)) slice
     unfolding copiesRefusal
-    refused-run h = refuses (refusal 14) (sym (first _ tested (second _ h refl))) (λ (z : _≡_ {A = ℕ} 14 0). omega arith)
+    refused-run h = refuses (refusal 14) (first _ tested (second _ h refl)) (λ (z : _≡_ {A = ℕ} 14 0). omega arith)
 
     module _ (a : accepting m list w run ≡ true) where
       pub refused-room : length slice < length (copyList m list w run) * 2 → Leaves (Refused (record { number = 20; needed = length (copyList m list w run) * 2 })) slice
       unfolding copiesRefusal copiesNeed
       refused-room h =
           refuses (record { number = 20; needed = length (copyList m list w run) * 2 })
-          (sym (first _ tested (first _ a (second _ (lt-leb (length (copyList m list w run) * 2) (length slice) h) refl))))
+          (first _ tested (first _ a (second _ (lt-leb (length (copyList m list w run) * 2) (length slice) h) refl)))
           (λ (z : _≡_ {A = ℕ} 20 0). omega arith)
 
       pub listed-all : length (copyList m list w run) * 2 ≤ length slice
@@ -166,7 +207,9 @@ module _ (m : Machine) (list w run slice : List ℕ) where
       listed-all h =
           let none : refusal 0 ≡ copiesRefusal m list w run (length slice) = first _ tested (first _ a (first _ (le-leb (length (copyList m list w run) * 2) (length slice) h) refl)) in
           let yes : eqb (copiesRefusal m list w run (length slice) .number) 0 ≡ true = ap (λ (z : Refusal). eqb (z .number) 0) (sym none) in
-          (sym (first _ yes refl), sym (first _ yes refl))
+          (first _ yes refl, first _ yes refl)
+
+-- The balance of a run
 
 abbrev owed : Config → Mode → ℕ
 owed c Normal = 0
@@ -185,7 +228,7 @@ abbrev Balance : Config → Mode → ℕ → Config → Type 0
 Balance c t n next =
     cond (isNormal t) (next .position - c .position) 0 + n * 2 + (c .position + owed c t) + held next (next .mode) ≡ next .position + owed next (next .mode) + held c t
 
-advanced-by : (p x : ℕ) → advanced p x ≡ p + advanced 0 x
+pub advanced-by : (p x : ℕ) → advanced p x ≡ p + advanced 0 x
 advanced-by p zero = omega arith
 advanced-by p (suc x) = rw eqb·suc-zero refl
 
@@ -221,7 +264,7 @@ module _ (m : Machine) (list w : List ℕ) where
       let same = eqb-true (c .start) (c .end) equal in
       stored-is c e backToNormal entry Emptying (changed c Emptying) (omega arith)
 
-  pub move-balance : wellFormed m list ≡ true → (c : Config) (e : ℕ) → move m list w c e .allowed ≡ true → Balance c (c .mode) (storedAt e c) (move m list w c e .config)
+  move-balance : wellFormed m list ≡ true → (c : Config) (e : ℕ) → move m list w c e .allowed ≡ true → Balance c (c .mode) (storedAt e c) (move m list w c e .config)
   move-balance good c e =
       move-elim m list w c e (Balance c (c .mode) (storedAt e c))
       (λ p lt t. listed lt (after c (transitionAt list e) (c .mode)) (after-balance c (transitionAt list e) (c .mode) p (t .stored)))
@@ -247,14 +290,19 @@ module _ (m : Machine) (list w : List ℕ) where
   accepts-at c Buffering h e = absurd (false≢true h)
   accepts-at c Emptying h e = absurd (false≢true h)
 
-  balance-end : (c : Config) → accepts (m .marks) (length w) c ≡ true
-      → 0 + totalBack (copiesFrom m list w c []) * 2 + (c .position + owed c (c .mode)) ≡ length w + held c (c .mode)
-  unfolding accepts copiesFrom totalBack
-  balance-end c h =
+  -- where a run accepts, it is in normal mode and has read the word
+  pub accepts-says : (c : Config) → accepts (m .marks) (length w) c ≡ true → (isNormal (c .mode) ≡ true) × (c .position ≡ length w)
+  unfolding accepts
+  accepts-says c h =
       let (f, r₁) = and-true (final (m .marks) (c .state)) (isNormal (c .mode) && (eqb (c .start) (c .end) && eqb (c .position) (length w))) h in
       let (n, r₂) = and-true (isNormal (c .mode)) (eqb (c .start) (c .end) && eqb (c .position) (length w)) r₁ in
       let (s, p) = and-true (eqb (c .start) (c .end)) (eqb (c .position) (length w)) r₂ in
-      accepts-at c (c .mode) n (eqb-true (c .position) (length w) p)
+      (n, eqb-true (c .position) (length w) p)
+
+  balance-end : (c : Config) → accepts (m .marks) (length w) c ≡ true
+      → 0 + totalBack (copiesFrom m list w c []) * 2 + (c .position + owed c (c .mode)) ≡ length w + held c (c .mode)
+  unfolding copiesFrom totalBack
+  balance-end c h = let (n, p) = accepts-says c h in accepts-at c (c .mode) n p
 
   balance-from : wellFormed m list ≡ true → (c : Config) (es : List ℕ) → acceptingFrom m list w c es ≡ true
       → plainFrom m list w c es + totalBack (copiesFrom m list w c es) * 2 + (c .position + owed c (c .mode)) ≡ length w + held c (c .mode)
@@ -282,9 +330,6 @@ module _ (m : Machine) (list w : List ℕ) where
     pub plain-and-copies : plainLetters m list w run + totalBack (copyList m list w run) * 2 ≡ length w
     plain-and-copies = let all = plain-and-all run good accepts in let kept = kept-total (copiesOf m list w run) in omega arith
 
-    pub total-fits : totalBack (copyList m list w run) * 2 ≤ length w
-    total-fits = let all = plain-and-copies in omega arith
-
     pub need-fits : copiesNeed m list w run ≤ length w
     unfolding copiesNeed
-    need-fits = let few = kept-letters (copiesOf m list w run) in let fits = total-fits in omega arith
+    need-fits = let few = kept-letters (copiesOf m list w run) in let all = plain-and-copies in omega arith

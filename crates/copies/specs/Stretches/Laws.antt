@@ -7,7 +7,7 @@
 -- move-tracks          == an allowed move keeps that; and where it begins to match, the stretch is the copy
 -- entries-are          == the copies that the entries tell are those of the accepting run
 -- entries-read         == the letters that they read are the word's
-use Prim.Native.Nat.{ℕ, _+_, _-_, _≤_, _<_}
+use Prim.Native.Nat.{ℕ, _-_, _≤_, _<_}
 use mathlib.Core.Path.{_≡_, refl, sym, ap, _∙_, subst}
 use mathlib.Core.Bool.{Bool, true, false, cond, _&&_, false≢true}
 use mathlib.Core.List.{List, [], _∷_}
@@ -17,8 +17,8 @@ use lib.Dec.{ltb, eqb}
 use borrow.Author.Tests.{lt-ltb, le-ltb, eqb-true, eq-eqb, ne-eqb}
 use Rattle.basics.specs.Search.Laws.{and-true}
 use Rattle.basics.specs.Search.Loops.{first, second}
-use Rattle.fsbm.specs.Machine.{wellFormed, transitionAt, initial, buffering, matching, final}
-use Rattle.fsbm.specs.Moves.{advanced, after, mayChange, changed, move, startAt, isNormal, accepts, acceptingFrom, accepting, beginBuffering, beginEmptying, backToNormal}
+use Rattle.fsbm.specs.Machine.{wellFormed, transitionAt, initial, buffering, matching}
+use Rattle.fsbm.specs.Moves.{advanced, after, mayChange, changed, move, startAt, acceptingFrom, accepting, beginBuffering, beginEmptying, backToNormal}
 use Rattle.fsbm.specs.Moves.Laws.{move-elim}
 use Rattle.fsbm.specs.Rules.{rules, Placed}
 use Rattle.fsbm.specs.declared.machine.Machine.{Machine}
@@ -28,7 +28,11 @@ use Rattle.fsbm.specs.declared.config.Mode.{Mode}
 use Rattle.fsbm.specs.declared.config.Mode.the-variants.{Normal, Buffering, Emptying}
 use Rattle.copies.specs.declared.Stretch.{Stretch}
 use Rattle.copies.specs.Copies.{Copy, copyAt, copiesFrom, copiesOf, withLetters, copyList}
+use Rattle.copies.specs.Copies.Laws.{advanced-by, accepts-says}
 use Rattle.copies.specs.Stretches.{passed, stretchCopy, entriesFrom, readFrom, atFirst, entryList, entriesRead}
+
+advanced-on : (p x : ℕ) → p ≤ advanced p x
+advanced-on p x = let by = advanced-by p x in omega arith
 
 module _ (n : ℕ) (list : List ℕ) (s : Stretch) (e : ℕ) where
   pub passed-begin : e ≡ beginBuffering → record { start = s .position; position = s .position } ≡ passed n list s e
@@ -44,13 +48,6 @@ module _ (n : ℕ) (list : List ℕ) (s : Stretch) (e : ℕ) where
     unfolding passed
     passed-other ge = second _ (ne-eqb e beginBuffering not-begin) (second _ (le-ltb e n ge) refl)
 
-  advanced-on : (x : ℕ) → s .position ≤ advanced (s .position) x
-  advanced-on x = at (eqb x 0)
-    where
-      at : (b : Bool) → s .position ≤ cond b (s .position) (s .position + 1)
-      at true = omega arith
-      at false = omega arith
-
   passed-on : s .position ≤ passed n list s e .position
   unfolding passed
   passed-on = at (eqb e beginBuffering) (ltb e n)
@@ -59,7 +56,7 @@ module _ (n : ℕ) (list : List ℕ) (s : Stretch) (e : ℕ) where
           → s .position
           ≤ cond b (record { start = s .position; position = s .position }) (cond l (record { start = s .start; position = advanced (s .position) (transitionAt list e .letter) }) s) .position
       at true l = omega arith
-      at false true = advanced-on (transitionAt list e .letter)
+      at false true = advanced-on (s .position) (transitionAt list e .letter)
       at false false = omega arith
 
   pub passed-forward : s .start ≤ s .position → passed n list s e .start ≤ passed n list s e .position
@@ -70,7 +67,7 @@ module _ (n : ℕ) (list : List ℕ) (s : Stretch) (e : ℕ) where
           → cond b (record { start = s .position; position = s .position }) (cond l (record { start = s .start; position = advanced (s .position) (transitionAt list e .letter) }) s) .start
           ≤ cond b (record { start = s .position; position = s .position }) (cond l (record { start = s .start; position = advanced (s .position) (transitionAt list e .letter) }) s) .position
       at true l = omega arith
-      at false true = let on = advanced-on (transitionAt list e .letter) in omega arith
+      at false true = let on = advanced-on (s .position) (transitionAt list e .letter) in omega arith
       at false false = h
 
 pub read-on : (n : ℕ) (list : List ℕ) (s : Stretch) (es : List ℕ) → s .position ≤ readFrom n list s es
@@ -115,7 +112,7 @@ module _ (m : Machine) (list w : List ℕ) where
       let other : e ≡ beginBuffering → ⊥ = λ (z : e ≡ beginBuffering). omega arith in
       (subst (λ (z : Stretch). c .position ≡ z .position) (passed-other (m .transitions) list s e other ge) at-s, λ z. absurd (omega arith))
 
-  pub move-tracks : wellFormed m list ≡ true → (c : Config) (e : ℕ) (s : Stretch) → Tracks c (c .mode) s → move m list w c e .allowed ≡ true → Follows c e s (move m list w c e .config)
+  move-tracks : wellFormed m list ≡ true → (c : Config) (e : ℕ) (s : Stretch) → Tracks c (c .mode) s → move m list w c e .allowed ≡ true → Follows c e s (move m list w c e .config)
   move-tracks good c e s at-s =
       move-elim m list w c e (Follows c e s)
       (λ p lt t. taken lt (after c (transitionAt list e) (c .mode)) (after-tracks c (transitionAt list e) (c .mode) s at-s))
@@ -132,18 +129,10 @@ module _ (m : Machine) (list w : List ℕ) where
   at-position c Buffering s h = h .0
   at-position c Emptying s h = h
 
-  accepts-read : (c : Config) → accepts (m .marks) (length w) c ≡ true → c .position ≡ length w
-  unfolding accepts
-  accepts-read c h =
-      let (f, r₁) = and-true (final (m .marks) (c .state)) (isNormal (c .mode) && (eqb (c .start) (c .end) && eqb (c .position) (length w))) h in
-      let (n, r₂) = and-true (isNormal (c .mode)) (eqb (c .start) (c .end) && eqb (c .position) (length w)) r₁ in
-      let (s, p) = and-true (eqb (c .start) (c .end)) (eqb (c .position) (length w)) r₂ in
-      eqb-true (c .position) (length w) p
-
   from-entries : wellFormed m list ≡ true → (c : Config) (s : Stretch) (es : List ℕ) → Tracks c (c .mode) s → acceptingFrom m list w c es ≡ true
       → (entriesFrom (m .transitions) list s es ≡ copiesFrom m list w c es) × (readFrom (m .transitions) list s es ≡ length w)
   unfolding acceptingFrom copiesFrom entriesFrom readFrom
-  from-entries good c s [] at-s h = (refl, sym (at-position c (c .mode) s at-s) ∙ accepts-read c h)
+  from-entries good c s [] at-s h = (refl, sym (at-position c (c .mode) s at-s) ∙ accepts-says m list w c h .1)
   from-entries good c s (e ∷ es) at-s h =
       let next = move m list w c e .config in
       let (a, rest) = and-true (move m list w c e .allowed) (acceptingFrom m list w next es) h in
