@@ -11,8 +11,8 @@
 -- listed-iff       == two numbers of the list in the slice are a copy, if and only if the run has this copy and it has letters
 -- no-empty         == no length in the list is 0
 --
--- 3. The slice needed shrinks with it (slice-refused has its length):
--- need-shrinks     == it is shorter than two numbers for every copy, if and only if some copy is empty
+-- 3. The slice needed shrinks with it:
+-- need-shrinks     == the length that a refusal by 20 gives is less than two numbers for every copy, if and only if some copy is empty
 -- word-enough      == a slice as long as the word is always long enough
 --
 -- 4. The total is taken from the last copy backwards, and comes to the same:
@@ -72,10 +72,21 @@ module _ (m : Machine) (list w run entry exit : List ℕ) (r : Copied)
 
       -- 3. The length needed
 
-      pub need-shrinks : (length (copyList m list w run) * 2 < length (copiesOf m list w run) * 2) ↔ (anyIn isEmpty (copiesOf m list w run) ≡ true)
-      need-shrinks =
+      refused-length : (needed : ℕ) → r ≡ Refused (record { number = 20; needed = needed })
+          → (leb (length (copyList m list w run) * 2) (length entry) ≡ true) ⊎ (leb (length (copyList m list w run) * 2) (length entry) ≡ false) → needed ≡ length (copyList m list w run) * 2
+      refused-length needed e (inl t) =
+          let listed = copies-listed (leb-true (length (copyList m list w run) * 2) (length entry) t) .0 in
+          let z : _≡_ {A = ℕ} 20 0 = ap (λ (a : Copied). copiedValues a .refusal) (sym e ∙ listed) in
+          absurd (omega arith)
+      refused-length needed e (inr f) =
+          ap (λ (a : Copied). copiedValues a .needed) (sym e ∙ slice-refused (leb-false (length (copyList m list w run) * 2) (length entry) f) .0)
+
+      pub need-shrinks : (needed : ℕ) → r ≡ Refused (record { number = 20; needed = needed })
+          → (needed < length (copiesOf m list w run) * 2) ↔ (anyIn isEmpty (copiesOf m list w run) ≡ true)
+      need-shrinks needed e =
+          let is = refused-length needed e (true-or-false (leb (length (copyList m list w run) * 2) (length entry))) in
           let exactly = kept-fewer (copiesOf m list w run) in
-          (λ (lt : length (copyList m list w run) * 2 < length (copiesOf m list w run) * 2). exactly .0 (omega arith), λ h. let lt = exactly .1 h in omega arith)
+          (λ (lt : needed < length (copiesOf m list w run) * 2). exactly .0 (omega arith), λ h. let lt = exactly .1 h in omega arith)
 
       pub word-enough : length w ≤ length entry
           → (r ≡ Listed (length (copyList m list w run)) (totalBack (copyList m list w run)))

@@ -15,6 +15,7 @@ use native.Mathlib.Omega.{arith}
 use lib.ListN.{length, drop}
 use lib.Dec.{ltb, eqb}
 use borrow.Author.Tests.{lt-ltb, le-ltb, eqb-true, eq-eqb, ne-eqb}
+use Rattle.basics.specs.Bools.{cond-elim}
 use Rattle.basics.specs.Search.Laws.{and-true}
 use Rattle.basics.specs.Search.Loops.{first, second}
 use Rattle.fsbm.specs.Machine.{wellFormed, transitionAt, initial, buffering, matching}
@@ -48,27 +49,19 @@ module _ (n : ℕ) (list : List ℕ) (s : Stretch) (e : ℕ) where
     unfolding passed
     passed-other ge = second _ (ne-eqb e beginBuffering not-begin) (second _ (le-ltb e n ge) refl)
 
-  passed-on : s .position ≤ passed n list s e .position
+  -- what holds of the stretch in each of the three cases holds once the entry is passed
+  passed-elim : (P : Stretch → Type 0) → P (record { start = s .position; position = s .position })
+      → P (record { start = s .start; position = advanced (s .position) (transitionAt list e .letter) }) → P s → P (passed n list s e)
   unfolding passed
-  passed-on = at (eqb e beginBuffering) (ltb e n)
-    where
-      at : (b l : Bool)
-          → s .position
-          ≤ cond b (record { start = s .position; position = s .position }) (cond l (record { start = s .start; position = advanced (s .position) (transitionAt list e .letter) }) s) .position
-      at true l = omega arith
-      at false true = advanced-on (s .position) (transitionAt list e .letter)
-      at false false = omega arith
+  passed-elim P begins takes other = cond-elim P (eqb e beginBuffering) _ _ (λ t. begins) (λ f. cond-elim P (ltb e n) _ _ (λ t. takes) (λ f. other))
+
+  passed-on : s .position ≤ passed n list s e .position
+  passed-on = passed-elim (λ (z : Stretch). s .position ≤ z .position) (omega arith) (advanced-on (s .position) (transitionAt list e .letter)) (omega arith)
 
   pub passed-forward : s .start ≤ s .position → passed n list s e .start ≤ passed n list s e .position
-  unfolding passed
-  passed-forward h = at (eqb e beginBuffering) (ltb e n)
-    where
-      at : (b l : Bool)
-          → cond b (record { start = s .position; position = s .position }) (cond l (record { start = s .start; position = advanced (s .position) (transitionAt list e .letter) }) s) .start
-          ≤ cond b (record { start = s .position; position = s .position }) (cond l (record { start = s .start; position = advanced (s .position) (transitionAt list e .letter) }) s) .position
-      at true l = omega arith
-      at false true = let on = advanced-on (s .position) (transitionAt list e .letter) in omega arith
-      at false false = h
+  passed-forward h =
+      let on = advanced-on (s .position) (transitionAt list e .letter) in
+      passed-elim (λ (z : Stretch). z .start ≤ z .position) (omega arith) (omega arith) h
 
 pub read-on : (n : ℕ) (list : List ℕ) (s : Stretch) (es : List ℕ) → s .position ≤ readFrom n list s es
 unfolding readFrom
