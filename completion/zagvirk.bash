@@ -3,7 +3,7 @@
 
 _zagvirk() {
     local current=${COMP_WORDS[COMP_CWORD]} before=${COMP_WORDS[COMP_CWORD - 1]}
-    local commands="check words run check-run why common join show dot help"
+    local commands="check words run check-run page why common join show dot help"
     local command=${COMP_WORDS[1]} options= index
     COMPREPLY=()
     if [ "$COMP_CWORD" -eq 1 ]; then
@@ -15,6 +15,7 @@ _zagvirk() {
     words) options="--letters --yes --no --count -h --help" ;;
     run) options="--raw -h --help" ;;
     check-run) options="--copies -h --help" ;;
+    page) options="-h --help" ;;
     why) options="--table -h --help" ;;
     common) options="--raw --letters -h --help" ;;
     join) options="-o --output -h --help" ;;

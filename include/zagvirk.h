@@ -7,6 +7,7 @@
  *   zagvirk_translate     a written word to letters
  *   zagvirk_join          the product of a machine with a plain machine
  *   zagvirk_list_copies   the copies with letters of an accepting run
+ *   zagvirk_write_page    the page of an accepting run, a line for each entry
  *   zagvirk_recognize     whether a machine accepts a word, with a run
  *   zagvirk_accepts       whether a machine accepts a word, without a run
  *   zagvirk_accept_words  the same for each word of a list
@@ -32,7 +33,7 @@
  * is 0, records and answers may change with the minor version: compile again then.
  */
 #define ZAGVIRK_VERSION_MAJOR 0
-#define ZAGVIRK_VERSION_MINOR 6
+#define ZAGVIRK_VERSION_MINOR 7
 #define ZAGVIRK_VERSION_PATCH 0
 #define ZAGVIRK_VERSION (10000 * ZAGVIRK_VERSION_MAJOR + 100 * ZAGVIRK_VERSION_MINOR + ZAGVIRK_VERSION_PATCH)
 
@@ -80,17 +81,17 @@ extern "C" {
 #define ZAGVIRK_NOT_RISING 6            /* transitions do not rise strictly */
 #define ZAGVIRK_BYTES_LEFT 7            /* bytes follow the last line */
 #define ZAGVIRK_WORD_LETTER 8           /* a word has letter 0, a letter above the count, or a byte with no letter */
-#define ZAGVIRK_WORD_TOO_LONG 9         /* a word has too many letters; how many is said at each call */
+#define ZAGVIRK_WORD_TOO_LONG 9         /* a word or a run is too long; how long it may be is said at each call */
 #define ZAGVIRK_NOT_PLAIN 10            /* the second machine is not plain */
 #define ZAGVIRK_LETTERS_DIFFER 11       /* the letter counts differ */
 #define ZAGVIRK_TOO_MANY_STATES 12      /* the state counts multiplied exceed 64 */
 #define ZAGVIRK_TOO_MANY_TRANSITIONS 13 /* the product's transitions exceed 4,000 */
-#define ZAGVIRK_NOT_ACCEPTING 14        /* copies are wanted of a run that does not accept */
+#define ZAGVIRK_NOT_ACCEPTING 14        /* copies or a page of a run that does not accept */
 #define ZAGVIRK_LIST_TOO_SHORT 15       /* the array for transitions is too short */
 #define ZAGVIRK_MACHINE_BROKEN 16       /* a machine and its list break the rules */
 #define ZAGVIRK_RUN_TOO_SHORT 17        /* the array for a run is too short */
 #define ZAGVIRK_WORD_TOO_SHORT 18       /* the array for a word is too short */
-#define ZAGVIRK_SHEET_TOO_SHORT 19      /* the array for a sheet is too short */
+#define ZAGVIRK_SHEET_TOO_SHORT 19      /* the array for a sheet or a page is too short */
 #define ZAGVIRK_COPIES_TOO_SHORT 20     /* the array for copies is too short */
 #define ZAGVIRK_ENDS_BROKEN 34          /* the ends of words fall, or lie past the letters */
 #define ZAGVIRK_ANSWERS_TOO_SHORT 35    /* the array for answers is too short */
@@ -263,6 +264,42 @@ typedef struct {
 zagvirk_copies_listed zagvirk_list_copies(zagvirk_machine machine, const uint16_t *list, size_t list_len,
                                           const uint8_t *word, size_t word_len, const uint16_t *run, size_t run_len,
                                           uint16_t *copies, size_t copies_len);
+
+/* Pages. */
+
+/* The most letters of a word and the most entries of a run that a page takes. */
+#define ZAGVIRK_PAGE_LETTERS 255
+#define ZAGVIRK_PAGE_ENTRIES 99999
+
+/* The bytes of the page of a run with so many entries: 31 for each entry's line and 19 for the last line. With the most
+ * entries they are 3,099,988. */
+#define ZAGVIRK_PAGE_BYTES(entries) (31 * (size_t)(entries) + 19)
+
+/* The result of zagvirk_write_page. bytes is the number of bytes written, 0 after a refusal. */
+typedef struct {
+  uint8_t refusal; /* 0, 16, 9, 8, 14 or 19 */
+  size_t needed;
+  size_t bytes;
+} zagvirk_page_written;
+
+/* Writes the page of an accepting run to the front of page: for each entry, the start state first, a line of five
+ * columns, then a last line of three. A column has six bytes, a decimal number as zagvirk_write_sheet writes it; every
+ * line ends with byte 10.
+ *
+ * An entry's line has the entry's number, counted from 0, and what there is after the entry: the state, the mode
+ * (ZAGVIRK_MODE_NORMAL, ZAGVIRK_MODE_BUFFERING, ZAGVIRK_MODE_EMPTYING), the letters read so far and the letters in the
+ * buffer. The last line has the letters read in normal mode, the letters stored, each counted once, and the word's
+ * length: the first and twice the second make the third.
+ *
+ * Refuses, in this order: 16, 9 if the word has more than ZAGVIRK_PAGE_LETTERS letters or the run more than
+ * ZAGVIRK_PAGE_ENTRIES entries, 8, 14 also if the run is empty, 19 if page has fewer than ZAGVIRK_PAGE_BYTES(run_len)
+ * elements.
+ *
+ * Time: in proportion to the machine, the word and the run; no memory beside the arguments. Stack: ZAGVIRK_STACK_SMALL.
+ */
+zagvirk_page_written zagvirk_write_page(zagvirk_machine machine, const uint16_t *list, size_t list_len,
+                                        const uint8_t *word, size_t word_len, const uint16_t *run, size_t run_len,
+                                        uint8_t *page, size_t page_len);
 
 /* Recognition. */
 

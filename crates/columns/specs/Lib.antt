@@ -1,3 +1,4 @@
 pub mod Column
 pub mod Examples
 pub mod Held
+pub mod Line

@@ -3,7 +3,8 @@
 // Held              what a pass over a column holds after some of its bytes
 // number            the number in a column
 // write_number      a number written as a column of five bytes
-// write_short       the same for a number below 1000, write_shorter for one below 100
+// write_fitting     the same for a number below 100,000, write_short for one below 1000, write_shorter for one below 100
+// write_wide, write_wide_short, write_wide_shorter   the last three for a column of six bytes: a space and that of five
 ghost use Prim.Native.Nat.{_+_, _-_, _/_, _%_, _<_, _≤_};
 ghost use mathlib.Core.List.{[], _∷_};
 ghost use mathlib.Core.Path.{_≡_};
@@ -223,4 +224,47 @@ pub fn write_short(bytes: &mut [u8], at: usize, n: u16)
     let second = digit_or_space(tens, digit_by(tens, hundreds));
     let first = digit_by(n, tens);
     store(bytes, at, 32, 32, third, second, first);
+}
+
+// n below 100,000 as a column of five bytes, written from byte at on: its digits by their places, whatever their number.
+pub fn write_fitting(bytes: &mut [u8], at: usize, n: usize)
+    requires { ⌜ (at + 5 ≤ length (now bytes)) × (n < 100000) ⌝ }
+    ensures { λ r. ⌜ now (bytes .exit) ≡ put at (now (bytes .entry)) (columnOf 5 n) ⌝ }
+{
+    let tens = (n / 10) as u16;
+    let hundreds = tens / 10;
+    let thousands = hundreds / 10;
+    let most = thousands / 10;
+    let fifth = digit_or_space(most, digit_by(most, 0));
+    let fourth = digit_or_space(thousands, digit_by(thousands, most));
+    let third = digit_or_space(hundreds, digit_by(hundreds, thousands));
+    let second = digit_or_space(tens, digit_by(tens, hundreds));
+    store(bytes, at, fifth, fourth, third, second, digit(n));
+}
+
+// n below 100,000 as a column of six bytes, written from byte at on: a space and its column of five.
+pub fn write_wide(bytes: &mut [u8], at: usize, n: usize)
+    requires { ⌜ (at + 6 ≤ length (now bytes)) × (n < 100000) ⌝ }
+    ensures { λ r. ⌜ now (bytes .exit) ≡ put at (now (bytes .entry)) (columnOf 6 n) ⌝ }
+{
+    bytes[at] = 32;
+    write_fitting(bytes, at + 1, n);
+}
+
+// n below 100 as a column of six bytes, written from byte at on.
+pub fn write_wide_shorter(bytes: &mut [u8], at: usize, n: u16)
+    requires { ⌜ (at + 6 ≤ length (now bytes)) × (n < 100) ⌝ }
+    ensures { λ r. ⌜ now (bytes .exit) ≡ put at (now (bytes .entry)) (columnOf 6 n) ⌝ }
+{
+    bytes[at] = 32;
+    write_shorter(bytes, at + 1, n);
+}
+
+// n below 1000 as a column of six bytes, written from byte at on.
+pub fn write_wide_short(bytes: &mut [u8], at: usize, n: u16)
+    requires { ⌜ (at + 6 ≤ length (now bytes)) × (n < 1000) ⌝ }
+    ensures { λ r. ⌜ now (bytes .exit) ≡ put at (now (bytes .entry)) (columnOf 6 n) ⌝ }
+{
+    bytes[at] = 32;
+    write_short(bytes, at + 1, n);
 }

@@ -9,7 +9,6 @@
 -- pairs ks                == the copies as they are written, two numbers each
 -- totalBack ks            == the total of the letters stored, taken from the last copy to the first
 -- totalForward n ks       == the total taken from the first copy to the last, on top of n
--- plainLetters m list w run == the letters that the run reads in normal mode
 -- copiesRefusal           == the first refusal of list_copies, number 0 where there is none
 -- copiesAnswer, copiesAfter == what list_copies answers, and what the caller's slice holds afterwards
 -- copiedValues r          == document 01's number and values for each case of the answer
@@ -18,9 +17,9 @@ use Prim.Native.Nat.{ℕ, _+_, _*_, _-_}
 use mathlib.Core.List.{List, [], _∷_, _++_}
 use mathlib.Core.Bool.{Bool, cond}
 use lib.ListN.{length, drop}
-use lib.Dec.{leb, eqb}
-use Rattle.fsbm.specs.Moves.{move, startAt, isNormal, accepting, beginEmptying}
-use Rattle.fsbm.specs.Answers.{tableAndWord, refusal}
+use lib.Dec.{eqb}
+use Rattle.fsbm.specs.Moves.{move, startAt, accepting, beginEmptying}
+use Rattle.fsbm.specs.Answers.{tableAndWord, runRefusal}
 use Rattle.fsbm.specs.declared.machine.Machine.{Machine}
 use Rattle.fsbm.specs.declared.config.Config.{Config}
 use Rattle.fsbm.specs.declared.answer.Refusal.{Refusal}
@@ -76,18 +75,6 @@ unfoldable pub totalForward : ℕ → List Copy → ℕ
 totalForward n [] = n
 totalForward n (k ∷ ks) = totalForward (n + k .stored) ks
 
--- a move in normal mode reads the letters between the two positions
-abbrev pub plainAt : Config → Config → ℕ
-plainAt c next = cond (isNormal (c .mode)) (next .position - c .position) 0
-
-unfoldable pub plainFrom : Machine → List ℕ → List ℕ → Config → List ℕ → ℕ
-plainFrom m list w c [] = 0
-plainFrom m list w c (e ∷ es) = plainAt c (move m list w c e .config) + plainFrom m list w (move m list w c e .config) es
-
-unfoldable pub plainLetters : Machine → List ℕ → List ℕ → List ℕ → ℕ
-plainLetters m list w [] = 0
-plainLetters m list w (q ∷ es) = plainFrom m list w (startAt q) es
-
 -- how long a slice the list needs
 unfoldable pub copiesNeed : Machine → List ℕ → List ℕ → List ℕ → ℕ
 copiesNeed m list w run = length (copyList m list w run) * 2
@@ -95,11 +82,7 @@ copiesNeed m list w run = length (copyList m list w run) * 2
 -- 16, 9 and 8; 14 the run does not accept; 20 the slice of this length is too short
 unfoldable pub copiesRefusal : Machine → List ℕ → List ℕ → List ℕ → ℕ → Refusal
 copiesRefusal m list w run room =
-    cond (eqb (tableAndWord longestCopied m list w) 0)
-    (cond (accepting m list w run)
-    (cond (leb (copiesNeed m list w run) room) (refusal 0) (record { number = 20; needed = copiesNeed m list w run }))
-    (refusal 14))
-    (refusal (tableAndWord longestCopied m list w))
+    runRefusal (tableAndWord longestCopied m list w) (accepting m list w run) (record { number = 20; needed = copiesNeed m list w run }) room
 
 unfoldable pub copiesAnswer : Machine → List ℕ → List ℕ → List ℕ → ℕ → Copied
 copiesAnswer m list w run room =

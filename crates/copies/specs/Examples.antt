@@ -11,7 +11,7 @@ use mathlib.Core.Path.{_≡_, refl}
 use mathlib.Core.List.{List, [], _∷_}
 use lib.ListN.{replicate}
 use Rattle.fsbm.specs.Machine.{wellFormed}
-use Rattle.fsbm.specs.Answers.{tableAndWord}
+use Rattle.fsbm.specs.Answers.{tableAndWord, runRefusal}
 use Rattle.fsbm.specs.Moves.{wellPlaced, readsLetter, passes, readsStored, mayTake, after, changes, move, accepts, acceptingFrom, accepting}
 use Rattle.fsbm.specs.declared.machine.Machine.{Machine}
 use Rattle.basics.specs.Search.{allBelow, allIn}
@@ -56,11 +56,11 @@ mixed =
     ∷ 3 ∷ 65533 ∷ 0 ∷ 1 ∷ 65534 ∷ 65535 ∷ []
 
 pub abab-listed : copiesAfter tMachine tList (1 ∷ 2 ∷ 1 ∷ 2 ∷ []) abab (7 ∷ 7 ∷ 7 ∷ []) ≡ 0 ∷ 2 ∷ 7 ∷ []
-unfolding tMachine tList abab copiesAfter copiesRefusal copiesNeed tableAndWord wellFormed allBelow allIn accepting acceptingFrom accepts move mayTake passes readsLetter readsStored after changes wellPlaced copiesOf copiesFrom withLetters pairs
+unfolding tMachine tList abab copiesAfter copiesRefusal runRefusal copiesNeed tableAndWord wellFormed allBelow allIn accepting acceptingFrom accepts move mayTake passes readsLetter readsStored after changes wellPlaced copiesOf copiesFrom withLetters pairs
 abab-listed = refl
 
 pub abab-answer : copiesAnswer tMachine tList (1 ∷ 2 ∷ 1 ∷ 2 ∷ []) abab 3 ≡ Listed 1 2
-unfolding tMachine tList abab copiesAnswer copiesRefusal copiesNeed tableAndWord wellFormed allBelow allIn accepting acceptingFrom accepts move mayTake passes readsLetter readsStored after changes wellPlaced copiesOf copiesFrom withLetters totalBack
+unfolding tMachine tList abab copiesAnswer copiesRefusal runRefusal copiesNeed tableAndWord wellFormed allBelow allIn accepting acceptingFrom accepts move mayTake passes readsLetter readsStored after changes wellPlaced copiesOf copiesFrom withLetters totalBack
 abab-answer = refl
 
 pub none-has-one : copiesOf tMachine tList [] none ≡ record { start = 0; stored = 0 } ∷ []
@@ -68,13 +68,13 @@ unfolding tMachine tList none move mayTake passes readsLetter readsStored after 
 none-has-one = refl
 
 pub none-listed : copiesAnswer tMachine tList [] none 0 ≡ Listed 0 0
-unfolding tMachine tList none copiesAnswer copiesRefusal copiesNeed tableAndWord wellFormed allBelow allIn accepting acceptingFrom accepts move mayTake passes readsLetter readsStored after changes wellPlaced copiesOf copiesFrom withLetters totalBack
+unfolding tMachine tList none copiesAnswer copiesRefusal runRefusal copiesNeed tableAndWord wellFormed allBelow allIn accepting acceptingFrom accepts move mayTake passes readsLetter readsStored after changes wellPlaced copiesOf copiesFrom withLetters totalBack
 none-listed = refl
 
 pub mixed-listed : copiesAfter repeated repeatedList (1 ∷ 1 ∷ []) mixed (7 ∷ 7 ∷ 7 ∷ []) ≡ 0 ∷ 1 ∷ 7 ∷ []
-unfolding repeated repeatedList mixed copiesAfter copiesRefusal copiesNeed tableAndWord wellFormed allBelow allIn accepting acceptingFrom accepts move mayTake passes readsLetter readsStored after changes wellPlaced copiesOf copiesFrom withLetters pairs
+unfolding repeated repeatedList mixed copiesAfter copiesRefusal runRefusal copiesNeed tableAndWord wellFormed allBelow allIn accepting acceptingFrom accepts move mayTake passes readsLetter readsStored after changes wellPlaced copiesOf copiesFrom withLetters pairs
 mixed-listed = refl
 
 pub mixed-short : copiesAnswer repeated repeatedList (1 ∷ 1 ∷ []) mixed 1 ≡ Refused (record { number = 20; needed = 2 })
-unfolding repeated repeatedList mixed copiesAnswer copiesRefusal copiesNeed tableAndWord wellFormed allBelow allIn accepting acceptingFrom accepts move mayTake passes readsLetter readsStored after changes wellPlaced copiesOf copiesFrom withLetters totalBack
+unfolding repeated repeatedList mixed copiesAnswer copiesRefusal runRefusal copiesNeed tableAndWord wellFormed allBelow allIn accepting acceptingFrom accepts move mayTake passes readsLetter readsStored after changes wellPlaced copiesOf copiesFrom withLetters totalBack
 mixed-short = refl

@@ -1,3 +1,4 @@
 pub mod Copies
 pub mod Examples
+pub mod Letters
 pub mod Stretches

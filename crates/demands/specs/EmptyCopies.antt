@@ -18,7 +18,7 @@
 -- 4. The total is taken from the last copy backwards, and comes to the same:
 -- total-from-last  == it is the total of the copies listed, from the last to the first
 -- total-as-before  == it is the total of all copies of the run, the empty ones with them, from the first to the last
--- plain-and-twice  == letters read in normal mode and twice the total make the word's length
+-- plain-and-twice  == letters read in normal mode and timesRead (2) times the total make the word's length
 --
 -- 5. A run with empty copies alone:
 -- empty-alone      == if all copies of an accepting run are empty, or it has none, the answer is 0 copies and total 0, whatever the slice, which is as
@@ -41,7 +41,8 @@ use Rattle.fsbm.specs.Moves.{accepting}
 use Rattle.fsbm.specs.Answers.{tableAndWord, refusal}
 use Rattle.fsbm.specs.declared.machine.Machine.{Machine}
 use Rattle.fsbm.proofs.AnswerCases.{table-good}
-use Rattle.copies.specs.Copies.{Copy, isEmpty, copiesOf, copyList, pairs, totalBack, totalForward, plainLetters, longestCopied, copiesNeed, copiesAnswer, copiesAfter, copiedValues}
+use Rattle.copies.specs.Copies.{Copy, isEmpty, copiesOf, copyList, pairs, totalBack, totalForward, longestCopied, copiesNeed, copiesAnswer, copiesAfter, copiedValues}
+use Rattle.copies.specs.Letters.{timesRead, plainLetters}
 use Rattle.copies.specs.Copies.Laws.{Leaves, InFront, written-iff, kept-iff, kept-fewer, kept-none, none-kept, total-same, plain-and-copies, need-fits, refused-first, refused-run, refused-room, listed-all}
 use Rattle.copies.specs.declared.Copied.{Copied}
 use Rattle.copies.specs.declared.Copied.the-variants.{Refused, Listed}
@@ -155,9 +156,9 @@ module _ (m : Machine) (list w run entry exit : List ℕ) (r : Copied)
     pub total-as-before : total ≡ totalForward 0 (copiesOf m list w run)
     total-as-before = total-from-last ∙ total-same (copiesOf m list w run)
 
-    pub plain-and-twice : plainLetters m list w run + total * 2 ≡ length w
+    pub plain-and-twice : plainLetters m list w run + timesRead * total ≡ length w
     plain-and-twice =
-        ap (λ (t : ℕ). plainLetters m list w run + t * 2) total-from-last
+        ap (λ (t : ℕ). plainLetters m list w run + timesRead * t) total-from-last
         ∙ plain-and-copies m list w run (table-good longestCopied m list w passes .0) accepts
 
   -- 5. Empty copies alone

@@ -3,4 +3,5 @@ pub mod Demand2
 pub mod Demand3
 pub mod EmptyCopies
 pub mod Ground
+pub mod Page
 pub mod YesOrNo

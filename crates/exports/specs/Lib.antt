@@ -1,5 +1,6 @@
 pub mod CommonWords
 pub mod Comparison
+pub mod Pages
 pub mod Products
 pub mod ReachedStates
 pub mod Recognize

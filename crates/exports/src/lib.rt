@@ -2,6 +2,7 @@
 // that of comparison.
 pub mod common_words;
 pub mod comparison;
+pub mod pages;
 pub mod products;
 pub mod reached_states;
 pub mod recognition;

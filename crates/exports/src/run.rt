@@ -1,6 +1,5 @@
 // One entry of a run, and a whole run.
 ghost use mathlib.Core.Path.{_≡_};
-ghost use Rattle.fsbm.specs.Moves.{modeNumber};
 ghost use Rattle.fsbm.specs.Answers.{stepValues, checkValues};
 ghost use Rattle.exports.specs.Run.{modeOf, configOf, recordOf, movedRecord, steppedRecord, checkedRecord};
 use fsbm::answer::Checked;
@@ -47,17 +46,6 @@ fn mode_of(n: u8) -> Mode
     Mode::Emptying
 }
 
-// The number of a mode.
-fn mode_number(mode: Mode) -> u8
-    ensures { λ r. ⌜ r ≡ modeNumber mode ⌝ }
-{
-    match mode {
-        Mode::Normal => 0,
-        Mode::Buffering => 1,
-        Mode::Emptying => 2,
-    }
-}
-
 // The configuration of a record.
 fn config_of(c: ConfigRecord) -> Config
     ensures { λ r. ⌜ r ≡ configOf c ⌝ }
@@ -79,7 +67,7 @@ fn record_of(c: Config) -> ConfigRecord
     ConfigRecord {
         position: c.position,
         state: c.state,
-        mode: mode_number(mode),
+        mode: mode.number(),
         start: c.start,
         end: c.end,
     }

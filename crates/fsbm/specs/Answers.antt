@@ -1,8 +1,9 @@
--- The answers of the public calls: document 01's numbers, in its order.
+-- The answers of the public calls: document 01's numbers, in its order. The laws stand in specs/Answers/Laws.antt.
 --
 -- goodLetters letters w       == every letter of w is one of the machine's
 -- wordFault longest letters w == the first refusal of a word: 9, 8; 0 where there is none
 -- tableAndWord longest m list w == the first refusal of a table and a word: 16, 9, 8; 0 where there is none
+-- runRefusal fault accepts short room == the first refusal of a call that takes an accepting run and writes to a slice, number 0 where there is none
 -- noMachine                   == the machine in the answer of a call that refuses
 -- stepAnswer m list w c e     == what Config::step answers
 -- checkAnswer m list w run    == what check_run answers
@@ -24,6 +25,7 @@ use Rattle.fsbm.specs.declared.answer.Stepped.{Stepped}
 use Rattle.fsbm.specs.declared.answer.Stepped.the-variants as stepped
 use Rattle.fsbm.specs.declared.answer.Checked.{Checked}
 use Rattle.fsbm.specs.declared.answer.Checked.the-variants as checked
+pub mod Laws
 
 -- the longest word that a run is checked on
 abbrev pub longestChecked : ℕ
@@ -55,6 +57,10 @@ noMachine = record { states = 0; letters = 0; transitions = 0; marks = replicate
 -- a refusal that no slice is too short for
 abbrev pub refusal : ℕ → Refusal
 refusal n = record { number = n; needed = 0 }
+
+-- that of what comes before the run, if there is one; 14 the run does not accept; the slice of length room is too short
+unfoldable pub runRefusal : ℕ → Bool → Refusal → ℕ → Refusal
+runRefusal fault accepts short room = cond (eqb fault 0) (cond accepts (cond (leb (short .needed) room) (refusal 0) short) (refusal 14)) (refusal fault)
 
 abbrev pub steppedBy : Move → Stepped
 steppedBy v = cond (v .allowed) (stepped.Moved (v .config)) stepped.NotAllowed

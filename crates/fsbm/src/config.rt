@@ -6,7 +6,7 @@ ghost use Rattle.fsbm.specs.Machine.{buffering};
 ghost use Rattle.fsbm.specs.declared.machine.Machine.{Machine};
 ghost use Rattle.fsbm.specs.declared.config.Mode.the-variants.{Normal, Buffering, Emptying};
 ghost use Rattle.fsbm.specs.Answers.{stepAnswer, steppedValues, stepValues};
-ghost use Rattle.fsbm.specs.Moves.{wellPlaced, bufferFits, readsLetter, advanced, passes, readsStored, mayTake, after, goes, changes, move, startAt, accepts};
+ghost use Rattle.fsbm.specs.Moves.{modeNumber, wellPlaced, bufferFits, readsLetter, advanced, passes, readsStored, mayTake, after, goes, changes, move, startAt, accepts};
 use crate::answer;
 use crate::answer::Refusal;
 use crate::answer::Stepped;
@@ -31,6 +31,19 @@ pub enum Mode {
     Normal,
     Buffering,
     Emptying,
+}
+
+impl Mode {
+    // Its number: 0 normal, 1 buffering, 2 emptying.
+    pub fn number(self) -> u8
+        ensures { λ r. ⌜ r ≡ modeNumber self ⌝ }
+    {
+        match self {
+            Mode::Normal => 0,
+            Mode::Buffering => 1,
+            Mode::Emptying => 2,
+        }
+    }
 }
 
 // A configuration of a run on a word. The buffer is the stretch of the word from start up to end.

@@ -12,7 +12,7 @@ pub const MAX_TRANSITIONS: usize = 4000;
 // The numbers of the longest list of transitions, three for each.
 pub const LIST_LENGTH: usize = 12000;
 
-// The most letters of a word that is recognized.
+// The most letters of a word that is recognized, or whose copies or page are wanted.
 pub const LONGEST_WORD: usize = 255;
 
 // How many positions such a word has: one before each letter, and its end.

@@ -20,7 +20,8 @@ use Rattle.fsbm.specs.Answers.{refusal}
 use Rattle.fsbm.specs.declared.machine.Machine.{Machine}
 use Rattle.sheet.specs.Series.{orElse, firstOf}
 use Rattle.basics.specs.Each.{eachBelow}
-use Rattle.sheet.specs.Format.{lineOf, headerLine, stateLine, transitionLine, sheetOf}
+use Rattle.columns.specs.Line.{lineOf}
+use Rattle.sheet.specs.Format.{headerLine, stateLine, transitionLine, sheetOf}
 use Rattle.sheet.specs.Reading.{columnAt, columnFault, lineFault, countsFault, headerFault, markFault, stateFault, transitionIn, orderFault}
 use Rattle.sheet.specs.Reading.{transitionFault, restFault, firstFault, marksOf, machineOf, readRefusal, readAnswer}
 

@@ -1,14 +1,14 @@
 -- The sheet of a table (document 01, "The sheet"). The lengths of its lines stand in specs/Format/Laws.antt.
 --
 -- Short t                == the numbers of the transition t have at most two, three and two digits
--- lineOf numbers         == a line: each number in a column of five bytes, and byte 10
+-- sheetColumn            == the bytes of a column
 -- stateStart q           == the byte where the line of state q starts
 -- transitionStart n k    == the byte where the line of transition k starts, with n states
 -- sheetLength m          == the length of the table's sheet
 -- sheetOf m list         == the sheet of a table
 use Prim.Native.Nat.{ℕ, _+_, _*_, _<_}
 use mathlib.Core.List.{List, [], _∷_, _++_}
-use Rattle.columns.specs.Column.{columnOf}
+use Rattle.columns.specs.Line.{lineOf}
 use Rattle.fsbm.specs.Machine.{markOf, transitionAt}
 use Rattle.fsbm.specs.declared.machine.Machine.{Machine}
 use Rattle.fsbm.specs.declared.machine.Transition.{Transition}
@@ -18,9 +18,8 @@ pub mod Laws
 abbrev pub Short : Transition → Type 0
 Short t = (t .from < 100) × (t .letter < 1000) × (t .to < 100)
 
-unfoldable pub lineOf : List ℕ → List ℕ
-lineOf [] = 10 ∷ []
-lineOf (n ∷ l) = columnOf 5 n ++ lineOf l
+abbrev pub sheetColumn : ℕ
+sheetColumn = 5
 
 -- line one has three columns and so 16 bytes, a state's line two and 11, a transition's line three and 16
 abbrev pub stateStart : ℕ → ℕ
@@ -33,13 +32,13 @@ abbrev pub sheetLength : Machine → ℕ
 sheetLength m = transitionStart (m .states) (m .transitions)
 
 unfoldable pub headerLine : Machine → List ℕ
-headerLine m = lineOf (m .states ∷ m .letters ∷ m .transitions ∷ [])
+headerLine m = lineOf sheetColumn (m .states ∷ m .letters ∷ m .transitions ∷ [])
 
 unfoldable pub stateLine : List ℕ → ℕ → List ℕ
-stateLine marks q = lineOf (q ∷ markOf marks q ∷ [])
+stateLine marks q = lineOf sheetColumn (q ∷ markOf marks q ∷ [])
 
 unfoldable pub transitionLine : List ℕ → ℕ → List ℕ
-transitionLine list k = lineOf (transitionAt list k .from ∷ transitionAt list k .letter ∷ transitionAt list k .to ∷ [])
+transitionLine list k = lineOf sheetColumn (transitionAt list k .from ∷ transitionAt list k .letter ∷ transitionAt list k .to ∷ [])
 
 unfoldable pub sheetOf : Machine → List ℕ → List ℕ
 sheetOf m list = headerLine m ++ (eachBelow (m .states) (stateLine (m .marks)) ++ eachBelow (m .transitions) (transitionLine list))

@@ -14,9 +14,10 @@
 use Prim.Native.Nat.{ℕ, _+_, _*_, _-_, _/_, _%_}
 use mathlib.Core.List.{List, [], _∷_, _++_}
 use mathlib.Core.Bool.{Bool, cond, not, _&&_, _||_}
-use lib.ListN.{length, take, drop, getD, replicate}
+use lib.ListN.{length, drop, getD, replicate}
 use lib.Dec.{leb, eqb}
-use Rattle.columns.specs.Column.{columnNumber, noNumber}
+use Rattle.columns.specs.Column.{noNumber}
+use Rattle.columns.specs.Line.{numberAt}
 use Rattle.fsbm.specs.Machine.{maxStates, maxLetters, maxTransitions, named, precedes}
 use Rattle.fsbm.specs.Answers.{refusal, noMachine}
 use Rattle.fsbm.specs.declared.machine.Machine.{Machine}
@@ -24,13 +25,13 @@ use Rattle.fsbm.specs.declared.machine.Transition.{Transition}
 use Rattle.fsbm.specs.declared.answer.Refusal.{Refusal}
 use Rattle.sheet.specs.declared.faults.Line.{Line}
 use Rattle.sheet.specs.declared.answers.Sheet.{Sheet}
-use Rattle.sheet.specs.Format.{stateStart, transitionStart}
+use Rattle.sheet.specs.Format.{sheetColumn, stateStart, transitionStart}
 use Rattle.sheet.specs.Series.{orElse, firstOf}
 use Rattle.basics.specs.Each.{eachBelow}
 pub mod Laws
 
 unfoldable pub columnAt : List ℕ → ℕ → ℕ
-columnAt s i = columnNumber (take 5 (drop i s))
+columnAt s i = numberAt sheetColumn s i
 
 -- 0 where a test holds, else this fault
 abbrev pub unless : Bool → ℕ → ℕ

@@ -8,7 +8,7 @@ pub struct Sheet {
     pub machine: Machine,
 }
 
-// The answer of write_sheet: why it refused, or how many bytes it wrote.
+// The answer of write_sheet, and of write_page of crate page: why it refused, or how many bytes it wrote.
 pub enum Written {
     Refused(Refusal),
     Bytes(usize),

@@ -21,7 +21,7 @@ use lib.Seq.{drop-drop, getD-drop, length-take-le, drop-cons, take-suc}
 use Rattle.columns.specs.Column.{columnNumber, columnOf, noNumber, filledColumn}
 use Rattle.columns.specs.Column.Laws.{column-length, number-of-column, column-of-number, column-not-blank, filled-same, line-end-none}
 use Rattle.basics.specs.Each.{eachBelow}
-use Rattle.sheet.specs.Format.{lineOf}
+use Rattle.columns.specs.Line.{lineOf}
 use Rattle.sheet.specs.Reading.{columnAt}
 use Rattle.sheet.specs.Reading.Laws.{GoodLine}
 use Rattle.sheet_laws.specs.Filled.{filled}
@@ -30,14 +30,14 @@ use Rattle.sheet_laws.specs.Filled.Laws.{filled-end, filled-part, column
 -- From what is filled to what is read
 
 -- the first column of a line, and the bytes after it
-first-column : (ns s tail : List ℕ) (i n : ℕ) → n < 100000 → filled (drop i s) ≡ lineOf (n ∷ ns) ++ tail
-    → (columnAt s i ≡ n) × (filled (drop (i + 5) s) ≡ lineOf ns ++ tail)
+first-column : (ns s tail : List ℕ) (i n : ℕ) → n < 100000 → filled (drop i s) ≡ lineOf 5 (n ∷ ns) ++ tail
+    → (columnAt s i ≡ n) × (filled (drop (i + 5) s) ≡ lineOf 5 ns ++ tail)
 unfolding lineOf columnAt
 first-column ns s tail i n f e =
-    let c = column-left (drop i s) (lineOf ns ++ tail) n f (e ∙ append-assoc (columnOf 5 n) (lineOf ns) tail) in
+    let c = column-left (drop i s) (lineOf 5 ns ++ tail) n f (e ∙ append-assoc (columnOf 5 n) (lineOf 5 ns) tail) in
     (c .0, ap filled (sym (drop-drop 5 i s)) ∙ c .1)
 
-pub line-number : (ns s tail : List ℕ) (i : ℕ) → filled (drop i s) ≡ lineOf ns ++ tail → ((c : ℕ) → c < length ns → getD ns c 0 < 100000)
+pub line-number : (ns s tail : List ℕ) (i : ℕ) → filled (drop i s) ≡ lineOf 5 ns ++ tail → ((c : ℕ) → c < length ns → getD ns c 0 < 100000)
     → (c : ℕ) → c < length ns → columnAt s (i + c * 5) ≡ getD ns c 0
 line-number [] s tail i e f c l = absurd (omega arith)
 line-number (n ∷ ns) s tail i e f zero l =
@@ -48,7 +48,7 @@ line-number (n ∷ ns) s tail i e f (suc c) l =
     ap (λ (k : ℕ). columnAt s k) z
     ∙ line-number ns s tail (i + 5) (first-column ns s tail i n (f 0 (omega arith)) e .1) (λ d m. f (suc d) (omega arith)) c (omega arith)
 
-pub line-end : (ns s tail : List ℕ) (i : ℕ) → filled (drop i s) ≡ lineOf ns ++ tail → ((c : ℕ) → c < length ns → getD ns c 0 < 100000)
+pub line-end : (ns s tail : List ℕ) (i : ℕ) → filled (drop i s) ≡ lineOf 5 ns ++ tail → ((c : ℕ) → c < length ns → getD ns c 0 < 100000)
     → (getD s (i + length ns * 5) 0 ≡ 10) × (filled (drop (i + length ns * 5 + 1) s) ≡ tail) × (i + length ns * 5 + 1 ≤ length s)
 unfolding lineOf
 line-end [] s tail i e f =
@@ -63,7 +63,7 @@ line-end (n ∷ ns) s tail i e f =
     subst (λ (k : ℕ). (getD s k 0 ≡ 10) × (filled (drop (k + 1) s) ≡ tail) × (k + 1 ≤ length s)) z
     (line-end ns s tail (i + 5) (first-column ns s tail i n (f 0 (omega arith)) e .1) (λ d m. f (suc d) (omega arith)))
 
-pub line-good : (ns s tail : List ℕ) (i : ℕ) → filled (drop i s) ≡ lineOf ns ++ tail → ((c : ℕ) → c < length ns → getD ns c 0 < 100000) → GoodLine s (length ns) i
+pub line-good : (ns s tail : List ℕ) (i : ℕ) → filled (drop i s) ≡ lineOf 5 ns ++ tail → ((c : ℕ) → c < length ns → getD ns c 0 < 100000) → GoodLine s (length ns) i
 line-good ns s tail i e f =
     let x = line-end ns s tail i e f in
     record {
@@ -76,7 +76,7 @@ line-good ns s tail i e f =
 
 pub line-filled : (ns s : List ℕ) (i : ℕ) → i + length ns * 5 + 1 ≤ length s
     → ((c : ℕ) → c < length ns → (columnAt s (i + c * 5) ≡ getD ns c 0) × (columnAt s (i + c * 5) ≡ noNumber → ⊥))
-    → getD s (i + length ns * 5) 0 ≡ 10 → filled (drop i s) ≡ lineOf ns ++ filled (drop (i + length ns * 5 + 1) s)
+    → getD s (i + length ns * 5) 0 ≡ 10 → filled (drop i s) ≡ lineOf 5 ns ++ filled (drop (i + length ns * 5 + 1) s)
 unfolding lineOf
 line-filled [] s i l f e =
     let z : i + 0 * 5 ≡ i = omega arith in
@@ -88,8 +88,8 @@ line-filled (n ∷ ns) s i l f e =
     ap filled (sym apart)
     ∙ (filled-part part (drop (i + 5) s) five (line-end-none part (here .1))
     ∙ (ap (λ (x : List ℕ). x ++ filled (drop (i + 5) s)) first
-    ∙ (ap (λ (x : List ℕ). columnOf 5 n ++ x) (line-filled ns s (i + 5) (omega arith) rest ending ∙ ap (λ (k : ℕ). lineOf ns ++ filled (drop k s)) all)
-    ∙ sym (append-assoc (columnOf 5 n) (lineOf ns) (filled (drop (i + suc (length ns) * 5 + 1) s))))))
+    ∙ (ap (λ (x : List ℕ). columnOf 5 n ++ x) (line-filled ns s (i + 5) (omega arith) rest ending ∙ ap (λ (k : ℕ). lineOf 5 ns ++ filled (drop k s)) all)
+    ∙ sym (append-assoc (columnOf 5 n) (lineOf 5 ns) (filled (drop (i + suc (length ns) * 5 + 1) s))))))
   where
     part : List ℕ
     part = take 5 (drop i s)
@@ -124,16 +124,16 @@ line-filled (n ∷ ns) s i l f e =
 
 -- What is written
 
-pub line-kept : (ns tail : List ℕ) → ((c : ℕ) → c < length ns → getD ns c 0 < 100000) → filled (lineOf ns ++ tail) ≡ lineOf ns ++ filled tail
+pub line-kept : (ns tail : List ℕ) → ((c : ℕ) → c < length ns → getD ns c 0 < 100000) → filled (lineOf 5 ns ++ tail) ≡ lineOf 5 ns ++ filled tail
 unfolding lineOf
 line-kept [] tail f = filled-end tail
 line-kept (n ∷ ns) tail f =
     let fits : n < 100000 = f 0 (omega arith) in
     let column = columnOf 5 n in
-    ap filled (append-assoc column (lineOf ns) tail)
-    ∙ (filled-part column (lineOf ns ++ tail) (column-length 5 n) (line-end-none column (λ q. let m = number-of-column 4 n fits in omega arith))
-    ∙ (ap (λ (x : List ℕ). x ++ filled (lineOf ns ++ tail)) (filled-same column (column-not-blank 4 n fits))
-    ∙ (ap (λ (x : List ℕ). column ++ x) (line-kept ns tail (λ c l. f (suc c) (omega arith))) ∙ sym (append-assoc column (lineOf ns) (filled tail)))))
+    ap filled (append-assoc column (lineOf 5 ns) tail)
+    ∙ (filled-part column (lineOf 5 ns ++ tail) (column-length 5 n) (line-end-none column (λ q. let m = number-of-column 4 n fits in omega arith))
+    ∙ (ap (λ (x : List ℕ). x ++ filled (lineOf 5 ns ++ tail)) (filled-same column (column-not-blank 4 n fits))
+    ∙ (ap (λ (x : List ℕ). column ++ x) (line-kept ns tail (λ c l. f (suc c) (omega arith))) ∙ sym (append-assoc column (lineOf 5 ns) (filled tail)))))
 
 pub each-kept : (n : ℕ) (f : ℕ → List ℕ) (rest : List ℕ) → ((k : ℕ) → k < n → (tail : List ℕ) → filled (f k ++ tail) ≡ f k ++ filled tail)
     → filled (eachBelow n f ++ rest) ≡ eachBelow n f ++ filled rest

@@ -31,12 +31,14 @@ use Rattle.fsbm.specs.Answers.{refusal, noMachine}
 use Rattle.fsbm.specs.declared.machine.Machine.{Machine}
 use Rattle.fsbm.specs.declared.machine.Transition.{Transition}
 use Rattle.fsbm.specs.declared.answer.Refusal.{Refusal}
-use Rattle.sheet.specs.Format.Laws.{line-length, header-wide, state-wide, transition-wide}
+use Rattle.columns.specs.Line.{lineOf}
+use Rattle.columns.specs.Line.Laws.{line-length}
+use Rattle.sheet.specs.Format.Laws.{header-wide, state-wide, transition-wide}
 use Rattle.sheet.specs.declared.answers.Sheet.{Sheet}
 use Rattle.sheet.specs.declared.answers.Written.the-variants.{Refused, Bytes}
 use Rattle.basics.specs.Each.{eachBelow}
 use Rattle.basics.specs.Each.Laws.{each-length, each-same, each-drop, each-elem, each-parts}
-use Rattle.sheet.specs.Format.{lineOf, stateStart, transitionStart, sheetLength, headerLine, stateLine, transitionLine, sheetOf}
+use Rattle.sheet.specs.Format.{stateStart, transitionStart, sheetLength, headerLine, stateLine, transitionLine, sheetOf}
 use Rattle.sheet.specs.Reading.{columnAt, firstFault, stateFault, transitionFault, transitionIn, marksOf, machineOf, numbersIn, transitionsOf}
 use Rattle.sheet.specs.Reading.{readRefusal, readAnswer, readList}
 use Rattle.sheet.specs.Reading.Laws.{GoodLine, GoodState, GoodTransition, Sound, state-none, transition-none, no-fault, goodFlags}
@@ -73,11 +75,11 @@ module _ (m : Machine) (list : List ℕ) (r : Tested m list) where
   C = eachBelow (m .transitions) (transitionLine list)
 
   -- where the lines stand
-  header-place : drop 0 S ≡ lineOf (m .states ∷ m .letters ∷ m .transitions ∷ []) ++ (B ++ C)
+  header-place : drop 0 S ≡ lineOf 5 (m .states ∷ m .letters ∷ m .transitions ∷ []) ++ (B ++ C)
   unfolding S B C sheetOf headerLine
   header-place = refl
 
-  state-place : (q : ℕ) → q < m .states → (tail : List ℕ) × (drop (stateStart q) S ≡ lineOf (q ∷ markOf (m .marks) q ∷ []) ++ tail)
+  state-place : (q : ℕ) → q < m .states → (tail : List ℕ) × (drop (stateStart q) S ≡ lineOf 5 (q ∷ markOf (m .marks) q ∷ []) ++ tail)
   unfolding S B C sheetOf stateLine
   state-place q h =
       let d = each-drop 11 (stateLine (m .marks)) (state-wide (m .marks)) (m .states) q C h in
@@ -85,7 +87,7 @@ module _ (m : Machine) (list : List ℕ) (r : Tested m list) where
       (d .0, ap (λ (k : ℕ). drop k (headerLine m ++ (B ++ C))) n ∙ (drop-append-add (headerLine m) (B ++ C) (11 * q) ∙ d .1))
 
   transition-place : (k : ℕ) → k < m .transitions
-      → (tail : List ℕ) × (drop (transitionStart (m .states) k) S ≡ lineOf (transitionAt list k .from ∷ transitionAt list k .letter ∷ transitionAt list k .to ∷ []) ++ tail)
+      → (tail : List ℕ) × (drop (transitionStart (m .states) k) S ≡ lineOf 5 (transitionAt list k .from ∷ transitionAt list k .letter ∷ transitionAt list k .to ∷ []) ++ tail)
   unfolding S B C sheetOf transitionLine
   transition-place k h =
       let d = each-drop 16 (transitionLine list) (transition-wide list) (m .transitions) k [] h in
@@ -156,16 +158,16 @@ module _ (m : Machine) (list : List ℕ) (r : Tested m list) (s : List ℕ) (is 
   T = sheetOf m list
 
   -- where the lines stand: what is filled from a line's start on is the table's sheet from there on
-  onward : (ns tail : List ℕ) (i : ℕ) → ((c : ℕ) → c < length ns → getD ns c 0 < 100000) → filled (drop i s) ≡ drop i T → drop i T ≡ lineOf ns ++ tail
+  onward : (ns tail : List ℕ) (i : ℕ) → ((c : ℕ) → c < length ns → getD ns c 0 < 100000) → filled (drop i s) ≡ drop i T → drop i T ≡ lineOf 5 ns ++ tail
       → filled (drop (i + length ns * 5 + 1) s) ≡ drop (i + length ns * 5 + 1) T
   onward ns tail i f e d =
-      let w = line-length ns in
-      let z : i + length (lineOf ns) ≡ i + length ns * 5 + 1 = omega arith in
+      let w = line-length 5 ns in
+      let z : i + length (lineOf 5 ns) ≡ i + length ns * 5 + 1 = omega arith in
       line-end ns s tail i (e ∙ d) f .1
-      ∙ (sym (ap (drop (length (lineOf ns))) d ∙ drop-at (lineOf ns) tail (length (lineOf ns)) refl)
-      ∙ (drop-drop (length (lineOf ns)) i T ∙ ap (λ (k : ℕ). drop k T) z))
+      ∙ (sym (ap (drop (length (lineOf 5 ns))) d ∙ drop-at (lineOf 5 ns) tail (length (lineOf 5 ns)) refl)
+      ∙ (drop-drop (length (lineOf 5 ns)) i T ∙ ap (λ (k : ℕ). drop k T) z))
 
-  header-at : filled (drop 0 s) ≡ lineOf (m .states ∷ m .letters ∷ m .transitions ∷ []) ++ (B m list r ++ C m list r)
+  header-at : filled (drop 0 s) ≡ lineOf 5 (m .states ∷ m .letters ∷ m .transitions ∷ []) ++ (B m list r ++ C m list r)
   unfolding S
   header-at = is ∙ header-place m list r
 
@@ -189,12 +191,12 @@ module _ (m : Machine) (list : List ℕ) (r : Tested m list) (s : List ℕ) (is 
       subst (λ (j : ℕ). filled (drop j s) ≡ drop j T) z
       (onward (transitionAt list k .from ∷ transitionAt list k .letter ∷ transitionAt list k .to ∷ []) (p .0) (transitionStart (m .states) k) (transition-small m list r k (omega arith)) (transitions-from k (omega arith)) (p .1))
 
-  state-at : (q : ℕ) → q < m .states → (tail : List ℕ) × (filled (drop (stateStart q) s) ≡ lineOf (q ∷ markOf (m .marks) q ∷ []) ++ tail)
+  state-at : (q : ℕ) → q < m .states → (tail : List ℕ) × (filled (drop (stateStart q) s) ≡ lineOf 5 (q ∷ markOf (m .marks) q ∷ []) ++ tail)
   unfolding S T
   state-at q h = let p = state-place m list r q h in (p .0, states-from q (omega arith) ∙ p .1)
 
   transition-at : (k : ℕ) → k < m .transitions
-      → (tail : List ℕ) × (filled (drop (transitionStart (m .states) k) s) ≡ lineOf (transitionAt list k .from ∷ transitionAt list k .letter ∷ transitionAt list k .to ∷ []) ++ tail)
+      → (tail : List ℕ) × (filled (drop (transitionStart (m .states) k) s) ≡ lineOf 5 (transitionAt list k .from ∷ transitionAt list k .letter ∷ transitionAt list k .to ∷ []) ++ tail)
   unfolding S T
   transition-at k h = let p = transition-place m list r k h in (p .0, transitions-from k (omega arith) ∙ p .1)
 
@@ -479,8 +481,8 @@ module _ (s rest : List ℕ) (sound : Sound s) where
   unfolding transitionLine
   transition-part k h =
       line-filled (u .from ∷ u .letter ∷ u .to ∷ []) s (transitionStart n k) (transition-good k h .line .long) (λ c b. each c b) (transition-good k h .line .ends)
-      ∙ (ap (λ (k : ℕ). lineOf (u .from ∷ u .letter ∷ u .to ∷ []) ++ filled (drop k s)) z
-      ∙ ap (λ (v : Transition). lineOf (v .from ∷ v .letter ∷ v .to ∷ []) ++ filled (drop (16 + 11 * n + 16 * k + 16) s)) (sym (transition-is k h)))
+      ∙ (ap (λ (k : ℕ). lineOf 5 (u .from ∷ u .letter ∷ u .to ∷ []) ++ filled (drop k s)) z
+      ∙ ap (λ (v : Transition). lineOf 5 (v .from ∷ v .letter ∷ v .to ∷ []) ++ filled (drop (16 + 11 * n + 16 * k + 16) s)) (sym (transition-is k h)))
     where
       z : transitionStart n k + 3 * 5 + 1 ≡ 16 + 11 * n + 16 * k + 16
       z = omega arith

@@ -2,7 +2,7 @@
 --
 -- line-two, line-three == columns and the byte 10, put one by one, are the line
 -- write-ill, write-short, write-long, write-says == the ways through write_sheet, and the number and values of its answer
-use Prim.Native.Nat.{ℕ, zero, _+_, _*_, _-_, _<_, _≤_}
+use Prim.Native.Nat.{ℕ, _+_, _*_, _-_, _<_, _≤_}
 use mathlib.Core.Path.{_≡_, refl, sym, ap, _∙_, subst}
 use mathlib.Core.List.{List, [], _∷_, _++_, append-assoc}
 use mathlib.Core.Bool.{Bool, true, false, cond}
@@ -13,71 +13,48 @@ use borrow.Author.Tests.{le-leb, lt-leb}
 use Rattle.basics.specs.Each.{eachBelow}
 use Rattle.basics.specs.Each.Laws.{each-length}
 use Rattle.basics.specs.Lists.{put}
-use Rattle.basics.specs.Lists.Laws.{put-length, put-more, put-one, put-zero}
+use Rattle.basics.specs.Lists.Laws.{put-more, put-zero}
 use Rattle.columns.specs.Column.{columnOf}
-use Rattle.columns.specs.Column.Laws.{column-length}
+use Rattle.columns.specs.Line.{lineOf}
+use Rattle.columns.specs.Line.Laws.{columnsOf, columns-none, columns-more, columns-end, line-length}
 use Rattle.fsbm.specs.Machine.{markOf, transitionAt, wellFormed}
 use Rattle.fsbm.specs.Answers.{refusal}
 use Rattle.fsbm.specs.Rules.{rules}
 use Rattle.fsbm.specs.declared.machine.Machine.{Machine}
 use Rattle.fsbm.specs.declared.answer.Refusal.{Refusal}
-use Rattle.sheet.specs.Format.Laws.{line-length, state-wide, transition-wide}
+use Rattle.sheet.specs.Format.Laws.{state-wide, transition-wide}
 use Rattle.sheet.specs.declared.answers.Written.{Written}
 use Rattle.sheet.specs.declared.answers.Written.the-variants.{Refused, Bytes}
-use Rattle.sheet.specs.Format.{Short, lineOf, headerLine, stateLine, transitionLine, sheetLength, sheetOf}
+use Rattle.sheet.specs.Format.{Short, headerLine, stateLine, transitionLine, sheetLength, sheetOf}
 use Rattle.sheet.specs.Writing.{writeRefusal, writeAnswer, writeSheet, writtenValues, writeValues}
 
 module _ (l l1 l2 : List ℕ) (at a b : ℕ) (first : l1 ≡ put at l (columnOf 5 a)) (second : l2 ≡ put (at + 5) l1 (columnOf 5 b)) where
-  two-columns : at + 10 ≤ length l → l2 ≡ put at l (columnOf 5 a ++ columnOf 5 b)
+  two-columns : at + 10 ≤ length l → l2 ≡ put at l (columnsOf 5 (a ∷ b ∷ []))
   two-columns h =
-      let n = column-length 5 a in
-      let m = column-length 5 b in
-      put-more l l1 l2 (columnOf 5 a) (columnOf 5 b) at (at + 5) first second (omega arith) (omega arith)
+      let one = columns-more 5 l at [] l at (columns-none 5 l at) (omega arith) a l1 first (omega arith) in
+      columns-more 5 l at (a ∷ []) l1 (at + 5) one (omega arith) b l2 second (omega arith)
 
-  two-length : length (columnOf 5 a ++ columnOf 5 b) ≡ 10
-  two-length =
-      let n = column-length 5 a in
-      let m = column-length 5 b in
-      omega (arith, length-append (columnOf 5 a) (columnOf 5 b))
+  pub line-two : at + 11 ≤ length l → set l2 (at + 10) 10 ≡ put at l (lineOf 5 (a ∷ b ∷ []))
+  line-two h = columns-end 5 l at (a ∷ b ∷ []) l2 (at + 10) (two-columns (omega arith)) (omega arith) (omega arith)
 
-  pub line-two : at + 11 ≤ length l → set l2 (at + 10) 10 ≡ put at l (lineOf (a ∷ b ∷ []))
-  unfolding lineOf
-  line-two h =
-      let c = two-columns (omega arith) in
-      let n = two-length in
-      let k : length l2 ≡ length l = ap length c ∙ put-length at l (columnOf 5 a ++ columnOf 5 b) (omega arith) in
-      put-more l l2 (set l2 (at + 10) 10) (columnOf 5 a ++ columnOf 5 b) (10 ∷ []) at (at + 10) c (put-one l2 (at + 10) 10 (omega arith)) (omega arith) (omega arith)
-      ∙ ap (λ (x : List ℕ). put at l x) (append-assoc (columnOf 5 a) (columnOf 5 b) (10 ∷ []))
+  pub line-three : (l3 : List ℕ) (d : ℕ) → l3 ≡ put (at + 10) l2 (columnOf 5 d) → at + 16 ≤ length l → set l3 (at + 15) 10 ≡ put at l (lineOf 5 (a ∷ b ∷ d ∷ []))
+  line-three l3 d third h =
+      let three = columns-more 5 l at (a ∷ b ∷ []) l2 (at + 10) (two-columns (omega arith)) (omega arith) d l3 third (omega arith) in
+      columns-end 5 l at (a ∷ b ∷ d ∷ []) l3 (at + 15) three (omega arith) (omega arith)
 
-  module _ (l3 : List ℕ) (d : ℕ) (third : l3 ≡ put (at + 10) l2 (columnOf 5 d)) where
-    pub line-three : at + 16 ≤ length l → set l3 (at + 15) 10 ≡ put at l (lineOf (a ∷ b ∷ d ∷ []))
-    unfolding lineOf
-    line-three h =
-        let c = two-columns (omega arith) in
-        let n = two-length in
-        let m = column-length 5 d in
-        let e : l3 ≡ put at l (ab ++ columnOf 5 d) = put-more l l2 l3 ab (columnOf 5 d) at (at + 10) c third (omega arith) (omega arith) in
-        let q : length (ab ++ columnOf 5 d) ≡ 15 = omega (arith, length-append ab (columnOf 5 d)) in
-        let k : length l3 ≡ length l = ap length e ∙ put-length at l (ab ++ columnOf 5 d) (omega arith) in
-        put-more l l3 (set l3 (at + 15) 10) (ab ++ columnOf 5 d) (10 ∷ []) at (at + 15) e (put-one l3 (at + 15) 10 (omega arith)) (omega arith) (omega arith)
-        ∙ ap (λ (x : List ℕ). put at l x) (append-assoc ab (columnOf 5 d) (10 ∷ []) ∙ append-assoc (columnOf 5 a) (columnOf 5 b) (columnOf 5 d ++ (10 ∷ [])))
-      where
-        ab : List ℕ
-        ab = columnOf 5 a ++ columnOf 5 b
+pub length-two : (a b : ℕ) → length (lineOf 5 (a ∷ b ∷ [])) ≡ 11
+length-two a b = line-length 5 (a ∷ b ∷ [])
 
-pub length-two : (a b : ℕ) → length (lineOf (a ∷ b ∷ [])) ≡ 11
-length-two a b = line-length (a ∷ b ∷ [])
-
-pub length-three : (a b d : ℕ) → length (lineOf (a ∷ b ∷ d ∷ [])) ≡ 16
-length-three a b d = line-length (a ∷ b ∷ d ∷ [])
+pub length-three : (a b d : ℕ) → length (lineOf 5 (a ∷ b ∷ d ∷ [])) ≡ 16
+length-three a b d = line-length 5 (a ∷ b ∷ d ∷ [])
 
 -- the pieces of the loops
 
-pub state-piece : (marks : List ℕ) (q v : ℕ) → v ≡ markOf marks q → lineOf (q ∷ v ∷ []) ≡ stateLine marks q
+pub state-piece : (marks : List ℕ) (q v : ℕ) → v ≡ markOf marks q → lineOf 5 (q ∷ v ∷ []) ≡ stateLine marks q
 unfolding stateLine
-state-piece marks q v e = ap (λ (x : ℕ). lineOf (q ∷ x ∷ [])) e
+state-piece marks q v e = ap (λ (x : ℕ). lineOf 5 (q ∷ x ∷ [])) e
 
-pub transition-piece : (list : List ℕ) (k : ℕ) → lineOf (transitionAt list k .from ∷ transitionAt list k .letter ∷ transitionAt list k .to ∷ []) ≡ transitionLine list k
+pub transition-piece : (list : List ℕ) (k : ℕ) → lineOf 5 (transitionAt list k .from ∷ transitionAt list k .letter ∷ transitionAt list k .to ∷ []) ≡ transitionLine list k
 unfolding transitionLine
 transition-piece list k = refl
 
@@ -122,7 +99,7 @@ module _ (m : Machine) (list sheet : List ℕ) where
       at false l n = refl
 
   -- the three parts of a sheet, put one after the other
-  pub sheet-put : (l1 l2 l3 : List ℕ) (start : ℕ) → l1 ≡ put 0 sheet (lineOf (m .states ∷ m .letters ∷ m .transitions ∷ []))
+  pub sheet-put : (l1 l2 l3 : List ℕ) (start : ℕ) → l1 ≡ put 0 sheet (lineOf 5 (m .states ∷ m .letters ∷ m .transitions ∷ []))
       → l2 ≡ put 16 l1 (eachBelow (m .states) (stateLine (m .marks))) → l3 ≡ put start l2 (eachBelow (m .transitions) (transitionLine list))
       → start ≡ 16 + 11 * m .states → start + 16 * m .transitions ≤ length sheet → l3 ≡ sheetOf m list ++ drop (sheetLength m) sheet
   unfolding sheetOf headerLine
@@ -138,7 +115,7 @@ module _ (m : Machine) (list sheet : List ℕ) where
       ∙ (ap (λ (k : ℕ). ((A ++ B) ++ C) ++ drop k sheet) o ∙ ap (λ (l : List ℕ). l ++ drop (sheetLength m) sheet) (append-assoc A B C)))
     where
       A : List ℕ
-      A = lineOf (m .states ∷ m .letters ∷ m .transitions ∷ [])
+      A = lineOf 5 (m .states ∷ m .letters ∷ m .transitions ∷ [])
 
       B : List ℕ
       B = eachBelow (m .states) (stateLine (m .marks))

@@ -6,7 +6,8 @@ ghost use lib.ListN.{length};
 ghost use Rattle.basics.specs.Lists.{put};
 ghost use Rattle.basics.specs.Each.{eachBelow};
 ghost use Rattle.fsbm.specs.Machine.{transitionAt};
-ghost use Rattle.sheet.specs.Format.{Short, lineOf, stateLine, transitionLine};
+ghost use Rattle.columns.specs.Line.{lineOf};
+ghost use Rattle.sheet.specs.Format.{Short, sheetColumn, stateLine, transitionLine};
 ghost use Rattle.sheet.specs.Writing.{writeAnswer, writeSheet, writtenValues, writeValues};
 use fsbm::answer::Refusal;
 use fsbm::machine;
@@ -19,19 +20,19 @@ use sheet::answers::Written;
 
 // Line one, written to the front.
 fn write_header(sheet: &mut [u8], states: usize, letters: usize, transitions: usize)
-    requires { ⌜ (16 ≤ length (now sheet)) × (states < 100) × (letters < 1000) ⌝ }
-    ensures { λ r. ⌜ now (sheet .exit) ≡ put 0 (now (sheet .entry)) (lineOf (states ∷ letters ∷ transitions ∷ [])) ⌝ }
+    requires { ⌜ (16 ≤ length (now sheet)) × (states < 100) × (letters < 1000) × (transitions < 100000) ⌝ }
+    ensures { λ r. ⌜ now (sheet .exit) ≡ put 0 (now (sheet .entry)) (lineOf sheetColumn (states ∷ letters ∷ transitions ∷ [])) ⌝ }
 {
     columns::write_shorter(sheet, 0, states as u16);
     columns::write_short(sheet, 5, letters as u16);
-    columns::write_number(sheet, 10, transitions);
+    columns::write_fitting(sheet, 10, transitions);
     sheet[15] = 10;
 }
 
 // The line of a state, written from byte at on.
 fn write_state(sheet: &mut [u8], at: usize, q: u16, mark: u16)
     requires { ⌜ (at + 11 ≤ length (now sheet)) × (q < 100) × (mark < 1000) ⌝ }
-    ensures { λ r. ⌜ now (sheet .exit) ≡ put at (now (sheet .entry)) (lineOf (q ∷ mark ∷ [])) ⌝ }
+    ensures { λ r. ⌜ now (sheet .exit) ≡ put at (now (sheet .entry)) (lineOf sheetColumn (q ∷ mark ∷ [])) ⌝ }
 {
     columns::write_shorter(sheet, at, q);
     columns::write_short(sheet, at + 5, mark);
@@ -41,7 +42,7 @@ fn write_state(sheet: &mut [u8], at: usize, q: u16, mark: u16)
 // The line of a transition, written from byte at on.
 fn write_transition(sheet: &mut [u8], at: usize, from: u16, letter: u16, to: u16)
     requires { ⌜ (at + 16 ≤ length (now sheet)) × (from < 100) × (letter < 1000) × (to < 100) ⌝ }
-    ensures { λ r. ⌜ now (sheet .exit) ≡ put at (now (sheet .entry)) (lineOf (from ∷ letter ∷ to ∷ [])) ⌝ }
+    ensures { λ r. ⌜ now (sheet .exit) ≡ put at (now (sheet .entry)) (lineOf sheetColumn (from ∷ letter ∷ to ∷ [])) ⌝ }
 {
     columns::write_shorter(sheet, at, from);
     columns::write_short(sheet, at + 5, letter);

@@ -2,13 +2,15 @@
 
 use crate::measure::{best_of_both_by_processor, REPETITIONS};
 use crate::plain_copies;
+use compare::doubled_words::{repeated, repeated_run};
+use compare::record_of;
 use zagvirk::copies::list_copies;
 use zagvirk::{Machine, Table, BACK_TO_NORMAL, BEGIN_BUFFERING, BEGIN_EMPTYING};
 
 /// A measurement has as many calls as have this many entries together, at least one.
 const ENTRIES: usize = 500_000;
 
-/// An input of the copy list.
+/// An input of the copy list or of a page.
 pub struct Input {
     pub name: &'static str,
     pub machine: Machine,
@@ -17,8 +19,63 @@ pub struct Input {
     pub run: Vec<u16>,
 }
 
+impl Input {
+    /// The input of a machine of the tests.
+    pub fn new(
+        name: &'static str,
+        machine: &reference::Machine,
+        word: Vec<u8>,
+        run: Vec<u16>,
+    ) -> Input {
+        let (record, list) = machine.record();
+        Input {
+            name,
+            machine: record_of(&record),
+            list,
+            word,
+            run,
+        }
+    }
+
+    /// The machine's record for the reference.
+    #[cfg(test)]
+    pub fn record(&self) -> reference::Record {
+        let machine = &self.machine;
+        reference::Record {
+            states: machine.states,
+            letters: machine.letters,
+            transitions: machine.transitions,
+            marks: machine.marks,
+        }
+    }
+
+    /// Measures the two calls on the input, which both succeed, and prints the row, with the number that they wrote.
+    pub fn print_row(
+        &self,
+        written: usize,
+        mut proved: impl FnMut() -> bool,
+        mut plain: impl FnMut() -> bool,
+    ) {
+        let calls = (ENTRIES / self.run.len()).max(1);
+        let (proved_time, plain_time) = best_of_both_by_processor(
+            || (0..calls).all(|_| proved()),
+            || (0..calls).all(|_| plain()),
+        );
+        let micros = |time: f64| 1e6 * time / calls as f64;
+        println!(
+            "| {} | {} | {} | {written} | {:.3} | {:.3} | {:.2} |",
+            self.name,
+            self.word.len(),
+            self.run.len(),
+            micros(proved_time),
+            micros(plain_time),
+            proved_time / plain_time
+        );
+    }
+}
+
 /// Table T and abab.
-fn short() -> Input {
+pub fn short() -> Input {
     let run = vec![
         0,
         BEGIN_BUFFERING,
@@ -42,29 +99,8 @@ fn short() -> Input {
 
 /// Doubled words one after another, each of the given number of letters 1 twice.
 fn doubled(name: &'static str, halves: &[usize]) -> Input {
-    // T with an epsilon transition from its last state back to its first.
-    let list = vec![
-        0, 0, 1, 1, 0, 2, 1, 1, 1, 1, 2, 1, 2, 0, 0, 2, 1, 2, 2, 2, 2,
-    ];
-    let (mut word, mut run) = (Vec::new(), vec![0]);
-    for (number, &half) in halves.iter().enumerate() {
-        if number > 0 {
-            run.push(4);
-        }
-        run.extend([BEGIN_BUFFERING, 0]);
-        run.extend(vec![2; half]);
-        run.extend([1, BEGIN_EMPTYING]);
-        run.extend(vec![5; half]);
-        run.push(BACK_TO_NORMAL);
-        word.extend(vec![1; 2 * half]);
-    }
-    Input {
-        name,
-        machine: Machine::new(2, 7, &[5, 0, 10]),
-        list,
-        word,
-        run,
-    }
+    let (word, run) = repeated_run(halves);
+    Input::new(name, &repeated(), word, run)
 }
 
 /// What is measured. The longest words of copies alone have 254 letters.
@@ -104,11 +140,11 @@ pub fn section() {
 /// Prints the row of an input.
 fn row(input: &Input) {
     let Input {
-        name,
         machine,
         list,
         word,
         run,
+        ..
     } = input;
     let table = Table::new(machine, list);
     let (mut proved_copies, mut plain_copies) = (vec![0; word.len()], vec![0; word.len()]);
@@ -116,23 +152,9 @@ fn row(input: &Input) {
     let plain = plain_copies::list_copies(machine, list, word, run, &mut plain_copies);
     assert_eq!(plain, Ok((proved.count, proved.total)));
     assert_eq!(proved_copies, plain_copies);
-    let calls = (ENTRIES / run.len()).max(1);
-    let (proved_time, plain_time) = best_of_both_by_processor(
-        || (0..calls).all(|_| list_copies(table, word, run, &mut proved_copies).is_ok()),
-        || {
-            (0..calls).all(|_| {
-                plain_copies::list_copies(machine, list, word, run, &mut plain_copies).is_ok()
-            })
-        },
-    );
-    let micros = |time: f64| 1e6 * time / calls as f64;
-    println!(
-        "| {name} | {} | {} | {} | {:.3} | {:.3} | {:.2} |",
-        word.len(),
-        run.len(),
+    input.print_row(
         proved.count,
-        micros(proved_time),
-        micros(plain_time),
-        proved_time / plain_time
+        || list_copies(table, word, run, &mut proved_copies).is_ok(),
+        || plain_copies::list_copies(machine, list, word, run, &mut plain_copies).is_ok(),
     );
 }

@@ -54,9 +54,8 @@ pub fn list_copies(
 mod tests {
     use super::list_copies;
     use crate::copies::{inputs, Input};
-    use compare::accepting_runs::{damaged, longer, walk};
-    use compare::many_copies::{zone_circle, zones};
-    use compare::{break_a_rule, filled, random_machine, record_of, tally, Rng};
+    use crate::random_runs::{random_run, RandomRun};
+    use compare::{filled, record_of, tally, Rng};
     use reference::{copies, Record};
 
     /// Compares the answer and the whole slice, of the length, with the reference. Returns the refusal or 0.
@@ -80,33 +79,18 @@ mod tests {
     fn same_as_the_reference() {
         let mut rng = Rng::new(20_240_081);
         let mut refusals = [0; 21];
-        for _ in 0..40_000 {
-            let letters = 1 + rng.below(2);
-            let machine = match rng.below(4) {
-                0 => zone_circle(&mut rng, letters),
-                1 => zones(&mut rng, 12, letters),
-                _ => random_machine(&mut rng, 5, 2),
-            };
-            let Some((mut word, run)) = walk(&mut rng, &machine) else {
+        for _ in 0..50_000 {
+            let Some(input) = random_run(&mut rng) else {
                 continue;
             };
-            let mut run = longer(&mut rng, &machine, &word, &run);
-            if rng.once_in(4) {
-                run = damaged(&mut rng, &run);
-            }
-            if rng.once_in(12) {
-                let bad = rng.pick(&[0, machine.letters as u8 + 1, 255]);
-                word.insert(rng.below(word.len() + 1), bad);
-            }
-            if rng.once_in(60) {
-                word.resize(rng.pick(&[256, 257, 700]), rng.pick(&[0, 1]));
-            }
-            let (record, list) = match rng.below(8) {
-                0 => break_a_rule(&mut rng, &machine),
-                _ => machine.record(),
-            };
+            let RandomRun {
+                record,
+                list,
+                word,
+                run,
+            } = &input;
             let length = rng.pick(&[0, 1, 2, 3, 4, 6, word.len()]);
-            refusals[same(&record, &list, &word, &run, length)] += 1;
+            refusals[same(record, list, word, run, length)] += 1;
         }
         println!("copy lists by refusal: {}", tally(&refusals));
         for number in [0, 8, 9, 14, 16, 20] {
@@ -119,19 +103,10 @@ mod tests {
     #[test]
     fn same_on_what_is_measured() {
         for input in inputs() {
+            let record = input.record();
             let Input {
-                machine,
-                list,
-                word,
-                run,
-                ..
+                list, word, run, ..
             } = &input;
-            let record = Record {
-                states: machine.states,
-                letters: machine.letters,
-                transitions: machine.transitions,
-                marks: machine.marks,
-            };
             for length in [0, 1, 2, 39, 40, 253, 254, 255] {
                 same(&record, list, word, run, length);
                 same(&record, list, word, &run[..run.len() - 1], length);

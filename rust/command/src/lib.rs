@@ -2,7 +2,7 @@
 //!
 //! - [`main`]: finds the command by its name and runs it.
 //! - [`commands`]: the commands, a module each.
-//! - [`arguments`], [`input`], [`list`], [`output`], [`progress`], [`word`]: what they take and write.
+//! - [`arguments`], [`input`], [`list`], [`output`], [`progress`], [`word`], [`written_run`]: what they take and write.
 //! - [`status`]: how they end: 0 yes or good, 1 no, 2 refused or cannot.
 //! - [`answers`]: the answers for the words of a list.
 //! - [`locate`]: where the first fault of a sheet is.
@@ -20,6 +20,7 @@ pub mod progress;
 pub mod sentences;
 pub mod status;
 pub mod word;
+pub mod written_run;
 
 use arguments::Arguments;
 use output::Output;
@@ -37,7 +38,7 @@ pub struct Command {
 }
 
 /// All commands but `help`, in the order in which they are listed.
-pub const COMMANDS: [Command; 9] = [
+pub const COMMANDS: [Command; 10] = [
     Command {
         name: "check",
         help: commands::check::HELP,
@@ -57,6 +58,11 @@ pub const COMMANDS: [Command; 9] = [
         name: "check-run",
         help: commands::check_run::HELP,
         run: commands::check_run::run,
+    },
+    Command {
+        name: "page",
+        help: commands::page::HELP,
+        run: commands::page::run,
     },
     Command {
         name: "why",
@@ -95,6 +101,7 @@ Checks spelling tables for languages that double words, and asks them.
   words TABLE [WORDS]       yes or no for each word of a list
   run TABLE WORD            how the table accepts a word
   check-run TABLE WORD RUN  whether a run accepts a word
+  page TABLE WORD [RUN]     a run as columns of numbers, beside the sheet
   why TABLE WORD            why the table does not accept a word
   common TABLE PLAIN        a shortest word that two tables accept, or none
   join TABLE PLAIN          the sheet of the words that both accept

@@ -73,6 +73,15 @@ impl Failure {
         }
     }
 
+    /// A run that does not accept, as the sentence says, where something is wanted that only an accepting one has.
+    pub fn not_accepting(wanted: &str, sentence: &str) -> Failure {
+        Failure::Refused {
+            at: "run".to_string(),
+            what: format!("it has no {wanted}, for it does not accept: {sentence}"),
+            refusal: Refusal::NotAccepting.number(),
+        }
+    }
+
     /// The exit status: 2, and for a closed output 141, which a shell gives for a filter that ends at a closed pipe. It is
     /// not 0, which would say yes for input that was not looked at.
     pub fn code(&self) -> u8 {

@@ -70,7 +70,7 @@ fn compare(file: &str, least: usize) {
 
 #[test]
 fn readme() {
-    compare("README.md", 5);
+    compare("README.md", 6);
 }
 
 #[test]

@@ -3,7 +3,6 @@
 mod common;
 
 use common::{ends_quietly_when_closed, fails_on_full_device, zagvirk, Place};
-use std::fs;
 use std::path::Path;
 use std::process::Command;
 
@@ -72,33 +71,25 @@ fn a_run_with_numbers() {
 #[test]
 fn runs_of_the_machines() {
     let mut runs = 0;
-    for folder in fs::read_dir(common::repository().join("data/machines")).expect("the machines") {
-        let folder = folder.expect("a folder").path();
-        let table = folder.join("table.txt");
-        let table = table.to_str().expect("a path");
-        let text = |name: &str| fs::read_to_string(folder.join(name)).expect("a file");
-        let (words, expected) = (text("words.txt"), text("expected.txt"));
-        for (word, answer) in words.lines().zip(expected.lines()).take(25) {
-            let word = word.trim();
-            let ran = zagvirk(["run", "--raw", table, word]).run();
-            assert_eq!(ran.status, i32::from(answer == "0"), "{table} {word}");
-            if answer == "0" {
-                continue;
-            }
-            let run = ran.out.trim_end();
-            zagvirk(["check-run", table, word, run])
-                .run()
-                .is(0, "yes\n", "");
-            let shorter = run.rsplit_once(' ').map_or("", |(front, _)| front);
-            let ran = zagvirk(["check-run", table, word, shorter]).run();
-            // A run of the empty word may accept and go on.
-            let accepts = ran.status == 0 && ran.out == "yes\n";
-            assert!(
-                accepts || (ran.status == 1 && ran.out.starts_with("no: ")),
-                "{ran:?}"
-            );
-            runs += 1;
+    for (table, word, accepted) in &common::words_of_the_machines(25) {
+        let ran = zagvirk(["run", "--raw", table, word]).run();
+        assert_eq!(ran.status, i32::from(!accepted), "{table} {word}");
+        if !accepted {
+            continue;
         }
+        let run = ran.out.trim_end();
+        zagvirk(["check-run", table, word, run])
+            .run()
+            .is(0, "yes\n", "");
+        let shorter = run.rsplit_once(' ').map_or("", |(front, _)| front);
+        let ran = zagvirk(["check-run", table, word, shorter]).run();
+        // A run of the empty word may accept and go on.
+        let accepts = ran.status == 0 && ran.out == "yes\n";
+        assert!(
+            accepts || (ran.status == 1 && ran.out.starts_with("no: ")),
+            "{ran:?}"
+        );
+        runs += 1;
     }
     println!("{runs} runs checked");
     assert!(runs > 100);
@@ -220,7 +211,7 @@ fn what_is_no_run() {
 #[test]
 fn words_that_are_refused() {
     let place = Place::with_table_t();
-    for command in ["run", "why", "dot", "check-run"] {
+    for command in ["run", "why", "dot", "page", "check-run"] {
         let ask = |word: &str| {
             let mut arguments = vec![command, "table.txt", word];
             if command == "check-run" {
@@ -252,6 +243,8 @@ fn sheets_that_are_refused() {
     for arguments in [
         &["run", "FILE", "abab"][..],
         &["check-run", "FILE", "abab", "0"],
+        &["page", "FILE", "abab"],
+        &["page", "FILE", "abab", "0"],
         &["why", "FILE", "abab"],
         &["common", "FILE", "table.txt"],
         &["common", "table.txt", "FILE"],
@@ -287,6 +280,8 @@ fn damaged_sheets() {
     let calls = [
         &["run", "-", "abab"][..],
         &["check-run", "-", "abab", RUN_OF_ABAB],
+        &["page", "-", "abab"],
+        &["page", "-", "abab", RUN_OF_ABAB],
         &["why", "--table", "-", "abab"],
         &["common", "-", "two.txt"],
         &["common", "table.txt", "-"],
@@ -352,6 +347,24 @@ fn command_lines_that_are_wrong() {
         (
             &["check-run", "table.txt", "abab", "0", "1"],
             "one argument too many",
+        ),
+        (&["page"], "page: TABLE is missing"),
+        (&["page", "table.txt"], "page: WORD is missing"),
+        (
+            &["page", "table.txt", "abab", "0", "1"],
+            "page: '1' is one argument too many",
+        ),
+        (
+            &["page", "--raw", "table.txt", "abab"],
+            "page: there is no option --raw",
+        ),
+        (
+            &["page", "-", "abab", "-"],
+            "only one of the files can be standard input",
+        ),
+        (
+            &["page", "-", "abab", "@-"],
+            "only one of the files can be standard input",
         ),
         (&["why", "table.txt"], "why: WORD is missing"),
         (&["common", "table.txt"], "common: PLAIN is missing"),
@@ -421,6 +434,9 @@ fn a_closed_pipe_and_a_full_device() {
         &["run", "--raw", "table.txt", "abab"],
         &["check-run", "table.txt", "abab", RUN_OF_ABAB],
         &["check-run", "table.txt", "abab", "0"],
+        &["page", "table.txt", "abab"],
+        &["page", "table.txt", "abba"],
+        &["page", "table.txt", "abab", RUN_OF_ABAB],
         &["why", "table.txt", "abba"],
         &["why", "--table", "table.txt", "abab"],
         &["common", "table.txt", "two.txt"],
@@ -449,7 +465,16 @@ fn examples_of_the_help_texts() {
         .and_then(Path::to_str)
         .expect("the folder of the command");
     let path = format!("{folder}:{}", std::env::var("PATH").unwrap_or_default());
-    for command in ["run", "check-run", "why", "common", "join", "show", "dot"] {
+    for command in [
+        "run",
+        "check-run",
+        "page",
+        "why",
+        "common",
+        "join",
+        "show",
+        "dot",
+    ] {
         let help = zagvirk(["help", command]).run();
         assert_eq!((help.status, help.err.as_str()), (0, ""));
         assert!(help.out.starts_with(&format!("Usage: zagvirk {command} ")));

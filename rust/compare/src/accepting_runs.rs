@@ -17,23 +17,24 @@ pub fn walk(rng: &mut Rng, machine: &Machine) -> Option<(Vec<u8>, Vec<u16>)> {
             ends.push((word.len(), run.len()));
         }
         let all = (0..machine.transitions.len() as u16).chain(65_533..=65_535);
-        let allowed: Vec<(u16, Vec<u8>, Config)> = all
+        let allowed: Vec<(u16, Option<u8>, Config)> = all
             .filter_map(|entry| {
-                let mut read = word.clone();
                 let taken = machine.transitions.get(usize::from(entry));
                 let letter = taken.map(|taken| taken.letter as u8);
-                read.extend(letter.filter(|&letter| letter != 0));
-                let next = moves::step(machine, &read, config, entry)?;
-                Some((entry, read, next))
+                let letter = letter.filter(|&letter| letter != 0);
+                word.extend(letter);
+                let next = moves::step(machine, &word, config, entry);
+                word.truncate(config.position);
+                Some((entry, letter, next?))
             })
             .collect();
         if allowed.is_empty() {
             break;
         }
-        let (entry, read, next) = &allowed[rng.below(allowed.len())];
-        run.push(*entry);
-        word = read.clone();
-        config = *next;
+        let (entry, letter, next) = rng.pick(&allowed);
+        run.push(entry);
+        word.extend(letter);
+        config = next;
     }
     if ends.is_empty() {
         return None;

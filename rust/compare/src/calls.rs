@@ -3,9 +3,11 @@
 //! that the result says are written. [`crate::Case`] does the same for many calls on one machine and word.
 
 use crate::kept::Kept;
+use std::fmt::Debug;
 use zagvirk::accepts::{DecidedRecord, WordsAnsweredRecord};
 use zagvirk::common::{CommonRecord, CommonWord, Lengths};
 use zagvirk::copies::{Copies, CopiesRecord};
+use zagvirk::page::PageRecord;
 use zagvirk::product::JoinedRecord;
 use zagvirk::reach::{Reach, ReachRecord};
 use zagvirk::recognize::RecognizedRecord;
@@ -241,23 +243,27 @@ pub fn reach<'a>(
     found
 }
 
-/// Makes a call that reads a list, a word and a run and writes copies.
-fn listing<R>(
-    (list, word, run, copies): (&[u16], &[u8], &[u16], &mut [u16]),
-    call: impl FnOnce(&mut [u16]) -> R,
-    count: impl FnOnce(&R) -> usize,
+/// Makes a call that reads a list, a word and a run and writes a slice; the names are those of the call and the slice.
+fn following<T: Copy + PartialEq + Debug, R>(
+    [name, slice_name]: [&'static str; 2],
+    (list, word, run, slice): (&[u16], &[u8], &[u16], &mut [T]),
+    call: impl FnOnce(&mut [T]) -> R,
+    written: impl FnOnce(&R) -> usize,
 ) -> R {
     let kept_list = Kept::new("list", list);
     let kept_word = Kept::new("word", word);
     let kept_run = Kept::new("run", run);
-    let kept_copies = Kept::new("slice for copies", copies);
-    let found = call(copies);
-    kept_list.same("list_copies", list);
-    kept_word.same("list_copies", word);
-    kept_run.same("list_copies", run);
-    kept_copies.same_past("list_copies", count(&found).saturating_mul(2), copies);
+    let kept_slice = Kept::new(slice_name, slice);
+    let found = call(slice);
+    kept_list.same(name, list);
+    kept_word.same(name, word);
+    kept_run.same(name, run);
+    kept_slice.same_past(name, written(&found), slice);
     found
 }
+
+/// The names of the copy list and of its slice.
+const COPIES: [&str; 2] = ["list_copies", "slice for copies"];
 
 /// `zagvirk::copies::list_copies_record`.
 pub fn list_copies_record(
@@ -267,10 +273,11 @@ pub fn list_copies_record(
     run: &[u16],
     copies: &mut [u16],
 ) -> CopiesRecord {
-    listing(
+    following(
+        COPIES,
         (list, word, run, copies),
         |copies| zagvirk::copies::list_copies_record(Table::new(machine, list), word, run, copies),
-        |found| found.copies,
+        |found| found.copies.saturating_mul(2),
     )
 }
 
@@ -282,10 +289,46 @@ pub fn list_copies(
     run: &[u16],
     copies: &mut [u16],
 ) -> Result<Copies, Refusal> {
-    listing(
+    following(
+        COPIES,
         (list, word, run, copies),
         |copies| zagvirk::copies::list_copies(Table::new(machine, list), word, run, copies),
-        |found| found.map_or(0, |listed| listed.count),
+        |found| found.map_or(0, |listed| listed.count.saturating_mul(2)),
+    )
+}
+
+/// The names of the page and of its slice.
+const PAGE: [&str; 2] = ["write_page", "slice for the page"];
+
+/// `zagvirk::page::write_page_record`.
+pub fn write_page_record(
+    machine: &Machine,
+    list: &[u16],
+    word: &[u8],
+    run: &[u16],
+    page: &mut [u8],
+) -> PageRecord {
+    following(
+        PAGE,
+        (list, word, run, page),
+        |page| zagvirk::page::write_page_record(Table::new(machine, list), word, run, page),
+        |found| found.bytes,
+    )
+}
+
+/// `zagvirk::page::write_page`.
+pub fn write_page(
+    machine: &Machine,
+    list: &[u16],
+    word: &[u8],
+    run: &[u16],
+    page: &mut [u8],
+) -> Result<usize, Refusal> {
+    following(
+        PAGE,
+        (list, word, run, page),
+        |page| zagvirk::page::write_page(Table::new(machine, list), word, run, page),
+        |found| found.unwrap_or(0),
     )
 }
 

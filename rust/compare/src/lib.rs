@@ -7,7 +7,9 @@ pub mod calls;
 pub mod columns;
 pub mod copy_chains;
 pub mod dense;
+pub mod doubled_words;
 pub mod kept;
+pub mod longest_runs;
 pub mod many_copies;
 pub mod pairs;
 

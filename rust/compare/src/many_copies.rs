@@ -1,6 +1,6 @@
 //! Machines and words with many copies: the bad cases of recognition.
 
-use crate::Rng;
+use crate::{random_machine, Rng};
 use reference::Machine;
 
 /// A machine of several parts one after another, the last one final. Each part is a copy zone or plain; a copy zone
@@ -179,4 +179,16 @@ pub fn repetitive_word(rng: &mut Rng, letters: usize, length: usize) -> Vec<u8> 
         }
     }
     word
+}
+
+/// Copy zones, in a circle or one after another, to 64 states, or a random machine of up to 5 states; of at most two
+/// letters.
+pub fn zones_or_random(rng: &mut Rng) -> Machine {
+    let letters = 1 + rng.below(2);
+    match rng.below(20) {
+        0 => zones(rng, 64, letters),
+        1..=6 => zones(rng, 12, letters),
+        7..=12 => zone_circle(rng, letters),
+        _ => random_machine(rng, 5, 2),
+    }
 }

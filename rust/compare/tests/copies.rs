@@ -4,6 +4,9 @@
 
 use compare::accepting_runs::{damaged, longer, walk};
 use compare::calls::{list_copies, list_copies_record};
+use compare::doubled_words::{
+    plain_and_doubled, repeated, repeated_run, run_of_parts, Part, SEVERAL,
+};
 use compare::many_copies::{zone_circle, zones};
 use compare::{break_a_rule, filled, random_machine, random_word, record_of, tally, Rng};
 use reference::copies::all_copies;
@@ -218,32 +221,6 @@ fn random_runs() {
     assert!(counts.with_letters >= 10_000 && counts.only_empty >= 10_000);
 }
 
-/// T with an epsilon transition from its last state back to its first: doubled words one after another.
-fn repeated() -> (Record, Vec<u16>) {
-    let mut transitions = vec![(0, 0, 1), (1, 0, 2), (2, 0, 0)];
-    for letter in 1..3 {
-        transitions.extend([(1, letter, 1), (2, letter, 2)]);
-    }
-    Machine::new(2, &[5, 0, 10], &transitions).record()
-}
-
-/// A run of the doubled words, each of the given number of letters 1 twice.
-fn repeated_run(halves: &[usize]) -> (Vec<u8>, Vec<u16>) {
-    let (mut word, mut run) = (Vec::new(), vec![0]);
-    for (number, &half) in halves.iter().enumerate() {
-        if number > 0 {
-            run.push(4);
-        }
-        run.extend([65_533, 0]);
-        run.extend(vec![2; half]);
-        run.extend([1, 65_534]);
-        run.extend(vec![5; half]);
-        run.push(65_535);
-        word.extend(vec![1; 2 * half]);
-    }
-    (word, run)
-}
-
 /// What is listed of these doubled words: the copies with letters.
 fn listed_of(halves: &[usize]) -> Vec<u16> {
     let (mut listed, mut begin) = (Vec::new(), 0);
@@ -267,19 +244,9 @@ fn is_listed(record: &Record, list: &[u16], word: &[u8], run: &[u16], expected: 
 
 #[test]
 fn several_copies() {
-    let (record, list) = repeated();
+    let (record, list) = repeated().record();
     let mut cases = 0;
-    for halves in [
-        &[0][..],
-        &[2],
-        &[1, 2, 3],
-        &[0, 0, 5, 0],
-        &[0, 1, 0, 0, 2, 0, 0, 0, 3, 1, 0],
-        &[127],
-        &[60, 67],
-        &[0; 40],
-        &[1; 127],
-    ] {
+    for halves in SEVERAL {
         let (word, run) = repeated_run(halves);
         let expected = listed_of(halves);
         let needed = expected.len();
@@ -304,7 +271,7 @@ fn several_copies() {
 /// is listed stands here as numbers.
 #[test]
 fn empty_copies_are_left_out() {
-    let (record, list) = repeated();
+    let (record, list) = repeated().record();
     let mut cases = 0;
     for (halves, expected) in [
         (&[0][..], &[][..]),
@@ -345,7 +312,7 @@ fn among(letters: &[usize], empty: usize) -> Vec<usize> {
 /// of them would need more elements than a 16-bit number says.
 #[test]
 fn many_empty_copies() {
-    let (record, list) = repeated();
+    let (record, list) = repeated().record();
     let mut cases = 0;
     for count in [32_767, 32_768, 40_000, 100_000] {
         let (word, run) = repeated_run(&vec![0; count]);
@@ -384,48 +351,6 @@ fn many_empty_copies() {
     println!(
         "copies, up to 100,000 empty copies, alone and around 1, 2 and 127 others: {cases} cases"
     );
-}
-
-/// A part of a word of letters 1.
-#[derive(Clone, Copy)]
-enum Part {
-    /// A letter that is read in normal mode.
-    Plain,
-    /// A doubled word of so many letters.
-    Doubled(usize),
-}
-
-/// Plain letters and doubled words in any order. State 3 reads plain letters; the others are those of T over one
-/// letter.
-fn plain_and_doubled() -> Machine {
-    let doubled = [(0, 0, 1), (1, 0, 2), (1, 1, 1), (2, 1, 2)];
-    let transitions = [&doubled[..], &[(2, 0, 3), (3, 0, 0), (3, 1, 3)]].concat();
-    Machine::new(1, &[4, 0, 8, 3], &transitions)
-}
-
-/// The number of letters of the parts, their run, and what is listed of it.
-fn run_of_parts(parts: &[Part]) -> (usize, Vec<u16>, Vec<u16>) {
-    let (mut position, mut run, mut listed) = (0, vec![3], Vec::new());
-    for &part in parts {
-        match part {
-            Part::Plain => {
-                run.push(6);
-                position += 1;
-            }
-            Part::Doubled(half) => {
-                run.extend([5, 65_533, 0]);
-                run.extend(vec![2; half]);
-                run.extend([1, 65_534]);
-                run.extend(vec![4; half]);
-                run.extend([65_535, 3]);
-                if half > 0 {
-                    listed.extend([position as u16, half as u16]);
-                }
-                position += 2 * half;
-            }
-        }
-    }
-    (position, run, listed)
 }
 
 /// Words of 255 letters, one of them plain and the others copied, or all plain; with one letter more they are refused.
@@ -480,7 +405,7 @@ fn longest_words() {
 /// The refusals in their order: 16, 9, 8, 14, 20.
 #[test]
 fn order_of_refusals() {
-    let (record, list) = repeated();
+    let (record, list) = repeated().record();
     let (word, run) = repeated_run(&[127]);
     assert_eq!(word.len(), 254);
     let mut longest = word.clone();

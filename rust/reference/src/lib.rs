@@ -15,6 +15,7 @@
 //! - [`spelling`]: written words to letters.
 //! - [`product`]: the joined machine.
 //! - [`copies`]: the copy list of a run, and all its copies.
+//! - [`page`]: the page of a run.
 //! - [`common`]: a shortest common word of two small machines.
 //! - [`relations`]: the least number of letters of a word that a small machine accepts, for words of any length.
 //! - [`listing`]: the listing program as a function from bytes to bytes.
@@ -44,6 +45,7 @@ pub mod folder;
 pub mod listing;
 mod machine;
 pub mod moves;
+pub mod page;
 pub mod product;
 pub mod published;
 pub mod reach;

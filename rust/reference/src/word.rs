@@ -2,7 +2,7 @@
 
 use crate::{Machine, Refusal};
 
-/// The most letters of a word to recognize, to list copies of or to translate.
+/// The most letters of a word to recognize, to list copies of, to lay out on a page or to translate.
 pub const LONGEST_RECOGNIZED: usize = 255;
 
 /// The most letters of a word to check a run on.

@@ -5,6 +5,7 @@ use reference::common::{self, Common};
 use reference::copies::{all_copies, copies, Copies};
 use reference::listing::listing;
 use reference::moves::{accepting, check_run_call, step, step_call};
+use reference::page::{self, page_text};
 use reference::product::join;
 use reference::published::{find_run, recognize};
 use reference::spelling::translate;
@@ -467,6 +468,128 @@ fn copy_lists() {
     let (record, list) = some_two().record();
     let answer = copies(&record, &list, &[2], &[0, 1], &mut []);
     assert_eq!(answer, Ok(Copies { count: 0, total: 0 }));
+}
+
+/// The page of T and 1 2 1 2.
+const PAGE: &str = concat!(
+    "     0     0     0     0     0\n",
+    "     1     0     1     0     0\n",
+    "     2     1     1     0     0\n",
+    "     3     1     1     1     1\n",
+    "     4     1     1     2     2\n",
+    "     5     2     1     2     2\n",
+    "     6     2     2     2     2\n",
+    "     7     2     2     3     1\n",
+    "     8     2     2     4     0\n",
+    "     9     2     0     4     0\n",
+    "     0     2     4\n",
+);
+
+#[test]
+fn pages() {
+    let (record, list) = table_t().record();
+    let run = [0, 65533, 0, 2, 3, 1, 65534, 4, 5, 65535];
+    let word = [1, 2, 1, 2];
+    let call =
+        |word: &[u8], run: &[u16], out: &mut [u8]| page::write(&record, &list, word, run, out);
+    assert_eq!(PAGE.len(), 31 * 10 + 19);
+    let mut out = vec![7; 331];
+    assert_eq!(call(&word, &run, &mut out), Ok(329));
+    assert_eq!(out, [PAGE.as_bytes(), &[7, 7]].concat());
+    refused(call(&word, &run, &mut out[..328]), 19, 329);
+    assert_eq!(out, [PAGE.as_bytes(), &[7, 7]].concat());
+    refused(call(&word, &run[..9], &mut []), 14, 0);
+    refused(call(&word, &[], &mut []), 14, 0);
+    assert_eq!(page_text(&table_t(), &word, &run[..9]), None);
+    refused(call(&[3], &[], &mut []), 8, 0);
+    refused(call(&[3; 256], &[], &mut []), 9, 0);
+    refused(call(&[3], &[0; 100_000], &mut []), 9, 0);
+    refused(call(&[3], &[0; 99_999], &mut []), 8, 0);
+    refused(
+        page::write(&record, &list[1..], &[3; 256], &[], &mut []),
+        16,
+        0,
+    );
+    // A copy of no letters: its two changes of mode have lines, and nothing is read or stored.
+    let page = concat!(
+        "     0     0     0     0     0\n",
+        "     1     0     1     0     0\n",
+        "     2     1     1     0     0\n",
+        "     3     2     1     0     0\n",
+        "     4     2     2     0     0\n",
+        "     5     2     0     0     0\n",
+        "     0     0     0\n",
+    );
+    let run = [0, 65533, 0, 1, 65534, 65535];
+    assert_eq!(page_text(&table_t(), &[], &run).as_deref(), Some(page));
+    // Plain letters alone.
+    let page = concat!(
+        "     0     0     0     0     0\n",
+        "     1     0     0     1     0\n",
+        "     2     1     0     2     0\n",
+        "     2     0     2\n",
+    );
+    let run = [0, 0, 1];
+    assert_eq!(page_text(&some_two(), &[1, 2], &run).as_deref(), Some(page));
+    // A plain letter, two letters copied, a letter copied: 1 + 2 x 3 letters. A copy begins behind letters that are read.
+    let m = Machine::new(
+        2,
+        &[1, 4, 0, 10],
+        &[
+            (0, 2, 1),
+            (1, 0, 2),
+            (2, 0, 3),
+            (2, 1, 2),
+            (2, 2, 2),
+            (3, 0, 1),
+            (3, 1, 3),
+            (3, 2, 3),
+        ],
+    );
+    let run = [
+        0, 0, 65533, 1, 3, 4, 2, 65534, 6, 7, 65535, 5, 65533, 1, 4, 2, 65534, 7, 65535,
+    ];
+    let page = concat!(
+        "     0     0     0     0     0\n",
+        "     1     1     0     1     0\n",
+        "     2     1     1     1     0\n",
+        "     3     2     1     1     0\n",
+        "     4     2     1     2     1\n",
+        "     5     2     1     3     2\n",
+        "     6     3     1     3     2\n",
+        "     7     3     2     3     2\n",
+        "     8     3     2     4     1\n",
+        "     9     3     2     5     0\n",
+        "    10     3     0     5     0\n",
+        "    11     1     0     5     0\n",
+        "    12     1     1     5     0\n",
+        "    13     2     1     5     0\n",
+        "    14     2     1     6     1\n",
+        "    15     3     1     6     1\n",
+        "    16     3     2     6     1\n",
+        "    17     3     2     7     0\n",
+        "    18     3     0     7     0\n",
+        "     1     3     7\n",
+    );
+    let word = [2, 1, 2, 1, 2, 2, 2];
+    assert_eq!(page_text(&m, &word, &run).as_deref(), Some(page));
+    // The start alone, and the longest run: an epsilon circle of one state.
+    let m = Machine::new(0, &[3], &[(0, 0, 0)]);
+    let start = "     0     0     0     0     0\n     0     0     0\n";
+    assert_eq!(page_text(&m, &[], &[0]).as_deref(), Some(start));
+    let (record, list) = m.record();
+    let mut out = vec![7; 31 * 99_999 + 19];
+    assert_eq!(
+        page::write(&record, &list, &[], &[0; 99_999], &mut out),
+        Ok(3_099_988)
+    );
+    let end = " 99998     0     0     0     0\n     0     0     0\n";
+    assert!(out.ends_with(end.as_bytes()));
+    refused(
+        page::write(&record, &list, &[], &[0; 100_000], &mut out),
+        9,
+        0,
+    );
 }
 
 #[test]

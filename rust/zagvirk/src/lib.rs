@@ -10,6 +10,7 @@
 //! - [`spelling`]: written words to letters.
 //! - [`product`]: the product of a machine with a plain machine.
 //! - [`copies`]: the copy list of an accepting run, without copies of no letters.
+//! - [`page`]: the page of an accepting run, a line for each entry.
 //! - [`recognize`]: whether a machine accepts a word, with a run.
 //! - [`accepts`]: yes or no without a run, for a word or for each word of a list.
 //! - [`reach`]: the states that runs reach at each position of a word, and why a word is not accepted.
@@ -49,6 +50,7 @@
 pub mod accepts;
 pub mod common;
 pub mod copies;
+pub mod page;
 pub mod product;
 pub mod reach;
 pub mod recognize;

@@ -21,7 +21,7 @@ pub enum Refusal {
     BytesLeft,
     /// 8: a word has letter 0 or a letter above the machine's count, or a written byte has no letter.
     WordLetter,
-    /// 9: a word is too long.
+    /// 9: a word is too long, or a run is too long for a page.
     WordTooLong,
     /// 10: the second machine is not plain.
     NotPlain,
@@ -31,7 +31,7 @@ pub enum Refusal {
     TooManyStates,
     /// 13: the product's transitions exceed 4,000.
     TooManyTransitions,
-    /// 14: copies are wanted of a run that does not accept.
+    /// 14: copies or a page are wanted of a run that does not accept.
     NotAccepting,
     /// 15: the list for transitions is too short.
     ListTooShort { needed: usize },
@@ -41,7 +41,7 @@ pub enum Refusal {
     RunTooShort { needed: usize },
     /// 18: the slice for a word is too short.
     WordTooShort { needed: usize },
-    /// 19: the slice for a sheet is too short.
+    /// 19: the slice for a sheet or a page is too short.
     SheetTooShort { needed: usize },
     /// 20: the slice for copies is too short.
     CopiesTooShort { needed: usize },
@@ -142,7 +142,7 @@ impl std::fmt::Display for Refusal {
             Refusal::WordLetter => {
                 "a word has letter 0, a letter above the count, or a byte with no letter"
             }
-            Refusal::WordTooLong => "a word is too long",
+            Refusal::WordTooLong => "a word or a run is too long",
             Refusal::NotPlain => "the second machine is not plain",
             Refusal::LettersDiffer => "the letter counts differ",
             Refusal::TooManyStates => "the state counts multiplied exceed 64",
@@ -152,7 +152,7 @@ impl std::fmt::Display for Refusal {
             Refusal::MachineBroken => "a machine and its list break the rules for machines",
             Refusal::RunTooShort { .. } => "the slice for a run is too short",
             Refusal::WordTooShort { .. } => "the slice for a word is too short",
-            Refusal::SheetTooShort { .. } => "the slice for a sheet is too short",
+            Refusal::SheetTooShort { .. } => "the slice for a sheet or a page is too short",
             Refusal::CopiesTooShort { .. } => "the slice for copies is too short",
             Refusal::EndsBroken => "the ends of the words fall, or lie past the letters",
             Refusal::AnswersTooShort { .. } => "the slice for answers is too short",

@@ -1,6 +1,7 @@
 -- The laws of one column.
 --
 -- column-length    == a column of width w has w bytes
+-- column-wider     == a number that fits the width is, in a column one wider, a space and its column
 -- number-of-column == a number that fits the width, written and read, is itself
 -- column-of-number == the column of the number that a column holds is that column, filled where it is blank
 -- column-holds     == a column of at most widestColumn bytes holds n, exactly if it is the column of n, or it is blank and n is 0
@@ -53,6 +54,19 @@ pub column-length : (w n : ℕ) → length (columnOf w n) ≡ w
 unfolding columnOf
 column-length zero n = refl
 column-length (suc w) n = length-append (padded w (n / 10)) ((48 + n % 10) ∷ []) ∙ (add-one _ ∙ ap suc (padded-length w (n / 10)))
+
+padded-wider : (w q : ℕ) → q < 10 ^ w → padded (suc w) q ≡ 32 ∷ padded w q
+unfolding padded digitOr
+padded-wider zero q h = let z : q ≡ 0 = omega arith in ap (λ (v : ℕ). digitOr v ∷ []) z
+padded-wider (suc w) q h =
+    let g : q < 10 ^ w * 10 = rw pow-suc at h in
+    ap (λ (l : List ℕ). l ++ (digitOr q ∷ [])) (padded-wider w (q / 10) (omega arith))
+
+pub column-wider : (w n : ℕ) → n < 10 ^ suc w → columnOf (suc (suc w)) n ≡ 32 ∷ columnOf (suc w) n
+unfolding columnOf
+column-wider w n h =
+    let g : n < 10 ^ w * 10 = rw pow-suc at h in
+    ap (λ (l : List ℕ). l ++ ((48 + n % 10) ∷ [])) (padded-wider w (n / 10) (omega arith))
 
 -- Bytes
 

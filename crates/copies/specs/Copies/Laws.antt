@@ -10,11 +10,12 @@
 -- written-iff             == so it is in what is written, if and only if it is one of the copies
 -- Leaves r after          == list_copies answers r and leaves after in the slice
 -- refused-first, refused-run, refused-room, listed-all == it does so, in its four cases: by 16, 9 or 8; by 14; by 20; or the list
--- owed c t, held c t      == the buffered letters of c still to match in emptying mode, and those stored in buffering mode
+-- held c t                == the letters stored so far for a copy, in buffering mode
 -- storedAt e c            == the letters of the copy that entry e completes in c
--- Balance c t n next      == from c in mode t to next: letters read in normal mode and twice the n stored ones account for the positions
--- move-balance            == every allowed move keeps the balance
--- plain-and-copies        == letters read in normal mode and twice the letters stored make the word's length
+-- Stores c t n next       == from c in mode t to next: the letters stored are held, or are the n of a copy that is complete
+-- move-stores             == so it is with every allowed move
+-- stored-total            == the letters that the run stores are the total of the copies listed
+-- plain-and-copies        == letters read in normal mode and timesRead times that total make the word's length
 -- need-fits               == the length that the list needs is at most the word's
 use Prim.Native.Nat.{ℕ, zero, suc, _+_, _*_, _-_, _≤_, _<_}
 use mathlib.Core.Path.{_≡_, refl, sym, ap, _∙_, subst}
@@ -23,25 +24,29 @@ use mathlib.Core.Logic.{_↔_, _⊎_, inl, inr}
 use mathlib.Core.List.{List, [], _∷_, _++_, List·Memᴰ, List·Memᴰ·head, List·Memᴰ·tail, List·Memᴰ·not-nil, List·Memᴰ·cases-cons}
 use native.Mathlib.Omega.{arith}
 use lib.ListN.{length, getD, drop}
-use lib.Dec.{ltb, eqb, eqb·suc-zero}
-use borrow.Author.Tests.{le-leb, lt-leb, eqb-true, eqb-false, eq-eqb, ne-eqb}
+use lib.Dec.{ltb, eqb}
+use borrow.Author.Tests.{eqb-true, eqb-false, ne-eqb}
 use Rattle.basics.specs.Search.{allIn, anyIn}
 use Rattle.basics.specs.Search.Laws.{and-true}
 use Rattle.basics.specs.Search.Loops.{first, second}
-use Rattle.fsbm.specs.Machine.{wellFormed, transitionAt, initial, buffering, matching, final}
-use Rattle.fsbm.specs.Moves.{advanced, readsStored, after, mayChange, changed, move, startAt, isNormal, accepts, acceptingFrom, accepting, beginBuffering, beginEmptying, backToNormal}
+use Rattle.fsbm.specs.Machine.{wellFormed, transitionAt, initial, buffering, matching}
+use Rattle.fsbm.specs.Moves.{after, mayChange, changed, move, startAt, isNormal, accepts, acceptingFrom, accepting, beginBuffering, beginEmptying, backToNormal}
 use Rattle.fsbm.specs.declared.machine.Machine.{Machine}
 use Rattle.fsbm.specs.declared.machine.Transition.{Transition}
 use Rattle.fsbm.specs.declared.config.Config.{Config}
 use Rattle.fsbm.specs.declared.config.Mode.{Mode}
 use Rattle.fsbm.specs.declared.config.Mode.the-variants.{Normal, Buffering, Emptying}
 use Rattle.fsbm.specs.Rules.{rules, Placed}
-use Rattle.fsbm.specs.Moves.Laws.{advanced-fits, move-elim}
+use Rattle.fsbm.specs.Moves.Laws.{advanced-by, move-elim, accepts-says}
+use Rattle.fsbm.specs.Reaches.{sameMode}
 use Rattle.fsbm.specs.Answers.{tableAndWord, refusal}
+use Rattle.fsbm.specs.Answers.Laws.{input-refused, run-refused, slice-refused, none-refused}
 use Rattle.fsbm.specs.declared.answer.Refusal.{Refusal}
+use Rattle.copies.specs.Letters.{timesRead, lettersFrom, lettersIn, plainLetters, storedLetters}
+use Rattle.copies.specs.Letters.Laws.{plain-and-stored}
 use Rattle.copies.specs.declared.Copied.{Copied}
 use Rattle.copies.specs.declared.Copied.the-variants.{Refused, Listed}
-use Rattle.copies.specs.Copies.{Copy, copyAt, copiesFrom, copiesOf, withLetters, copyList, isEmpty, pairs, totalBack, totalForward, plainFrom, plainLetters, longestCopied, copiesNeed, copiesRefusal, copiesAnswer, copiesAfter}
+use Rattle.copies.specs.Copies.{Copy, copyAt, copiesFrom, copiesOf, withLetters, copyList, isEmpty, pairs, totalBack, totalForward, longestCopied, copiesNeed, copiesRefusal, copiesAnswer, copiesAfter}
 
 -- Totals
 
@@ -181,40 +186,35 @@ module _ (m : Machine) (list w run slice : List ℕ) where
       let no : eqb (copiesRefusal m list w run (length slice) .number) 0 ≡ false = ap (λ (z : Refusal). eqb (z .number) 0) (sym e) ∙ ne-eqb (f .number) 0 some in
       (second _ no (ap Refused e), second _ no refl)
 
+  abbrev short : Refusal
+  short = record { number = 20; needed = copiesNeed m list w run }
+
   pub refused-first : (tableAndWord longestCopied m list w ≡ 0 → ⊥) → Leaves (Refused (refusal (tableAndWord longestCopied m list w))) slice
   unfolding copiesRefusal
-  refused-first h = refuses (refusal (tableAndWord longestCopied m list w)) (second _ (ne-eqb (tableAndWord longestCopied m list w) 0 h) refl) h
+  refused-first h =
+      refuses (refusal (tableAndWord longestCopied m list w)) (input-refused (tableAndWord longestCopied m list w) (accepting m list w run) short (length slice) h) h
 
   module _ (good : tableAndWord longestCopied m list w ≡ 0) where
-    tested : eqb (tableAndWord longestCopied m list w) 0 ≡ true
-    tested = eq-eqb (tableAndWord longestCopied m list w) 0 good
-
     pub refused-run : accepting m list w run ≡ false → Leaves (Refused (refusal 14)) slice
     unfolding copiesRefusal
-    refused-run h = refuses (refusal 14) (first _ tested (second _ h refl)) (λ (z : _≡_ {A = ℕ} 14 0). omega arith)
+    refused-run h =
+        refuses (refusal 14) (run-refused (tableAndWord longestCopied m list w) (accepting m list w run) short (length slice) good h) (λ (z : _≡_ {A = ℕ} 14 0). omega arith)
 
     module _ (a : accepting m list w run ≡ true) where
       pub refused-room : length slice < length (copyList m list w run) * 2 → Leaves (Refused (record { number = 20; needed = length (copyList m list w run) * 2 })) slice
       unfolding copiesRefusal copiesNeed
       refused-room h =
-          refuses (record { number = 20; needed = length (copyList m list w run) * 2 })
-          (first _ tested (first _ a (second _ (lt-leb (length (copyList m list w run) * 2) (length slice) h) refl)))
-          (λ (z : _≡_ {A = ℕ} 20 0). omega arith)
+          refuses short (slice-refused (tableAndWord longestCopied m list w) (accepting m list w run) short (length slice) good a h) (λ (z : _≡_ {A = ℕ} 20 0). omega arith)
 
       pub listed-all : length (copyList m list w run) * 2 ≤ length slice
           → Leaves (Listed (length (copyList m list w run)) (totalBack (copyList m list w run))) (pairs (copyList m list w run) ++ drop (length (copyList m list w run) * 2) slice)
       unfolding copiesRefusal copiesAnswer copiesAfter copiesNeed
       listed-all h =
-          let none : refusal 0 ≡ copiesRefusal m list w run (length slice) = first _ tested (first _ a (first _ (le-leb (length (copyList m list w run) * 2) (length slice) h) refl)) in
+          let none = none-refused (tableAndWord longestCopied m list w) (accepting m list w run) short (length slice) good a h in
           let yes : eqb (copiesRefusal m list w run (length slice) .number) 0 ≡ true = ap (λ (z : Refusal). eqb (z .number) 0) (sym none) in
           (first _ yes refl, first _ yes refl)
 
--- The balance of a run
-
-abbrev owed : Config → Mode → ℕ
-owed c Normal = 0
-owed c Buffering = 0
-owed c Emptying = c .end - c .start
+-- The letters that are stored
 
 abbrev held : Config → Mode → ℕ
 held c Normal = 0
@@ -224,57 +224,42 @@ held c Emptying = 0
 abbrev storedAt : ℕ → Config → ℕ
 storedAt e c = cond (eqb e beginEmptying) (c .end - c .start) 0
 
-abbrev Balance : Config → Mode → ℕ → Config → Type 0
-Balance c t n next =
-    cond (isNormal t) (next .position - c .position) 0 + n * 2 + (c .position + owed c t) + held next (next .mode) ≡ next .position + owed next (next .mode) + held c t
-
-pub advanced-by : (p x : ℕ) → advanced p x ≡ p + advanced 0 x
-advanced-by p zero = omega arith
-advanced-by p (suc x) = rw eqb·suc-zero refl
+abbrev Stores : Config → Mode → ℕ → Config → Type 0
+Stores c t n next = cond (sameMode t Buffering) (next .position - c .position) 0 + held c t ≡ n + held next (next .mode)
 
 module _ (m : Machine) (list w : List ℕ) where
-  after-balance : (c : Config) (tr : Transition) (t : Mode) → Placed m w c t → readsStored w c tr t ≡ true → Balance c t 0 (after c tr t)
-  unfolding readsStored after
-  after-balance c tr Normal p stored = let by = advanced-by (c .position) (tr .letter) in omega arith
-  after-balance c tr Buffering p stored =
+  after-stores : (c : Config) (tr : Transition) (t : Mode) → Placed m w c t → Stores c t 0 (after c tr t)
+  unfolding after
+  after-stores c tr Normal p = omega arith
+  after-stores c tr Buffering p =
       let by = advanced-by (c .position) (tr .letter) in
       let by-end = advanced-by (c .end) (tr .letter) in
-      let ends : c .end ≡ c .position = eqb-true (c .end) (c .position) (p .fits) in
       omega (arith, p .forward)
-  after-balance c tr Emptying p stored =
-      let (on, inside) = advanced-fits w (c .start) (c .end) (tr .letter) (p .forward) stored in
-      let by = advanced-by (c .position) (tr .letter) in
-      let by-start = advanced-by (c .start) (tr .letter) in
-      omega (arith, p .forward)
+  after-stores c tr Emptying p = omega arith
 
   -- the number of letters that an entry stores, once it is known which entry it is
-  stored-is : (c : Config) (e k : ℕ) → eqb e k ≡ true → (t : Mode) (next : Config) → Balance c t (storedAt k c) next → Balance c t (storedAt e c) next
-  stored-is c e k h t next b = subst (λ (z : ℕ). Balance c t (storedAt z c) next) (sym (eqb-true e k h)) b
+  stored-is : (c : Config) (e k : ℕ) → eqb e k ≡ true → (t : Mode) (next : Config) → Stores c t (storedAt k c) next → Stores c t (storedAt e c) next
+  stored-is c e k h t next b = subst (λ (z : ℕ). Stores c t (storedAt z c) next) (sym (eqb-true e k h)) b
 
-  changed-balance : (c : Config) (e : ℕ) (t : Mode) → mayChange (m .marks) c e t ≡ true → Balance c t (storedAt e c) (changed c t)
-  changed-balance c e Normal h =
-      let (entry, r) = and-true (eqb e beginBuffering) (buffering (m .marks) (c .state) && eqb (c .start) (c .end)) h in
-      stored-is c e beginBuffering entry Normal (changed c Normal) (omega arith)
-  changed-balance c e Buffering h =
-      let (entry, r) = and-true (eqb e beginEmptying) (matching (m .marks) (c .state)) h in
-      stored-is c e beginEmptying entry Buffering (changed c Buffering) (omega arith)
-  changed-balance c e Emptying h =
-      let (entry, r) = and-true (eqb e backToNormal) (matching (m .marks) (c .state) && eqb (c .start) (c .end)) h in
-      let (is, equal) = and-true (matching (m .marks) (c .state)) (eqb (c .start) (c .end)) r in
-      let same = eqb-true (c .start) (c .end) equal in
-      stored-is c e backToNormal entry Emptying (changed c Emptying) (omega arith)
+  changed-stores : (c : Config) (e : ℕ) (t : Mode) → mayChange (m .marks) c e t ≡ true → Stores c t (storedAt e c) (changed c t)
+  changed-stores c e Normal h =
+      stored-is c e beginBuffering (and-true (eqb e beginBuffering) (buffering (m .marks) (c .state) && eqb (c .start) (c .end)) h .0) Normal (changed c Normal) (omega arith)
+  changed-stores c e Buffering h =
+      stored-is c e beginEmptying (and-true (eqb e beginEmptying) (matching (m .marks) (c .state)) h .0) Buffering (changed c Buffering) (omega arith)
+  changed-stores c e Emptying h =
+      stored-is c e backToNormal (and-true (eqb e backToNormal) (matching (m .marks) (c .state) && eqb (c .start) (c .end)) h .0) Emptying (changed c Emptying) (omega arith)
 
-  move-balance : wellFormed m list ≡ true → (c : Config) (e : ℕ) → move m list w c e .allowed ≡ true → Balance c (c .mode) (storedAt e c) (move m list w c e .config)
-  move-balance good c e =
-      move-elim m list w c e (Balance c (c .mode) (storedAt e c))
-      (λ p lt t. listed lt (after c (transitionAt list e) (c .mode)) (after-balance c (transitionAt list e) (c .mode) p (t .stored)))
-      (λ p ge h. changed-balance c e (c .mode) h)
+  move-stores : wellFormed m list ≡ true → (c : Config) (e : ℕ) → move m list w c e .allowed ≡ true → Stores c (c .mode) (storedAt e c) (move m list w c e .config)
+  move-stores good c e =
+      move-elim m list w c e (Stores c (c .mode) (storedAt e c))
+      (λ p lt t. listed lt (after c (transitionAt list e) (c .mode)) (after-stores c (transitionAt list e) (c .mode) p))
+      (λ p ge h. changed-stores c e (c .mode) h)
     where
-      listed : e < m .transitions → (next : Config) → Balance c (c .mode) 0 next → Balance c (c .mode) (storedAt e c) next
+      listed : e < m .transitions → (next : Config) → Stores c (c .mode) 0 next → Stores c (c .mode) (storedAt e c) next
       listed lt next b =
           let few = rules m list good .transitions-fit in
           let other : eqb e beginEmptying ≡ false = ne-eqb e beginEmptying (λ (z : e ≡ beginEmptying). omega arith) in
-          subst (λ (t : Bool). Balance c (c .mode) (cond t (c .end - c .start) 0) next) (sym other) b
+          subst (λ (t : Bool). Stores c (c .mode) (cond t (c .end - c .start) 0) next) (sym other) b
 
   total-step : (c : Config) (e : ℕ) (es : List ℕ) → totalBack (copiesFrom m list w c (e ∷ es)) ≡ storedAt e c + totalBack (copiesFrom m list w (move m list w c e .config) es)
   unfolding copiesFrom totalBack
@@ -285,50 +270,38 @@ module _ (m : Machine) (list w : List ℕ) where
       at true = omega arith
       at false = omega arith
 
-  accepts-at : (c : Config) (t : Mode) → (isNormal t ≡ true) → c .position ≡ length w → 0 + 0 * 2 + (c .position + owed c t) ≡ length w + held c t
-  accepts-at c Normal h e = omega arith
-  accepts-at c Buffering h e = absurd (false≢true h)
-  accepts-at c Emptying h e = absurd (false≢true h)
+  held-none : (c : Config) (t : Mode) → isNormal t ≡ true → held c t ≡ 0
+  held-none c Normal h = refl
+  held-none c Buffering h = absurd (false≢true h)
+  held-none c Emptying h = refl
 
-  -- where a run accepts, it is in normal mode and has read the word
-  pub accepts-says : (c : Config) → accepts (m .marks) (length w) c ≡ true → (isNormal (c .mode) ≡ true) × (c .position ≡ length w)
-  unfolding accepts
-  accepts-says c h =
-      let (f, r₁) = and-true (final (m .marks) (c .state)) (isNormal (c .mode) && (eqb (c .start) (c .end) && eqb (c .position) (length w))) h in
-      let (n, r₂) = and-true (isNormal (c .mode)) (eqb (c .start) (c .end) && eqb (c .position) (length w)) r₁ in
-      let (s, p) = and-true (eqb (c .start) (c .end)) (eqb (c .position) (length w)) r₂ in
-      (n, eqb-true (c .position) (length w) p)
-
-  balance-end : (c : Config) → accepts (m .marks) (length w) c ≡ true
-      → 0 + totalBack (copiesFrom m list w c []) * 2 + (c .position + owed c (c .mode)) ≡ length w + held c (c .mode)
-  unfolding copiesFrom totalBack
-  balance-end c h = let (n, p) = accepts-says c h in accepts-at c (c .mode) n p
-
-  balance-from : wellFormed m list ≡ true → (c : Config) (es : List ℕ) → acceptingFrom m list w c es ≡ true
-      → plainFrom m list w c es + totalBack (copiesFrom m list w c es) * 2 + (c .position + owed c (c .mode)) ≡ length w + held c (c .mode)
-  unfolding acceptingFrom plainFrom
-  balance-from good c [] h = balance-end c h
-  balance-from good c (e ∷ es) h =
+  stored-from : wellFormed m list ≡ true → (c : Config) (es : List ℕ) → acceptingFrom m list w c es ≡ true
+      → lettersFrom Buffering m list w c es + held c (c .mode) ≡ totalBack (copiesFrom m list w c es)
+  unfolding acceptingFrom lettersFrom
+  stored-from good c [] h = unfold copiesFrom totalBack in let none = held-none c (c .mode) (accepts-says (m .marks) (length w) c h .0) in omega arith
+  stored-from good c (e ∷ es) h =
       let next = move m list w c e .config in
       let (a, rest) = and-true (move m list w c e .allowed) (acceptingFrom m list w next es) h in
-      let here = move-balance good c e a in
-      let there = balance-from good next es rest in
+      let here = move-stores good c e a in
+      let there = stored-from good next es rest in
       let split = total-step c e es in
       omega arith
 
-  plain-and-all : (run : List ℕ) → wellFormed m list ≡ true → accepting m list w run ≡ true
-      → plainLetters m list w run + totalBack (copiesOf m list w run) * 2 ≡ length w
-  unfolding accepting plainLetters copiesOf
-  plain-and-all [] good h = absurd (false≢true h)
-  plain-and-all (q ∷ es) good h =
+  stored-all : (run : List ℕ) → wellFormed m list ≡ true → accepting m list w run ≡ true → storedLetters m list w run ≡ totalBack (copiesOf m list w run)
+  unfolding accepting lettersIn copiesOf
+  stored-all [] good h = absurd (false≢true h)
+  stored-all (q ∷ es) good h =
       let (lt, r) = and-true (ltb q (m .states)) (initial (m .marks) q && acceptingFrom m list w (startAt q) es) h in
       let (i, a) = and-true (initial (m .marks) q) (acceptingFrom m list w (startAt q) es) r in
-      let all = balance-from good (startAt q) es a in
+      let all = stored-from good (startAt q) es a in
       omega arith
 
   module _ (run : List ℕ) (good : wellFormed m list ≡ true) (accepts : accepting m list w run ≡ true) where
-    pub plain-and-copies : plainLetters m list w run + totalBack (copyList m list w run) * 2 ≡ length w
-    plain-and-copies = let all = plain-and-all run good accepts in let kept = kept-total (copiesOf m list w run) in omega arith
+    pub stored-total : storedLetters m list w run ≡ totalBack (copyList m list w run)
+    stored-total = stored-all run good accepts ∙ sym (kept-total (copiesOf m list w run))
+
+    pub plain-and-copies : plainLetters m list w run + timesRead * totalBack (copyList m list w run) ≡ length w
+    plain-and-copies = ap (λ (t : ℕ). plainLetters m list w run + timesRead * t) (sym stored-total) ∙ plain-and-stored m list w run accepts
 
     pub need-fits : copiesNeed m list w run ≤ length w
     unfolding copiesNeed

@@ -20,7 +20,7 @@ use Rattle.basics.specs.Search.Laws.{and-true}
 use Rattle.basics.specs.Search.Loops.{first, second}
 use Rattle.fsbm.specs.Machine.{wellFormed, transitionAt, initial, buffering, matching}
 use Rattle.fsbm.specs.Moves.{advanced, after, mayChange, changed, move, startAt, acceptingFrom, accepting, beginBuffering, beginEmptying, backToNormal}
-use Rattle.fsbm.specs.Moves.Laws.{move-elim}
+use Rattle.fsbm.specs.Moves.Laws.{advanced-by, move-elim, accepts-says}
 use Rattle.fsbm.specs.Rules.{rules, Placed}
 use Rattle.fsbm.specs.declared.machine.Machine.{Machine}
 use Rattle.fsbm.specs.declared.machine.Transition.{Transition}
@@ -29,7 +29,6 @@ use Rattle.fsbm.specs.declared.config.Mode.{Mode}
 use Rattle.fsbm.specs.declared.config.Mode.the-variants.{Normal, Buffering, Emptying}
 use Rattle.copies.specs.declared.Stretch.{Stretch}
 use Rattle.copies.specs.Copies.{Copy, copyAt, copiesFrom, copiesOf, withLetters, copyList}
-use Rattle.copies.specs.Copies.Laws.{advanced-by, accepts-says}
 use Rattle.copies.specs.Stretches.{passed, stretchCopy, entriesFrom, readFrom, atFirst, entryList, entriesRead}
 
 advanced-on : (p x : ℕ) → p ≤ advanced p x
@@ -125,7 +124,7 @@ module _ (m : Machine) (list w : List ℕ) where
   from-entries : wellFormed m list ≡ true → (c : Config) (s : Stretch) (es : List ℕ) → Tracks c (c .mode) s → acceptingFrom m list w c es ≡ true
       → (entriesFrom (m .transitions) list s es ≡ copiesFrom m list w c es) × (readFrom (m .transitions) list s es ≡ length w)
   unfolding acceptingFrom copiesFrom entriesFrom readFrom
-  from-entries good c s [] at-s h = (refl, sym (at-position c (c .mode) s at-s) ∙ accepts-says m list w c h .1)
+  from-entries good c s [] at-s h = (refl, sym (at-position c (c .mode) s at-s) ∙ accepts-says (m .marks) (length w) c h .2)
   from-entries good c s (e ∷ es) at-s h =
       let next = move m list w c e .config in
       let (a, rest) = and-true (move m list w c e .allowed) (acceptingFrom m list w next es) h in

@@ -3,6 +3,7 @@
 -- mode-below, mode-same == a mode's number is below 3, and tells it
 -- reads-suc            == a letter that is read stands at the position, before the end
 -- advanced-suc         == a letter that is read moves the position on by one
+-- advanced-by          == the position moves on by what it would from 0
 -- advanced-fits        == the position after the letter: not before the old one, nor past the end
 -- start-placed         == a run starts at a configuration that a move is allowed from
 -- passes-normal, passes-buffering, passes-emptying == what the marks at its ends say of a transition, in each mode
@@ -12,7 +13,8 @@
 -- move-takes, move-changes == the move by the number of a transition, and by any other entry
 -- move-stays           == an allowed move of a machine that obeys the rules leads to a configuration that a move is allowed from
 -- move-placed          == the same, with the tests
-use Prim.Native.Nat.{ℕ, zero, suc, _≤_, _<_}
+-- accepts-says         == where a run accepts, it is in normal mode with an empty buffer and has read the word
+use Prim.Native.Nat.{ℕ, zero, suc, _+_, _≤_, _<_}
 use mathlib.Core.Path.{_≡_, refl, sym, ap, subst}
 use mathlib.Core.Logic.{_↔_}
 use mathlib.Core.Bool.{Bool, true, false, cond, not, _&&_, false≢true}
@@ -24,8 +26,8 @@ use lib.Dec.{ltb, eqb, eqb·suc-zero}
 use borrow.Author.Tests.{ltb-true, ltb-false, lt-ltb, le-ltb, eqb-true, eq-eqb}
 use Rattle.basics.specs.Search.Laws.{and-true, and-both-true}
 use Rattle.basics.specs.Bools.{cond-elim, not-says, says-not, not-and-says, says-not-and}
-use Rattle.fsbm.specs.Machine.{wellFormed, transitionAt, buffering, matching, bothMatching}
-use Rattle.fsbm.specs.Moves.{modeNumber, wellPlaced, readsLetter, advanced, passes, readsStored, mayTake, after, mayChange, changed, goes, changes, move, startAt, backToNormal}
+use Rattle.fsbm.specs.Machine.{wellFormed, transitionAt, final, buffering, matching, bothMatching}
+use Rattle.fsbm.specs.Moves.{modeNumber, wellPlaced, readsLetter, advanced, passes, readsStored, mayTake, after, mayChange, changed, goes, changes, move, startAt, isNormal, accepts, backToNormal}
 use Rattle.fsbm.specs.Published.{Listed}
 use Rattle.fsbm.specs.Rules.{Rules, rules, Placed, placed, unplaced}
 use Rattle.fsbm.specs.declared.machine.Machine.{Machine}
@@ -61,6 +63,10 @@ reads-suc w p e x h =
 
 pub advanced-suc : (p x : ℕ) → advanced p (suc x) ≡ suc p
 advanced-suc p x = rw (eqb·suc-zero, add-one)
+
+pub advanced-by : (p x : ℕ) → advanced p x ≡ p + advanced 0 x
+advanced-by p zero = omega arith
+advanced-by p (suc x) = rw eqb·suc-zero refl
 
 pub advanced-fits : (w : List ℕ) (p e x : ℕ) → p ≤ e → readsLetter w p e x ≡ true → (p ≤ advanced p x) × (advanced p x ≤ e)
 advanced-fits w p e zero le h = (omega arith, le)
@@ -214,3 +220,13 @@ module _ (m : Machine) (list w : List ℕ) where
 
   pub move-placed : wellFormed m list ≡ true → (c : Config) (e : ℕ) → move m list w c e .allowed ≡ true → wellPlaced (m .states) (length w) (move m list w c e .config) ≡ true
   move-placed good c e h = unplaced m w (move m list w c e .config) (move-stays (rules m list good) c e h)
+
+-- Where a run accepts
+
+pub accepts-says : (marks : List ℕ) (n : ℕ) (c : Config) → accepts marks n c ≡ true → (isNormal (c .mode) ≡ true) × (c .start ≡ c .end) × (c .position ≡ n)
+unfolding accepts
+accepts-says marks n c h =
+    let (f, r₁) = and-true (final marks (c .state)) (isNormal (c .mode) && (eqb (c .start) (c .end) && eqb (c .position) n)) h in
+    let (normal, r₂) = and-true (isNormal (c .mode)) (eqb (c .start) (c .end) && eqb (c .position) n) r₁ in
+    let (s, p) = and-true (eqb (c .start) (c .end)) (eqb (c .position) n) r₂ in
+    (normal, eqb-true (c .start) (c .end) s, eqb-true (c .position) n p)

@@ -29,7 +29,7 @@ returns-2 : tie.Need-returns-2
 returns-2 c = write-says _ _ _ _ _ (write-short (c .before .before .before .before .before .args .t1) ((c .before .before .before .before .before .args .list) .now) ((c .before .before .before .before .before .args .sheet) .now) (c .before .before .is-well-formed .result) _ (c .before .before .is-well-formed .ensures) (not-false _ (c .before .if1 .left)) refl (c .if2 .taken))
 
 write-header-requires : tie.Need-write-header-requires
-write-header-requires c κs = (omega (arith, (c .before .if2 .left)), omega (arith, well-formed-counts ((c .before .before .before .before .before .before .args) .t1) ((c .before .before .before .before .before .before .args .list) .now) (c .before .before .before .is-well-formed .result) (c .before .before .before .is-well-formed .ensures) (not-false _ (c .before .before .if1 .left)) .0), omega (arith, well-formed-letters ((c .before .before .before .before .before .before .args) .t1) ((c .before .before .before .before .before .before .args .list) .now) (c .before .before .before .is-well-formed .result) (c .before .before .before .is-well-formed .ensures) (not-false _ (c .before .before .if1 .left))))
+write-header-requires c κs = (omega (arith, (c .before .if2 .left)), omega (arith, well-formed-counts ((c .before .before .before .before .before .before .args) .t1) ((c .before .before .before .before .before .before .args .list) .now) (c .before .before .before .is-well-formed .result) (c .before .before .before .is-well-formed .ensures) (not-false _ (c .before .before .if1 .left)) .0), omega (arith, well-formed-letters ((c .before .before .before .before .before .before .args) .t1) ((c .before .before .before .before .before .before .args .list) .now) (c .before .before .before .is-well-formed .result) (c .before .before .before .is-well-formed .ensures) (not-false _ (c .before .before .if1 .left))), omega (arith, well-formed-counts ((c .before .before .before .before .before .before .args) .t1) ((c .before .before .before .before .before .before .args .list) .now) (c .before .before .before .is-well-formed .result) (c .before .before .before .is-well-formed .ensures) (not-false _ (c .before .before .if1 .left)) .1))
 
 write-states-requires : tie.Need-write-states-requires
 write-states-requires c κs = ((well-formed-counts (c .before .before .before .before .before .before .before .before .before .before .before .before .args .t1) ((c .before .before .before .before .before .before .before .before .before .before .before .before .args .list) .now) (c .before .before .before .before .before .before .before .before .before .is-well-formed .result) (c .before .before .before .before .before .before .before .before .before .is-well-formed .ensures) (not-false _ (c .before .before .before .before .before .before .before .before .if1 .left))) .0, omega (arith, (c .before .before .before .before .before .write-header .kept) .0, (c .before .before .before .before .before .before .before .if2 .left)))

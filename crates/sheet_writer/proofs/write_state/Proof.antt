@@ -3,7 +3,7 @@ use mathlib.Core.List.{[], _∷_}
 use native.Mathlib.Omega.{arith}
 use lib.ListN.{length}
 use Rattle.basics.specs.Lists.Laws.{put-length}
-use Rattle.sheet.specs.Format.{lineOf}
+use Rattle.columns.specs.Line.{lineOf}
 use Rattle.sheet_writer.proofs.WriteCases.{line-two, length-two}
 use borrow.Author.Needs.{needs}
 use Rattle.sheet_writer.proofs.write_state.Statement.{statement}
@@ -25,7 +25,7 @@ slice-write-sheet : tie.Need-slice-write-sheet
 slice-write-sheet c = omega (arith, (c .before .before .before .before .before .before .before .before .before .pre) .0, (c .before .before .before .before .before .before .write-shorter .kept) .0, (c .before .before .write-short .kept) .0)
 
 same-length : tie.Need-same-length
-same-length c = ap length (line-two ((c .before .before .before .before .before .before .before .before .before .args .sheet) .now) ((c .before .before .before .before .before .before .write-shorter .last) .0) ((c .before .before .write-short .last) .0) (c .before .before .before .before .before .before .before .before .before .args .at) (c .before .before .before .before .before .before .before .before .before .args .q) (c .before .before .before .before .before .before .before .before .before .args .mark) (c .before .before .before .before .before .before .write-shorter .ensures) (c .before .before .write-short .ensures) ((c .before .before .before .before .before .before .before .before .before .pre) .0)) ∙ put-length (c .before .before .before .before .before .before .before .before .before .args .at) ((c .before .before .before .before .before .before .before .before .before .args .sheet) .now) (lineOf ((c .before .before .before .before .before .before .before .before .before .args .q) ∷ (c .before .before .before .before .before .before .before .before .before .args .mark) ∷ [])) (omega (arith, length-two (c .before .before .before .before .before .before .before .before .before .args .q) (c .before .before .before .before .before .before .before .before .before .args .mark), (c .before .before .before .before .before .before .before .before .before .pre) .0))
+same-length c = ap length (line-two ((c .before .before .before .before .before .before .before .before .before .args .sheet) .now) ((c .before .before .before .before .before .before .write-shorter .last) .0) ((c .before .before .write-short .last) .0) (c .before .before .before .before .before .before .before .before .before .args .at) (c .before .before .before .before .before .before .before .before .before .args .q) (c .before .before .before .before .before .before .before .before .before .args .mark) (c .before .before .before .before .before .before .write-shorter .ensures) (c .before .before .write-short .ensures) ((c .before .before .before .before .before .before .before .before .before .pre) .0)) ∙ put-length (c .before .before .before .before .before .before .before .before .before .args .at) ((c .before .before .before .before .before .before .before .before .before .args .sheet) .now) (lineOf 5 ((c .before .before .before .before .before .before .before .before .before .args .q) ∷ (c .before .before .before .before .before .before .before .before .before .args .mark) ∷ [])) (omega (arith, length-two (c .before .before .before .before .before .before .before .before .before .args .q) (c .before .before .before .before .before .before .before .before .before .args .mark), (c .before .before .before .before .before .before .before .before .before .pre) .0))
 
 returns : tie.Need-returns
 returns c = line-two ((c .before .before .before .before .before .before .before .before .before .args .sheet) .now) ((c .before .before .before .before .before .before .write-shorter .last) .0) ((c .before .before .write-short .last) .0) (c .before .before .before .before .before .before .before .before .before .args .at) (c .before .before .before .before .before .before .before .before .before .args .q) (c .before .before .before .before .before .before .before .before .before .args .mark) (c .before .before .before .before .before .before .write-shorter .ensures) (c .before .before .write-short .ensures) ((c .before .before .before .before .before .before .before .before .before .pre) .0)

@@ -5,6 +5,7 @@ pub mod check_run;
 pub mod common;
 pub mod dot;
 pub mod join;
+pub mod page;
 pub mod run;
 pub mod show;
 pub mod why;

@@ -58,12 +58,11 @@ pub fn run(arguments: Arguments, out: &mut Output) -> Result<Status, Failure> {
     let refused = |refusal| Failure::refused(&sheet.name, refusal);
     let raw = arguments.has("--raw");
     let Some(run) = find(sheet.table(), &word.letters).map_err(refused)? else {
-        writeln!(out, "no")?;
-        if !raw {
-            out.flush()?;
-            hint("'zagvirk why' with the same arguments says why not");
+        if raw {
+            writeln!(out, "no")?;
+            return Ok(Status::No);
         }
-        return Ok(Status::No);
+        return not_accepted(out);
     };
     if raw {
         write_numbers(&run, out)?;
@@ -76,6 +75,14 @@ pub fn run(arguments: Arguments, out: &mut Output) -> Result<Status, Failure> {
         writeln!(out, "{line}")?;
     }
     Ok(Status::Yes)
+}
+
+/// The answer for a word that is not accepted, with what to do next.
+pub fn not_accepted(out: &mut Output) -> Result<Status, Failure> {
+    writeln!(out, "no")?;
+    out.flush()?;
+    hint("'zagvirk why' with the same arguments says why not");
+    Ok(Status::No)
 }
 
 /// An accepting run of the word, if there is one.

@@ -53,6 +53,23 @@ pub fn repository() -> PathBuf {
     Path::new(env!("CARGO_MANIFEST_DIR")).join("../..")
 }
 
+/// Words of every folder of `data/machines`, the first `most` of each: the path of the table, the word, and whether it is
+/// accepted.
+pub fn words_of_the_machines(most: usize) -> Vec<(String, String, bool)> {
+    let mut all = Vec::new();
+    for folder in fs::read_dir(repository().join("data/machines")).expect("the machines") {
+        let folder = folder.expect("a folder").path();
+        let table = folder.join("table.txt");
+        let table = table.to_str().expect("a path");
+        let text = |name: &str| fs::read_to_string(folder.join(name)).expect("a file");
+        let (words, expected) = (text("words.txt"), text("expected.txt"));
+        for (word, answer) in words.lines().zip(expected.lines()).take(most) {
+            all.push((table.to_string(), word.trim().to_string(), answer != "0"));
+        }
+    }
+    all
+}
+
 /// A folder of its own for a test, removed when it is over.
 pub struct Place(PathBuf);
 

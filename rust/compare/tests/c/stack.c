@@ -14,9 +14,12 @@
 
 static const uint16_t t_list[18] = {0, 0, 1, 1, 0, 2, 1, 1, 1, 1, 2, 1, 2, 1, 2, 2, 2, 2};
 static zagvirk_machine t = {3, 2, 6, {5, 0, 10}};
+/* One state with an epsilon transition to itself, number 0, and its longest run that has a page. */
+static zagvirk_machine circle = {1, 0, 1, {3}};
+static const uint16_t circle_list[3] = {0, 0, 0}, circle_run[ZAGVIRK_PAGE_ENTRIES] = {0};
 static zagvirk_machine largest, doubled, plain;
 static uint16_t largest_list[12000], doubled_list[42], plain_list[5937], list[12000];
-static uint8_t word[LONGEST], sheet[64720], written[255];
+static uint8_t word[LONGEST], sheet[64720], written[255], page[ZAGVIRK_PAGE_BYTES(ZAGVIRK_PAGE_ENTRIES)];
 static uint16_t run[LONGEST + 8], first_run[200000], second_run[1000], copies[2];
 static uint8_t letters[LONG_PAIRS * 509], answers[WORDS];
 static size_t sheet_bytes, ends[WORDS];
@@ -141,6 +144,14 @@ static void *list_copies(void *wrong) {
   return NULL;
 }
 
+static void *write_page(void *wrong) {
+  zagvirk_page_written answer = zagvirk_write_page(t, t_list, 18, word, 254, run, 260, page, sizeof page);
+  if (answer.bytes != ZAGVIRK_PAGE_BYTES(260)) *(int *)wrong = 20;
+  answer = zagvirk_write_page(circle, circle_list, 3, word, 0, circle_run, ZAGVIRK_PAGE_ENTRIES, page, sizeof page);
+  if (answer.bytes != sizeof page) *(int *)wrong = 21;
+  return NULL;
+}
+
 /* What is wrong after the call in a thread with so much stack: 0 if nothing is. */
 static int in_thread(void *(*call)(void *), size_t stack) {
   pthread_attr_t attributes;
@@ -161,6 +172,7 @@ typedef struct {
 static part parts[] = {
     {small, ZAGVIRK_STACK_SMALL, LONGEST},
     {list_copies, ZAGVIRK_STACK_SMALL, 254},
+    {write_page, ZAGVIRK_STACK_SMALL, 254},
     {read_sheet, ZAGVIRK_STACK_READ_SHEET, 254},
     {join, ZAGVIRK_STACK_JOIN, 254},
     {accepts, ZAGVIRK_STACK_ACCEPTS, 254},
