@@ -20,7 +20,7 @@ use images::Kinds;
 use stateset::StateSet;
 
 // The answer to a word: turned down, no, or yes.
-#[derive(Drop)]
+#[derive(Clone, Copy)]
 pub enum Decided {
     Refused(Refusal),
     No,

@@ -24,7 +24,7 @@ const ENDS: u8 = 34;
 const ANSWERS: u8 = 35;
 
 // The answer of accept_words: turned down, or the number of words, each of which has its answer in the slice.
-#[derive(Drop)]
+#[derive(Clone, Copy)]
 pub enum Answered {
     Refused(Refusal),
     Words(usize),

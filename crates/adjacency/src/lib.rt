@@ -6,6 +6,9 @@
 // seek       the first transition of a stretch whose from, letter or to is at least a number
 //
 // The functions ask what a public call above them has tested: they are seams between crates.
+
+#![tactic(auto)]
+
 ghost use Rattle.std.specs.Prelude.{◌+◌, ◌*◌, ◌≤◌, ◌<◌, ◌≡◌, true, length};
 ghost use Rattle.fsbm.specs.Machine.{well_formed};
 ghost use Rattle.adjacency.specs.Index.{Index, Sought};
@@ -17,7 +20,7 @@ pub const FIRSTS: usize = 65;
 
 // first[q] is the number of transitions that leave a state below q, for each q up to the number of states: those that leave q
 // are numbered from first[q] up to, not including, first[q + 1].
-#[derive(Drop)]
+#[derive(Clone, Copy)]
 pub struct Adjacency {
     pub first: [u16; FIRSTS],
 }

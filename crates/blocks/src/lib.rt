@@ -10,6 +10,9 @@
 // block     a whole block
 //
 // The functions ask what a public call above them has tested: they are seams between crates.
+
+#![tactic(auto)]
+
 pub mod block;
 pub mod gather;
 pub mod index;

@@ -5,6 +5,8 @@
 // write_number      a number written as a column of five bytes
 // write_fitting     the same for a number below 100,000, write_short for one below 1000, write_shorter for one below 100
 // write_wide, write_wide_short, write_wide_shorter   the last three for a column of six bytes: a space and that of five
+#![tactic(auto)]
+
 ghost use Rattle.std.specs.Prelude.{◌+◌, ◌-◌, ◌/◌, ◌%◌, ◌<◌, ◌≤◌, [], ◌∷◌, ◌≡◌, length, take, drop};
 ghost use Rattle.basics.specs.Lists.{put};
 ghost use Rattle.columns.specs.Column.{widest_column, no_number, is_digit, column_number, digit_or, column_of};
@@ -20,7 +22,7 @@ pub const NO_NUMBER: usize = 10000000000;
 const BLANK_NUMBER: usize = 0;
 
 // What a pass over a column holds after some of its bytes, from the first on: the number so far and what may follow.
-#[derive(Drop)]
+#[derive(Clone, Copy)]
 pub enum Held {
     // spaces alone
     Blank,

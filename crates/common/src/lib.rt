@@ -1,8 +1,11 @@
 // A shortest common word of a machine and a plain machine, with a run of each: the answer, its definitions and laws, in specs/.
+
+#![tactic(auto)]
+
 use fsbm::answer::Refusal;
 
 // How many elements stand at the front of the word slice and of the two run slices.
-#[derive(Drop)]
+#[derive(Clone, Copy)]
 pub struct Lengths {
     pub letters: usize,
     pub first: usize,
@@ -10,7 +13,7 @@ pub struct Lengths {
 }
 
 // The answer of the search: turned down, none, or a word with its runs.
-#[derive(Drop)]
+#[derive(Clone, Copy)]
 pub enum Common {
     Refused(Refusal),
     NoCommonWord,

@@ -1,6 +1,9 @@
 // The copy list of an accepting run.
 //
 // list_copies   the public call: for each copy with letters the position where buffering began and the number of letters stored, and their total
+
+#![tactic(auto)]
+
 ghost use Rattle.std.specs.Prelude.{ℕ, ◌≤◌, ◌*◌, ◌≡◌, List, ◌++◌, length, drop};
 ghost use Rattle.copies.specs.Copies.{Copy, longest_copied, pairs, total_back, copies_answer, copies_after, copied_values, copies_values};
 ghost use Rattle.copies.specs.Stretches.{most_copies, passed, entry_list, entries_read};
@@ -12,7 +15,7 @@ use fsbm::machine::Machine;
 use fsbm::{answer, machine, run};
 
 // The answer of list_copies: the number of copies listed, and the total of the letters that they store.
-#[derive(Drop)]
+#[derive(Clone, Copy)]
 pub enum Copied {
     Refused(Refusal),
     Listed { copies: usize, total: usize },
@@ -20,7 +23,7 @@ pub enum Copied {
 
 // What a run has read: the position, and where it last began to buffer. While it buffers, the stretch of the word between
 // the two is stored.
-#[derive(Drop)]
+#[derive(Clone, Copy)]
 struct Stretch {
     start: usize,
     position: usize,

@@ -3,6 +3,9 @@
 // walks    the states that a stretch of letters leads to
 // squares  stretches of a word that stand twice in a row
 // positions   the states reached at each position of a word; decide
+
+#![tactic(auto)]
+
 pub mod positions;
 pub mod squares;
 pub mod walks;

@@ -26,7 +26,7 @@ const NO_ROWS: usize = 1;
 
 // The reached set of each position of a word, one for each position 0 to 255, and whether a state of the last is final: no before that is
 // known.
-#[derive(Drop)]
+#[derive(Clone, Copy)]
 pub struct Reached {
     pub sets: [StateSet; POSITIONS],
     pub accepted: bool,

@@ -42,7 +42,7 @@ fn walk_on(
 }
 
 // The matching half of copies that were followed last: from the states of ready the letters up to position lead to the states of reached.
-#[derive(Drop)]
+#[derive(Clone, Copy)]
 pub struct Tail {
     pub ready: StateSet,
     pub position: usize,

@@ -1,5 +1,8 @@
 // A test that a machine accepts no word: the states that are reached in each mode when letters and buffers are ignored. It may fail for
 // a machine that accepts nothing.
+
+#![tactic(auto)]
+
 ghost use Rattle.std.specs.Prelude.{ℕ, ◌+◌, ◌*◌, ◌≤◌, ◌≡◌, true, List, length};
 ghost use Rattle.fsbm.specs.Machine.{well_formed, transition_at};
 ghost use Rattle.fsbm.specs.Published.{fsbm_of, InLanguage};
@@ -14,7 +17,7 @@ use stateset::StateSet;
 const PASSES: usize = 200;
 
 // States in each mode.
-#[derive(Drop)]
+#[derive(Clone, Copy)]
 pub struct Reached {
     pub normal: StateSet,
     pub buffering: StateSet,

@@ -10,7 +10,7 @@ use letters::{loading, translation};
 
 // The answer of zagvirk_load_letters.
 #[repr(C)]
-#[derive(Drop)]
+#[derive(Clone, Copy)]
 pub struct LettersLoaded {
     pub refusal: u8,
     pub alphabet: Alphabet,
@@ -18,7 +18,7 @@ pub struct LettersLoaded {
 
 // The answer of zagvirk_translate.
 #[repr(C)]
-#[derive(Drop)]
+#[derive(Clone, Copy)]
 pub struct Translation {
     pub refusal: u8,
     pub needed: usize,

@@ -9,7 +9,7 @@ use fsbm::machine::Machine;
 // The refusal's number or 0, the length that the slice needs for 18 and 17, whether a common word was found, its number of letters, and the
 // number of entries of each run; 0 where they do not apply.
 #[repr(C)]
-#[derive(Drop)]
+#[derive(Clone, Copy)]
 pub struct CommonRecord {
     pub refusal: u8,
     pub needed: usize,

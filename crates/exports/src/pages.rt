@@ -8,7 +8,7 @@ use sheet::answers::Written;
 
 // The answer of zagvirk_write_page. A field that does not apply is 0.
 #[repr(C)]
-#[derive(Drop)]
+#[derive(Clone, Copy)]
 pub struct PageWritten {
     pub refusal: u8,
     pub needed: usize,

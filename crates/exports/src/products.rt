@@ -9,7 +9,7 @@ use fsbm::machine::Machine;
 
 // The answer of zagvirk_join: refusal is 0 on success; on a refusal every field of machine is 0.
 #[repr(C)]
-#[derive(Drop)]
+#[derive(Clone, Copy)]
 pub struct Joined {
     pub refusal: u8,
     pub needed: usize,
@@ -18,7 +18,7 @@ pub struct Joined {
 
 // The answer of zagvirk_list_copies: refusal is 0 on success; on a refusal copies and total are 0.
 #[repr(C)]
-#[derive(Drop)]
+#[derive(Clone, Copy)]
 pub struct CopyList {
     pub refusal: u8,
     pub needed: usize,

@@ -9,7 +9,7 @@ use reach::answer::Reaching;
 
 // The answer of zagvirk_reach: the refusal's number or 0, the length that the slice needs for 36, and how many numbers of it hold the sets.
 #[repr(C)]
-#[derive(Drop)]
+#[derive(Clone, Copy)]
 pub struct ReachRecord {
     pub refusal: u8,
     pub needed: usize,

@@ -8,7 +8,7 @@ use recognize::Recognized;
 
 // The refusal's number or 0, the length that the slice needs for 17, whether the word is accepted, and the run's number of entries.
 #[repr(C)]
-#[derive(Drop)]
+#[derive(Clone, Copy)]
 pub struct RecognitionRecord {
     pub refusal: u8,
     pub needed: usize,

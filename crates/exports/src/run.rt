@@ -9,7 +9,7 @@ use fsbm::machine::Machine;
 
 // A configuration with its mode as a number: 0 normal, 1 buffering, 2 emptying. A larger number is no mode.
 #[repr(C)]
-#[derive(Drop)]
+#[derive(Clone, Copy)]
 pub struct ConfigRecord {
     pub position: usize,
     pub state: usize,
@@ -20,7 +20,7 @@ pub struct ConfigRecord {
 
 // The refusal's number or 0, whether the move is allowed, and the next configuration; the one that came in where there is none.
 #[repr(C)]
-#[derive(Drop)]
+#[derive(Clone, Copy)]
 pub struct SteppedRecord {
     pub refusal: u8,
     pub allowed: u8,
@@ -29,7 +29,7 @@ pub struct SteppedRecord {
 
 // The refusal's number or 0, and whether the run accepts.
 #[repr(C)]
-#[derive(Drop)]
+#[derive(Clone, Copy)]
 pub struct CheckedRecord {
     pub refusal: u8,
     pub accepting: u8,

@@ -11,7 +11,7 @@ use spelling::Translated;
 
 // The answer of zagvirk_read_sheet.
 #[repr(C)]
-#[derive(Drop)]
+#[derive(Clone, Copy)]
 pub struct ReadSheet {
     pub refusal: u8,
     pub needed: usize,
@@ -20,7 +20,7 @@ pub struct ReadSheet {
 
 // The answer of zagvirk_write_sheet.
 #[repr(C)]
-#[derive(Drop)]
+#[derive(Clone, Copy)]
 pub struct SheetWritten {
     pub refusal: u8,
     pub needed: usize,
@@ -29,7 +29,7 @@ pub struct SheetWritten {
 
 // The answer of zagvirk_translate.
 #[repr(C)]
-#[derive(Drop)]
+#[derive(Clone, Copy)]
 pub struct Translation {
     pub refusal: u8,
     pub needed: usize,

@@ -11,7 +11,7 @@ use fsbm::machine::Machine;
 
 // The answer of zagvirk_accepts: the refusal's number or 0, and whether the word is accepted.
 #[repr(C)]
-#[derive(Drop)]
+#[derive(Clone, Copy)]
 pub struct DecidedRecord {
     pub refusal: u8,
     pub accepted: u8,
@@ -19,7 +19,7 @@ pub struct DecidedRecord {
 
 // The answer of zagvirk_accept_words: the refusal's number or 0, the length that the slice needs for 35, and the number of answers.
 #[repr(C)]
-#[derive(Drop)]
+#[derive(Clone, Copy)]
 pub struct WordsAnswered {
     pub refusal: u8,
     pub needed: usize,

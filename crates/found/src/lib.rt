@@ -3,6 +3,9 @@
 // answer       the answer
 // best         the final state with the least number
 // write        a shortest common word with a run of each machine, written from the least weights
+
+#![tactic(auto)]
+
 pub mod answer;
 pub mod best;
 mod write;

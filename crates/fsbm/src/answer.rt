@@ -7,14 +7,14 @@ use crate::machine;
 use crate::machine::Machine;
 
 // The number that document 01 gives to the refusal, and for 15 and 17 to 20 the length that the slice needs; else 0.
-#[derive(Drop)]
+#[derive(Clone, Copy)]
 pub struct Refusal {
     pub number: u8,
     pub needed: usize,
 }
 
 // The answer of Config::step.
-#[derive(Drop)]
+#[derive(Clone, Copy)]
 pub enum Stepped {
     Refused(Refusal),
     NotAllowed,
@@ -22,7 +22,7 @@ pub enum Stepped {
 }
 
 // The answer of check_run.
-#[derive(Drop)]
+#[derive(Clone, Copy)]
 pub enum Checked {
     Refused(Refusal),
     NotAccepting,

@@ -22,7 +22,7 @@ pub const BACK_TO_NORMAL: u16 = 65535;
 
 // The mode of a run: normal; buffering, which stores what it reads (document 01: storing); emptying, which matches what was
 // stored (document 01: matching).
-#[derive(Drop)]
+#[derive(Clone, Copy)]
 pub enum Mode {
     Normal,
     Buffering,
@@ -43,7 +43,7 @@ impl Mode {
 }
 
 // A configuration of a run on a word. The buffer is the stretch of the word from start up to end.
-#[derive(Drop)]
+#[derive(Clone, Copy)]
 pub struct Config {
     // How many letters are read (document 01: the place).
     pub position: usize,
@@ -54,7 +54,7 @@ pub struct Config {
 }
 
 // What one entry of a run does to a configuration: the next one, or the same one where the move is not allowed.
-#[derive(Drop)]
+#[derive(Clone, Copy)]
 pub struct Move {
     pub allowed: bool,
     pub config: Config,

@@ -5,6 +5,9 @@
 // config    Mode, Config; one move of a run; the public call Config::step
 // run       the public call check_run
 // answer    Refusal; the tests that come before every answer on a table and a word
+
+#![tactic(auto)]
+
 pub mod answer;
 pub mod config;
 pub mod limits;

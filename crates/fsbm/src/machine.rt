@@ -12,7 +12,7 @@ pub type Marks = [u8; MAX_STATES];
 
 // A finite-state buffered machine without its transitions, which stand in a lent list (document 01: a table's record).
 #[repr(C)]
-#[derive(Drop)]
+#[derive(Clone, Copy)]
 pub struct Machine {
     // States are numbered from 0.
     pub states: usize,
@@ -23,7 +23,7 @@ pub struct Machine {
 }
 
 // One transition of the lent list.
-#[derive(Drop)]
+#[derive(Clone, Copy)]
 pub struct Transition {
     pub from: u16,
     pub letter: u16,

@@ -2,6 +2,9 @@
 // each letter lead from each state. Its first set has the states with epsilon transitions, its second the states whose closures it has;
 // behind them stand the row of closures and the rows of the letters in order, letter 0, epsilon, first, each with one set for each
 // state. g is the set of buffering states, h the set of matching states.
+
+#![tactic(auto)]
+
 ghost use Rattle.std.specs.Prelude.{◌+◌, ◌-◌, ◌*◌, ◌/◌, ◌%◌, ◌^◌, ◌≤◌, ◌<◌, ◌≡◌, true, ◌⊎◌, length, get_or, eqb};
 ghost use Rattle.stateset.specs.Set.{width, In};
 ghost use Rattle.fsbm.specs.declared.config.Mode.TheVariants.{Normal, Buffering, Emptying};
@@ -31,7 +34,7 @@ fn add_marked(set: StateSet, q: usize, mark: usize, bit: usize) -> StateSet
 }
 
 // The states of each kind.
-#[derive(Drop)]
+#[derive(Clone, Copy)]
 pub struct Kinds {
     pub initial: StateSet,
     pub finals: StateSet,

@@ -1,1 +1,3 @@
 // Definitions and laws only: see specs/.
+
+#![tactic(auto)]

@@ -16,7 +16,7 @@ use fsbm::machine::Machine;
 use stateset::StateSet;
 
 // The three rows of a position, the buffer empty. Where no copy ends there, that of emptying mode says none.
-#[derive(Drop)]
+#[derive(Clone, Copy)]
 pub struct Position {
     pub normal: Row,
     pub buffering: Row,

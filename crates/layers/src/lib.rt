@@ -3,5 +3,8 @@
 //
 // layer  whole layers of least numbers
 // row    rows of numbers, one a state: lowering along transitions and changes of mode
+
+#![tactic(auto)]
+
 pub mod layer;
 pub mod row;

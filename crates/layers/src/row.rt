@@ -20,7 +20,7 @@ pub const NONE: u32 = 4294967295;
 pub type Row = [u32; MAX_STATES];
 
 // A row at a glance: the states that have a number, the least number, and the states that have it.
-#[derive(Drop)]
+#[derive(Clone, Copy)]
 struct Sum {
     live: StateSet,
     least: u32,

@@ -4,5 +4,8 @@
 // turns     turns of normal moves and of copies, until nothing is lowered any more: costs is the call
 //
 // The functions ask what a public call above them has tested: they are seams between crates.
+
+#![tactic(auto)]
+
 pub mod fall;
 pub mod turns;

@@ -212,7 +212,7 @@ fn lowered(marks: &Marks, d: &[u64; MOST_STATES], limit: u64) -> u64
 }
 
 // What a turn of copies leaves: the states that were lowered, and the limit then.
-#[derive(Drop)]
+#[derive(Clone, Copy)]
 pub struct Turned {
     pub fresh: u64,
     pub limit: u64,

@@ -15,7 +15,7 @@ pub type Letters = [u8; 256];
 
 // A customer's letters: the letter of each byte value, and the largest letter.
 #[repr(C)]
-#[derive(Drop)]
+#[derive(Clone, Copy)]
 pub struct Alphabet {
     pub letters: Letters,
     pub count: usize,

@@ -19,14 +19,14 @@ const LINE_LENGTH: usize = 11;
 const NO_LETTER: u8 = 255;
 
 // The answer of load_letters: why it refused, its number 0 where it did not, and the letters.
-#[derive(Drop)]
+#[derive(Clone, Copy)]
 pub struct Loaded {
     pub refusal: Refusal,
     pub alphabet: Alphabet,
 }
 
 // A line: its fault, 1 or 2, or 0 and its two numbers.
-#[derive(Drop)]
+#[derive(Clone, Copy)]
 pub struct Entry {
     pub fault: u8,
     pub byte: usize,

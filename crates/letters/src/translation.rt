@@ -14,7 +14,7 @@ use fsbm::answer::Refusal;
 const LONGEST_WRITTEN: usize = 255;
 
 // The answer of translate: why it refused, or how many letters it wrote.
-#[derive(Drop)]
+#[derive(Clone, Copy)]
 pub enum Translated {
     Refused(Refusal),
     Letters(usize),

@@ -2,6 +2,9 @@
 //
 // answer_line  what is printed for a word's line
 // write_line   the printed line
+
+#![tactic(auto)]
+
 ghost use Rattle.std.specs.Prelude.{◌+◌, ◌≤◌, ◌≡◌, length};
 ghost use Rattle.basics.specs.Lists.{put};
 ghost use Rattle.accepts.specs.Ready.{Ready, Working};
@@ -19,7 +22,7 @@ use stateset::StateSet;
 pub const LONGEST: usize = 1275;
 
 // What is printed for a word: 1 yes, 0 no, 2 turned down; and the refusal's number or 0.
-#[derive(Drop)]
+#[derive(Clone, Copy)]
 pub struct Answer {
     pub answer: u8,
     pub refusal: u8,

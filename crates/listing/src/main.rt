@@ -8,6 +8,9 @@
 //
 // Memory: two buffers of 64 KB, one of 4 KB, a line, the table (12 KB more while it is read), what it is prepared to (128 KB) and what is
 // kept from word to word (74 KB), whatever comes in.
+
+#![tactic(auto)]
+
 ghost use Rattle.std.specs.Prelude.{ℕ, ◌≤◌, ◌≡◌, true, false, length, get_or};
 ghost use Rattle.fsbm.specs.Machine.{well_formed};
 ghost use Rattle.accepts.specs.Ready.{Ready, Working};
@@ -28,7 +31,7 @@ use targets::MOST_SETS;
 const LINE: usize = 1276;
 
 // What a piece leaves: what is held, how many bytes of input came, and whether the output is closed, since a write has failed.
-#[derive(Drop)]
+#[derive(Clone, Copy)]
 pub struct Turn {
     pub held: Held,
     pub count: usize,

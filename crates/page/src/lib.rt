@@ -1,6 +1,9 @@
 // The page of a reading: an accepting run laid out on lines, to be held beside the sheet.
 //
 // write_page   the public call: a line for each entry of the run, and a last line of totals
+
+#![tactic(auto)]
+
 ghost use Rattle.std.specs.Prelude.{ℕ, ◌+◌, ◌*◌, ◌<◌, ◌≤◌, ◌-◌, ◌≡◌, true, List, [], ◌∷◌, length};
 ghost use Rattle.basics.specs.Lists.{put};
 ghost use Rattle.columns.specs.Line.{line_of};
@@ -35,7 +38,7 @@ const NORMAL: u8 = 0;
 const BUFFERING: u8 = 1;
 
 // The letters that a run has read so far in normal mode, and those that it has stored.
-#[derive(Drop)]
+#[derive(Clone, Copy)]
 struct Tally {
     plain: usize,
     stored: usize,

@@ -120,7 +120,7 @@ fn count_joined(first: Machine, first_list: &[u16], second: Machine, second_list
 }
 
 // What first_fault answers.
-#[derive(Drop)]
+#[derive(Clone, Copy)]
 pub struct Joint {
     // The number of the first refusal, or 0.
     pub fault: u8,

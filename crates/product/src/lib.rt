@@ -5,6 +5,9 @@
 // letters   the transitions of a table by state and letter
 // write     the joined transitions, written in order
 // marks     the marks of the product
+
+#![tactic(auto)]
+
 ghost use Rattle.std.specs.Prelude.{◌≡◌, length};
 ghost use Rattle.fsbm.specs.Answers.{no_machine};
 ghost use Rattle.product.specs.Product.{join_answer, join_after};
@@ -19,7 +22,7 @@ mod marks;
 mod write;
 
 // The answer of join: refusal.number is 0 on success; on a refusal every field of machine is 0.
-#[derive(Drop)]
+#[derive(Clone, Copy)]
 pub struct Product {
     pub refusal: Refusal,
     pub machine: Machine,

@@ -19,7 +19,7 @@ use fsbm::machine;
 use fsbm::machine::{Machine, Transition};
 
 // The transitions from lo up to, not including, hi.
-#[derive(Drop)]
+#[derive(Clone, Copy)]
 struct Span {
     lo: usize,
     hi: usize,

@@ -30,7 +30,7 @@ const MODES: usize = 3;
 const SET_SIZE: usize = 1;
 
 // The answer of reach: turned down, or how many numbers of the slice hold the sets.
-#[derive(Drop)]
+#[derive(Clone, Copy)]
 pub enum Reaching {
     Refused(Refusal),
     Sets(usize),

@@ -2,5 +2,8 @@
 //
 // answer  the public call reach
 // copies  the states reached while storing and while matching, copy by copy
+
+#![tactic(auto)]
+
 pub mod answer;
 pub mod copies;

@@ -1,4 +1,7 @@
 // Recognition with a run: whether a machine accepts a word, and an accepting run of it.
+
+#![tactic(auto)]
+
 ghost use Rattle.std.specs.Prelude.{ℕ, ◌+◌, ◌*◌, ◌≤◌, ◌<◌, ◌≡◌, true, false, length, get_or};
 ghost use Rattle.fsbm.specs.Accepted.{run_bound};
 ghost use Rattle.fsbm.specs.Answers.{longest_recognized, table_and_word};
@@ -16,7 +19,7 @@ use stateset::StateSet;
 use targets::{MEDIUM, MOST_SETS, SMALL};
 
 // The answer of recognize: turned down, no, or yes with the number of entries of the run.
-#[derive(Drop)]
+#[derive(Clone, Copy)]
 pub enum Recognized {
     Refused(Refusal),
     No,

@@ -1,4 +1,7 @@
 // Writing a run: given a machine and a word that it accepts, an accepting run with the fewest entries.
 //
 // walk   write_run, a seam between crates: the call above it tests what it requires
+
+#![tactic(auto)]
+
 pub mod walk;

@@ -1,6 +1,9 @@
 // The search for a shortest common word of a machine and a plain machine.
 //
 // common_word  the public call
+
+#![tactic(auto)]
+
 ghost use Rattle.std.specs.Prelude.{◌≡◌, length};
 ghost use Rattle.blocks.specs.Settling.{Blank};
 ghost use Rattle.common.specs.Common.{CommonWord};

@@ -6,7 +6,7 @@ ghost use Rattle.sheet.specs.Reading.{as_transition, counts_fault, mark_fault, o
 use fsbm::limits::{MAX_LETTERS, MAX_STATES, MAX_TRANSITIONS};
 
 // The three numbers of a transition's line, as they stand in the sheet.
-#[derive(Drop)]
+#[derive(Clone, Copy)]
 pub struct Line {
     pub from: usize,
     pub letter: usize,

@@ -3,6 +3,9 @@
 // answers  Sheet and Written, the answers of the two calls
 // parts    the three parts of a sheet, each read to its first fault or to its end
 // faults   the faults of the numbers of one line
+
+#![tactic(auto)]
+
 pub mod answers;
 pub mod faults;
 pub mod parts;

@@ -10,7 +10,7 @@ use crate::{HEADER_LENGTH, STATE_LENGTH, TRANSITION_LENGTH, faults};
 use fsbm::machine::Marks;
 
 // What line one holds: its first fault, 1, 2 or 3, or 0 and its counts.
-#[derive(Drop)]
+#[derive(Clone, Copy)]
 pub struct Header {
     pub fault: u8,
     pub states: usize,

@@ -1,1 +1,3 @@
 // The laws of sheets: the two round trips. There is no code here, only specs/.
+
+#![tactic(auto)]

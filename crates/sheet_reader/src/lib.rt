@@ -1,4 +1,7 @@
 // The reader of sheets: read_sheet.
+
+#![tactic(auto)]
+
 ghost use Rattle.std.specs.Prelude.{◌*◌, ◌≤◌, ◌≡◌, length, replicate};
 ghost use Rattle.basics.specs.Lists.{put};
 ghost use Rattle.fsbm.specs.Machine.{max_states};

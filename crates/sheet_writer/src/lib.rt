@@ -1,4 +1,7 @@
 // The writer of sheets: write_sheet.
+
+#![tactic(auto)]
+
 ghost use Rattle.std.specs.Prelude.{ℕ, ◌+◌, ◌*◌, ◌<◌, ◌≤◌, ◌≡◌, [], ◌∷◌, length};
 ghost use Rattle.basics.specs.Lists.{put};
 ghost use Rattle.basics.specs.Each.{each_below};

@@ -11,7 +11,7 @@ use fsbm::machine::{Machine, Marks};
 
 // How far the two halves of a copy are walked back: their states, the places of the first letter and of the first entry that are written,
 // and how many entries of the storing half are kept for later.
-#[derive(Drop)]
+#[derive(Clone, Copy)]
 pub struct Walk {
     pub storing: usize,
     pub matching: usize,
@@ -21,7 +21,7 @@ pub struct Walk {
 }
 
 // How far a run is written, from its end: the state there, the places of the first letter and of the first entry.
-#[derive(Drop)]
+#[derive(Clone, Copy)]
 pub struct Progress {
     pub state: usize,
     pub letter: usize,

@@ -14,7 +14,7 @@ use fsbm::machine::{Machine, Marks};
 use least::fall;
 
 // The moves of a pair's two halves, each by its transition; the number of transitions says that the half stands still.
-#[derive(Drop)]
+#[derive(Clone, Copy)]
 pub struct Halves {
     pub storing: usize,
     pub matching: usize,

@@ -14,7 +14,7 @@ const NO_LINK: u16 = 65535;
 
 // The first 64 links are the first transition into each state, the others for each transition the next one into the same state. What
 // is at least the count says that there is none.
-#[derive(Drop)]
+#[derive(Clone, Copy)]
 pub struct Entering {
     pub links: [u16; LINKS],
 }

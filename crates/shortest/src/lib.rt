@@ -7,6 +7,9 @@
 // write    the word and its run
 //
 // The functions ask what a public call above them has tested: they are seams between crates.
+
+#![tactic(auto)]
+
 pub mod copy;
 pub mod find;
 pub mod into;

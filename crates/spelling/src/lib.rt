@@ -1,6 +1,9 @@
 // Written words: bytes to letters.
 //
 // translate  the public call that translates a written word
+
+#![tactic(auto)]
+
 ghost use Rattle.std.specs.Prelude.{◌≡◌, ◌++◌, map, ◌≤◌, length, drop};
 ghost use Rattle.basics.specs.Search.{all_in};
 ghost use Rattle.spelling.specs.Spelling.{letter_of, has_letter, translate_answer, translate_word, translated_values, translate_values};
@@ -21,7 +24,7 @@ const LETTERS: [u8; 256] = [
 ];
 
 // The answer of translate: why it refused, or how many letters it wrote.
-#[derive(Drop)]
+#[derive(Clone, Copy)]
 pub enum Translated {
     Refused(Refusal),
     Letters(usize),

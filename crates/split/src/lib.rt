@@ -4,5 +4,8 @@
 // split    both machines' runs from a run of the product
 //
 // The functions ask what a public call above them has tested: they are seams between crates.
+
+#![tactic(auto)]
+
 pub mod lookup;
 pub mod split;

@@ -1,6 +1,9 @@
 // Sets of states, each a 64-bit number, one bit a state: the state q is a member of the set if the bit of value 2^q is set in it.
 // The states are 0 to 63. Every function takes every input; a number of 64 and above is no state: no member, and not added.
 // Each takes a few instructions and no memory. The laws of sets, by membership, stand in specs/Set/Laws.antt.
+
+#![tactic(auto)]
+
 ghost use Rattle.std.specs.Prelude.{◌≡◌, ◌⊎◌, ◌<◌};
 ghost use Rattle.std.specs.Int.Bits.{bit_and, bit_or};
 ghost use Rattle.stateset.specs.Set.{width, In, has, added, removed, without, below, lowest_of, SetIs, Lowest};

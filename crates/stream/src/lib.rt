@@ -6,6 +6,9 @@
 // is_full     whether the last word is listed
 // take_piece  what a piece of the input prints, and what is held after it
 // finish      what is printed at the end of the input
+
+#![tactic(auto)]
+
 ghost use Rattle.std.specs.Prelude.{◌+◌, ◌*◌, ◌≤◌, ◌<◌, ◌≡◌, true, leb, length, take};
 ghost use Rattle.basics.specs.Lists.{put};
 ghost use Rattle.accepts.specs.Ready.{Ready, Working};
@@ -23,7 +26,7 @@ use stateset::StateSet;
 pub const MOST_WORDS: usize = 99999;
 
 // The answer of open: the sheet's table, how many bytes of output there are, and whether the sheet is good.
-#[derive(Drop)]
+#[derive(Clone, Copy)]
 pub struct Opened {
     pub machine: Machine,
     pub used: usize,
@@ -32,14 +35,14 @@ pub struct Opened {
 
 // What is held between two pieces: how many bytes of the present line are kept, and how many words are listed. Only this crate makes
 // one: a program has it from begin and from take_piece.
-#[derive(Drop)]
+#[derive(Clone, Copy)]
 pub struct Held {
     kept: usize,
     words: usize,
 }
 
 // What is held after a piece, and how many bytes of output there are.
-#[derive(Drop)]
+#[derive(Clone, Copy)]
 pub struct Taken {
     pub held: Held,
     pub used: usize,

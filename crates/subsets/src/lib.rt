@@ -10,6 +10,9 @@
 // begin     where a set leads before a letter is read
 // read      where a set leads by a letter
 // with_row  a set with its row
+
+#![tactic(auto)]
+
 ghost use Rattle.std.specs.Prelude.{ℕ, suc, ◌+◌, ◌*◌, ◌≤◌, ◌<◌, ◌≡◌, true, ◌⊎◌, length, get_or};
 ghost use Rattle.fsbm.specs.Moves.{mode_number};
 ghost use Rattle.images.specs.Graph.{Members, From, Graph, graph, Room, Good};
@@ -42,14 +45,14 @@ pub fn columns_for(letters: usize) -> usize
 }
 
 // A set of states and the number of its row; 0 if it has none. The number may be any.
-#[derive(Drop)]
+#[derive(Clone, Copy)]
 pub struct Subset {
     pub set: StateSet,
     pub row: usize,
 }
 
 // A machine's number of states, the columns of a mode, the buffering states and the matching states.
-#[derive(Drop)]
+#[derive(Clone, Copy)]
 pub struct Shape {
     pub states: usize,
     pub columns: usize,

@@ -17,7 +17,7 @@ use layers::row::Row;
 use stateset::StateSet;
 
 // A row. Where it is not live, it is blank.
-#[derive(Drop)]
+#[derive(Clone, Copy)]
 pub struct Layer {
     pub row: Row,
     pub live: bool,
@@ -25,7 +25,7 @@ pub struct Layer {
 
 // How many letters are left of the copies that end at one position. Where they are not live, their rows are blank from so many
 // letters on.
-#[derive(Drop)]
+#[derive(Clone, Copy)]
 pub struct Tail {
     pub left: usize,
     pub live: bool,

@@ -4,6 +4,9 @@
 // halves  stretches of a word that stand a second time after themselves
 // copy    the rows of copies: emptying_rows of a second half, buffering_rows of a first half, storing_row of all that begin at a position
 // table   fill: the rows of every position
+
+#![tactic(auto)]
+
 pub mod copy;
 pub mod halves;
 pub mod table;

@@ -7,6 +7,9 @@
 // prepare_for  the same with the rows of letter 0 and of a word's letters alone, and no closures
 //
 // The functions ask what a public call above them has tested: they are seams between crates.
+
+#![tactic(auto)]
+
 ghost use Rattle.std.specs.Prelude.{ℕ, ◌+◌, ◌≤◌, ◌<◌, ◌≡◌, ◌↔◌, true, length, get_or};
 ghost use Rattle.fsbm.specs.Machine.{well_formed};
 ghost use Rattle.stateset.specs.Set.{width, In};

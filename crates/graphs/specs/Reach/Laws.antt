@@ -187,7 +187,7 @@ module _ {Node : Type 0} (succ : Node → List Node) (eqN : Node → Node → Bo
   reach_from_complete zero seen front ok le m (step e p) = absurd (omega arith)
   reach_from_complete {v = v} (suc i) seen front ok le m here = reach_from_keeps succ eqN (suc i) seen front m
   reach_from_complete {u} {v} (suc i) seen front ok le m (step {v = w} {n = k} e p) =
-      at (true_or_false (is_empty next)) (reach_from_complete i (next ++ seen) next ok' (omega arith) (joined (settled_next seen front ok u w m e)) p)
+      at (true_or_false (is_empty next)) (reach_from_complete {u = w} {v = v} {n = k} i (next ++ seen) next ok' (omega arith) (joined (settled_next seen front ok u w m e)) p)
     where
       next : List Node
       next = fresh eqN seen [] (succs succ front)

@@ -1,0 +1,8 @@
+use mathlib.Core.Path.{ap, ◌∙◌}
+use borrow.Author.Rules.{rules}
+use Rattle.columns.specs.Held.{held_number}
+use Rattle.columns.specs.Held.Laws.{as_before}
+use Rattle.columns.proofs.number.Goals as goal
+
+pub returns : goal.returns
+returns c = c.number.ensures ∙ (ap held_number c.pass.ensures ∙ as_before _)

@@ -1,0 +1,5 @@
+use borrow.Author.Rules.{rules}
+use Rattle.fsbm.proofs.machine.is_final.Goals as goal
+
+pub returns : goal.returns
+returns c = simp c.mark.ensures
