@@ -1,0 +1,16 @@
+use Rattle.images.proofs.Sweeps.{part_image, no_image, Closing, closing_start, closing_turn, closing_less, closing_end, closing_stuck}
+use Rattle.images.proofs.SetCases.{members_is}
+use mathlib.Core.Path.{sym, subst}
+use Prim.Native.Nat.{ℕ, ◌-◌}
+use lib.Count.{ones}
+use Rattle.stateset.specs.Set.{width, In}
+use Rattle.images.specs.Graph.{graph, Edge, Good}
+use borrow.Author.Rules.{rules}
+use native.Mathlib.Omega.{arith}
+use Rattle.images.proofs.close_set.Given as goal
+
+abbrev pub invariant-loop-mode : goal.invariant-loop-mode
+invariant-loop-mode l = Good l.targets l.states l.g l.h × ((p q : ℕ) → Edge (graph l.targets l.states l.g l.h) l.mode 0 p q → In l.may p) × Closing (Edge (graph l.targets l.states l.g l.h) l.mode 0) l.set l.all l.new
+
+abbrev pub decreases-loop-mode : goal.decreases-loop-mode
+decreases-loop-mode l = width - ones l.all

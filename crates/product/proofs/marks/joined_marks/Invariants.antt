@@ -1,0 +1,14 @@
+use Prim.Native.Nat.{ℕ, ◌<◌, ◌-◌}
+use mathlib.Core.Path.{◌≡◌, ap, ◌∙◌}
+use native.Mathlib.Omega.{arith}
+use lib.ListN.{length, get_or}
+use borrow.Author.Rules.{rules}
+use Rattle.product.specs.Product.{joined_mark}
+use Rattle.product.proofs.FaultCases.{zeros_length, marks_next, marks_end}
+use Rattle.product.proofs.marks.joined_marks.Given as goal
+
+abbrev pub invariant-loop-q : goal.invariant-loop-q
+invariant-loop-q l = (length l.marks ≡ 64) × ((x : ℕ) → x < l.q → get_or l.marks x 0 ≡ joined_mark l.first l.second x)
+
+abbrev pub decreases-loop-q : goal.decreases-loop-q
+decreases-loop-q l = 64 - l.q

@@ -1,0 +1,7 @@
+use Rattle.sheet.specs.Reading.{column_at}
+use borrow.Author.Rules.{rules}
+use Rattle.sheet.proofs.parts.column.Goals as goal
+
+pub returns : goal.returns
+unfolding column_at
+returns c = c.number.ensures
