@@ -1,0 +1,13 @@
+use native.Mathlib.Omega.{arith}
+use Prim.Native.Nat.{◌≤◌, ◌-◌, ◌+◌, ◌*◌}
+use mathlib.Core.Path.{◌≡◌, refl, ◌∙◌}
+use mathlib.Core.Logic.{◌⊎◌, inl, inr}
+use Rattle.blocks.specs.Gathered.{Adding, Reach}
+use Rattle.blocks.specs.Gathered.Laws.{reach_none, reach_more, reach_past}
+use Rattle.blocks.proofs.gather.reach.Given as goal
+
+abbrev pub invariant-loop-k : goal.invariant-loop-k
+invariant-loop-k l = (l.lo ≤ l.k) × ((l.k ≡ l.lo) ⊎ (l.k ≤ l.hi)) × Adding (Reach l.list l.lo l.k l.may l.v) l.initial.p l.got l.p l.all
+
+abbrev pub decreases-loop-k : goal.decreases-loop-k
+decreases-loop-k l = l.hi - l.k

@@ -1,0 +1,12 @@
+use native.Mathlib.Omega.{arith}
+use Prim.Native.Nat.{◌-◌}
+use borrow.Author.Rules.{rules}
+use Rattle.emptiness.specs.Reached.{Swept}
+use Rattle.emptiness.specs.Reached.Laws.{swept_start, swept_more, swept_end}
+use Rattle.emptiness.proofs.pass.Given as goal
+
+abbrev pub invariant-loop-k : goal.invariant-loop-k
+invariant-loop-k l = Swept l.list l.k l.g l.h l.initial.all l.all
+
+abbrev pub decreases-loop-k : goal.decreases-loop-k
+decreases-loop-k l = l.n - l.k

@@ -1,0 +1,15 @@
+use borrow.Author.Tests.{not-true}
+use Rattle.layers.proofs.LayerCases.{emptying_made, emptying_none, lives, matching_inside}
+use Rattle.layers.proofs.layer.emptying_layer.Goals as goal
+
+pub read-requires : goal.read-requires
+read-requires c = (c.requires.0, c.requires.1, matching_inside _ _ _ _ _ c.requires.0)
+
+pub returns-then-not-read : goal.returns-then-not-read
+returns-then-not-read c = emptying_none _ _ _ _ _ c.requires.0 _ _ _ _ c.requires.2 _ c.read.ensures (c.if-not-read.true)
+
+pub close_emptying-requires : goal.close_emptying-requires
+close_emptying-requires c = c.requires.0
+
+pub returns : goal.returns
+returns c = lives (emptying_made _ _ _ _ _ c.requires.0 _ _ _ _ c.requires.2 _ c.read.ensures _ c.close_emptying.ensures)

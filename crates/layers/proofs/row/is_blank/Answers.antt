@@ -1,0 +1,6 @@
+use Rattle.layers.proofs.RowCases.{blank_said}
+use borrow.Author.Rules.{rules}
+use Rattle.layers.proofs.row.is_blank.Goals as goal
+
+pub returns : goal.returns
+returns c = blank_said _ _ _ c.glance-s.ensures

@@ -1,0 +1,10 @@
+use native.Mathlib.Omega.{arith}
+use Rattle.least.specs.Falls.Laws.{fall_not, fall_is}
+use borrow.Author.Rules.{rules}
+use Rattle.least.proofs.fall.fall.Goals as goal
+
+pub returns-then-d-q : goal.returns-then-d-q
+returns-then-d-q c = fall_not _ _ _ _ c.requires.1 (omega (arith, c.ranges.got)) c.if-d-q.true
+
+pub returns : goal.returns
+returns c = fall_is _ _ _ _ c.requires.1 c.requires.0 (omega (arith, c.if-d-q.false)) c.add.ensures

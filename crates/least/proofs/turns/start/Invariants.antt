@@ -1,0 +1,15 @@
+use native.Mathlib.Omega.{arith}
+use Prim.Native.Nat.{ℕ, ◌≤◌, ◌<◌, ◌-◌}
+use mathlib.Core.Path.{◌≡◌, ◌∙◌}
+use borrow.Author.Rules.{rules}
+use lib.ListN.{length, get_or, length-set}
+use Rattle.stateset.specs.Set.{has}
+use Rattle.least.specs.Turns.{first_of}
+use Rattle.least.specs.Turns.Laws.{first_more, first_end}
+use Rattle.least.proofs.turns.start.Given as goal
+
+abbrev pub invariant-loop-q : goal.invariant-loop-q
+invariant-loop-q l = (l.q ≤ 64) × (length l.d ≡ 64) × ((p : ℕ) → p < l.q → get_or l.d p 0 ≡ first_of (has l.initial' p))
+
+abbrev pub decreases-loop-q : goal.decreases-loop-q
+decreases-loop-q l = 64 - l.q

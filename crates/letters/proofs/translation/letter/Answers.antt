@@ -1,0 +1,11 @@
+use mathlib.Core.Path.{sym}
+use native.Mathlib.Omega.{arith}
+use Rattle.letters.specs.Alphabet.Laws.{letter_in_lem}
+use borrow.Author.Rules.{rules}
+use Rattle.letters.proofs.translation.letter.Reads as reads
+use Rattle.letters.proofs.translation.letter.Lts as lts
+use Rattle.letters.proofs.translation.letter.Goals as goal
+
+-- src/translation.rt:25:1
+pub returns : goal.returns
+returns c = sym (letter_in_lem c.args.letters.now c.args.b (omega arith))

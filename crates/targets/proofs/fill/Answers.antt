@@ -1,0 +1,11 @@
+use Rattle.fsbm.specs.Rules.{rules as rules_of}
+use Rattle.targets.specs.Prepared.Laws.{made}
+use native.Mathlib.Omega.{arith}
+use borrow.Author.Rules.{rules}
+use Rattle.targets.proofs.fill.Goals as goal
+
+pub sources-set-requires : goal.sources-set-requires
+sources-set-requires c = ((rules_of c.args.m c.args.list.now c.requires.0).states_fit, omega (arith, c.fill_rows.ensures.room))
+
+pub returns : goal.returns
+returns c = made c.args.m _ _ _ _ c.requires.0 c.fill_rows.ensures c.sources-set.ensures
