@@ -18,7 +18,7 @@ use borrow.Author.Tests.{ltb-true, eqb-true, eq-eqb}
 use Rattle.basics.specs.Search.Laws.{or_true, and_true}
 use Rattle.stateset.specs.Set.{In}
 use Rattle.fsbm.specs.Moves.{reads_letter, advanced}
-use Rattle.fsbm.specs.Published.{fsbm_of, Configuration, config, symbol, Yields, normal, buffer, empty, begin_buffering_lem, begin_emptying_lem, back_to_normal_lem, Run, done}
+use Rattle.fsbm.specs.Published.{fsbm_of, Configuration, config, symbol, Yields, normal, buffer, empty, begins_buffering, begins_emptying, returns_to_normal, Run, done}
 use Rattle.fsbm.specs.declared.machine.Machine.{Machine}
 use Rattle.fsbm.specs.declared.config.Mode.{Mode}
 use Rattle.fsbm.specs.declared.config.Mode.TheVariants.{Normal, Buffering, Emptying}
@@ -205,7 +205,7 @@ module _ {m : Machine} {list targets : List ℕ} {g h : ℕ} (w : List ℕ) (t :
       cover_buffering {x = x} {p = p} {q = q} u v (λ i. listed_edge t i δ (λ z. apart ((t.matches p).0 z.0, (t.matches q).0 z.1), λ z. calm ((t.stores q).0 z))) c
   covers (empty {p = p} {x = x} {q = q} {u = u} {v = v} δ hp hq) c =
       cover_emptying {x = x} {p = p} {q = q} u v (λ i. listed_edge t i δ ((t.matches p).1 hp, (t.matches q).1 hq)) c
-  covers (begin_buffering_lem {q = q} {u = u} gq) c =
+  covers (begins_buffering {q = q} {u = u} gq) c =
       record {
         from = c.position;
         position = c.position;
@@ -217,7 +217,7 @@ module _ {m : Machine} {list targets : List ℕ} {g h : ℕ} (w : List ℕ) (t :
         input = c.input;
         stored = sym (slice_empty c.position w);
       }
-  covers (begin_emptying_lem {q = q} {u = u} {v = v} hq) c =
+  covers (begins_emptying {q = q} {u = u} {v = v} hq) c =
       let none : c.position + (c.from - c.from) ≡ c.position = omega arith in
       record {
         from = c.from;
@@ -236,7 +236,7 @@ module _ {m : Machine} {list targets : List ℕ} {g h : ℕ} (w : List ℕ) (t :
         input = c.input ∙ ap (λ (n : ℕ). drop n w) (sym none);
         stored = c.stored;
       }
-  covers (back_to_normal_lem {q = q} {u = u} hq) c =
+  covers (returns_to_normal {q = q} {u = u} hq) c =
       let room : c.end ≤ length w = let z = c.inside in omega arith in
       let used : c.position ≡ c.end = slice_none w c.position c.end c.behind room (sym c.stored) in
       record {

@@ -19,7 +19,7 @@ use borrow.Author.Tests.{lt-ltb, eq-eqb, ne_eqb}
 use Rattle.basics.specs.Search.Laws.{or_true_right, and_both_true}
 use Rattle.stateset.specs.Set.{In}
 use Rattle.fsbm.specs.Moves.{reads_letter, advanced}
-use Rattle.fsbm.specs.Published.{FSBM, fsbm_of, Configuration, config, symbol, Yields, normal, buffer, empty, begin_buffering_lem, begin_emptying_lem, back_to_normal_lem, Run, done}
+use Rattle.fsbm.specs.Published.{FSBM, fsbm_of, Configuration, config, symbol, Yields, normal, buffer, empty, begins_buffering, begins_emptying, returns_to_normal, Run, done}
 use Rattle.fsbm.specs.declared.machine.Machine.{Machine}
 use Rattle.fsbm.specs.declared.config.Mode.{Mode}
 use Rattle.fsbm.specs.declared.config.Mode.TheVariants.{Normal, Buffering, Emptying}
@@ -117,7 +117,7 @@ module _ {m : Machine} {list targets : List ℕ} {g h : ℕ} (w : List ℕ) (t :
   -- storing from i up to j in a buffering state, and the turn to matching
   turn_run : {i j p s : ℕ} → In g p → Walk (graph targets m.states g h) w Buffering i p j s → In h s
       → Run (fsbm_of m list) (config (drop i w) p [] Normal) (config (drop j w) s (slice i j w) Emptying)
-  turn_run {p = p} {s = s} gp v hs = run_one (Run.more (begin_buffering_lem ((t.stores p).0 gp)) (storing_run v)) (begin_emptying_lem ((t.matches s).0 hs))
+  turn_run {p = p} {s = s} gp v hs = run_one (Run.more (begins_buffering ((t.stores p).0 gp)) (storing_run v)) (begins_emptying ((t.matches s).0 hs))
 
   copy_run : {i j k p s q : ℕ} → In g p → i ≤ j → Walk (graph targets m.states g h) w Buffering i p j s → In h s → Walk (graph targets m.states g h) w Emptying i s j q
       → Square w i j → k ≡ j + (j - i) → k ≤ length w → Run (fsbm_of m list) (config (drop i w) p [] Normal) (config (drop k w) q [] Normal)
@@ -125,7 +125,7 @@ module _ {m : Machine} {list targets : List ℕ} {g h : ℕ} (w : List ℕ) (t :
       let whole = run_join (turn_run gp v hs) (emptying_run i j le y (omega arith) (omega arith) same) in
       let ended = subst (λ (z : List ℕ). Run (fsbm_of m list) (config (drop i w) p [] Normal) (config (drop (j + (j - i)) w) q z Emptying)) (slice_empty j w) whole in
       subst (λ (n : ℕ). Run (fsbm_of m list) (config (drop i w) p [] Normal) (config (drop n w) q [] Normal)) (sym position)
-      (run_one ended (back_to_normal_lem ((t.matches q).0 (walk_matching hs y))))
+      (run_one ended (returns_to_normal ((t.matches q).0 (walk_matching hs y))))
 
   pub reach_run : {start k q : ℕ} → Reach (graph targets m.states g h) w start k q → (o : ℕ) × In start o × Run (fsbm_of m list) (config w o [] Normal) (config (drop k w) q [] Normal)
   reach_run {q = q} (begins e i) = (q, i, subst (λ (n : ℕ). Run (fsbm_of m list) (config w q [] Normal) (config (drop n w) q [] Normal)) (sym e) done)
@@ -145,7 +145,7 @@ module _ {m : Machine} {list targets : List ℕ} {g h : ℕ} (w : List ℕ) (t :
   at_run start Normal p q r = let (o, i, run) = reach_run r in (o, i, [], run)
   at_run start Buffering p q a =
       let (o, i, run) = reach_run a.reach in
-      (o, i, slice a.from p w, run_join run (Run.more (begin_buffering_lem ((t.stores a.first).0 a.stores)) (storing_run a.storing)))
+      (o, i, slice a.from p w, run_join run (Run.more (begins_buffering ((t.stores a.first).0 a.stores)) (storing_run a.storing)))
   at_run start Emptying p q a =
       let (o, i, run) = reach_run a.reach in
       let d = a.matching in

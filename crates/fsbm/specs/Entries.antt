@@ -5,7 +5,7 @@
 -- WrittenRun m list w es == es is the start state and the entries of a published accepting run of w that starts there
 use Rattle.std.specs.Prelude.{ℕ, ◌≡◌, List, [], ◌∷◌}
 use Rattle.fsbm.specs.Moves.{begin_buffering, begin_emptying, back_to_normal}
-use Rattle.fsbm.specs.Published.{fsbm_of, Configuration, Yields, normal, buffer, empty, begin_buffering_lem, begin_emptying_lem, back_to_normal_lem, Run, done, more, InLanguage}
+use Rattle.fsbm.specs.Published.{fsbm_of, Configuration, Yields, normal, buffer, empty, begins_buffering, begins_emptying, returns_to_normal, Run, done, more, InLanguage}
 use Rattle.fsbm.specs.declared.machine.Machine.{Machine}
 
 module _ (m : Machine) (list : List ℕ) where
@@ -13,9 +13,9 @@ module _ (m : Machine) (list : List ℕ) where
   entry_of (normal t apart outside) = t.number
   entry_of (buffer t apart outside) = t.number
   entry_of (empty t from to) = t.number
-  entry_of (begin_buffering_lem is) = begin_buffering
-  entry_of (begin_emptying_lem is) = begin_emptying
-  entry_of (back_to_normal_lem is) = back_to_normal
+  entry_of (begins_buffering is) = begin_buffering
+  entry_of (begins_emptying is) = begin_emptying
+  entry_of (returns_to_normal is) = back_to_normal
 
   unfoldable pub entries_of : {D D' : Configuration} → Run (fsbm_of m list) D D' → List ℕ
   entries_of done = []

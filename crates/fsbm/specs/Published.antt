@@ -62,9 +62,9 @@ pub data Yields (M : FSBM) : Configuration → Configuration → Type 0 where
       → Yields M (config (symbol x ++ u) p v Buffering) (config u q (v ++ symbol x) Buffering)
   empty : {p x q : ℕ} {u v : List ℕ} → M.δ p x q → M.H p → M.H q
       → Yields M (config (symbol x ++ u) p (symbol x ++ v) Emptying) (config u q v Emptying)
-  begin_buffering_lem : {q : ℕ} {u : List ℕ} → M.G q → Yields M (config u q [] Normal) (config u q [] Buffering)
-  begin_emptying_lem : {q : ℕ} {u v : List ℕ} → M.H q → Yields M (config u q v Buffering) (config u q v Emptying)
-  back_to_normal_lem : {q : ℕ} {u : List ℕ} → M.H q → Yields M (config u q [] Emptying) (config u q [] Normal)
+  begins_buffering : {q : ℕ} {u : List ℕ} → M.G q → Yields M (config u q [] Normal) (config u q [] Buffering)
+  begins_emptying : {q : ℕ} {u v : List ℕ} → M.H q → Yields M (config u q v Buffering) (config u q v Emptying)
+  returns_to_normal : {q : ℕ} {u : List ℕ} → M.H q → Yields M (config u q [] Emptying) (config u q [] Normal)
 
 -- definition 13: a run of M on w is a sequence of configurations from (w, q₀, ε, N) with q₀ in I to (ε, q, ε, N) with q in F
 pub data Run (M : FSBM) : Configuration → Configuration → Type 0 where

@@ -32,7 +32,7 @@ use Rattle.graphs.specs.Paths.{Path, here, step}
 use Rattle.fsbm.specs.Machine.{well_formed, transition_at, initial, final, buffering, matching}
 use Rattle.fsbm.specs.Moves.{well_placed, reads_letter, reads_stored, after, may_change, changed, goes, move, start_at, is_normal, accepts, accepting_from, accepting, begin_buffering, begin_emptying, back_to_normal}
 use Rattle.fsbm.specs.Moves.Laws.{start_placed, passes_normal, passes_buffering, passes_emptying, listed_normal, listed_buffering, listed_emptying, Took, says_may_take, move_elim, move_takes, move_changes, move_stays}
-use Rattle.fsbm.specs.Published.{Listed, fsbm_of, Configuration, config, symbol, Yields, normal, buffer, empty, begin_buffering_lem, begin_emptying_lem, back_to_normal_lem, Run, done, InLanguage}
+use Rattle.fsbm.specs.Published.{Listed, fsbm_of, Configuration, config, symbol, Yields, normal, buffer, empty, begins_buffering, begins_emptying, returns_to_normal, Run, done, InLanguage}
 use Rattle.fsbm.specs.Entries.{entry_of, entries_of, WrittenRun}
 use Rattle.fsbm.specs.declared.machine.Machine.{Machine}
 use Rattle.fsbm.specs.declared.machine.Transition.{Transition}
@@ -91,15 +91,15 @@ module _ (m : Machine) (list w : List ℕ) where
       let (entry, r) = and_true (eqb e begin_buffering) (buffering m.marks c.state && eqb c.start c.end) h in
       let (is, equal) = and_true (buffering m.marks c.state) (eqb c.start c.end) r in
       let none : slice c.start c.end w ≡ [] = ap (λ (n : ℕ). slice n c.end w) (eqb-true c.start c.end equal) ∙ slice_empty c.end w in
-      subst₂ (Named m list e) (same_config_lem refl refl (sym none) refl) (same_config_lem refl refl (sym (slice_empty c.position w)) refl) (begin_buffering_lem is, sym (eqb-true e begin_buffering entry))
+      subst₂ (Named m list e) (same_config_lem refl refl (sym none) refl) (same_config_lem refl refl (sym (slice_empty c.position w)) refl) (begins_buffering is, sym (eqb-true e begin_buffering entry))
   changed_step c e Buffering h =
       let (entry, is) = and_true (eqb e begin_emptying) (matching m.marks c.state) h in
-      (begin_emptying_lem is, sym (eqb-true e begin_emptying entry))
+      (begins_emptying is, sym (eqb-true e begin_emptying entry))
   changed_step c e Emptying h =
       let (entry, r) = and_true (eqb e back_to_normal) (matching m.marks c.state && eqb c.start c.end) h in
       let (is, equal) = and_true (matching m.marks c.state) (eqb c.start c.end) r in
       let none : slice c.start c.end w ≡ [] = ap (λ (n : ℕ). slice n c.end w) (eqb-true c.start c.end equal) ∙ slice_empty c.end w in
-      subst₂ (Named m list e) (same_config_lem refl refl (sym none) refl) (same_config_lem refl refl (sym none) refl) (back_to_normal_lem is, sym (eqb-true e back_to_normal entry))
+      subst₂ (Named m list e) (same_config_lem refl refl (sym none) refl) (same_config_lem refl refl (sym none) refl) (returns_to_normal is, sym (eqb-true e back_to_normal entry))
 
   pub move_yields : (c : Config) (e : ℕ) → (move m list w c e).allowed ≡ true → Named m list e (published w c) (published w (move m list w c e).config)
   move_yields c e =
@@ -192,19 +192,19 @@ module _ (m : Machine) (list w : List ℕ) where
           stored = matches;
         })
         (same_config_lem rest δ.to left refl)
-    yields_moves (begin_buffering_lem {q = q} {u = u} is) c pl e =
+    yields_moves (begins_buffering {q = q} {u = u} is) c pl e =
         let mode : c.mode ≡ Normal = ap (λ (D : Configuration). D.mode) e in
         let state : c.state ≡ q = ap (λ (D : Configuration). D.state) e in
         let equal : c.start ≡ c.end = slice_none w c.start c.end pl.forward (omega (arith, pl.behind, pl.in_word)) (ap (λ (D : Configuration). D.buffer) e) in
         changed_by c begin_buffering Normal pl (omega (arith, r.transitions_fit)) mode
         (and_both_true (buffering m.marks c.state) (eqb c.start c.end) (at_end_lem state buffering is) (eq-eqb c.start c.end equal))
         (same_config_lem (ap (λ (D : Configuration). D.input) e) state (slice_empty c.position w) refl)
-    yields_moves (begin_emptying_lem {q = q} {u = u} {v = v} is) c pl e =
+    yields_moves (begins_emptying {q = q} {u = u} {v = v} is) c pl e =
         let mode : c.mode ≡ Buffering = ap (λ (D : Configuration). D.mode) e in
         let state : c.state ≡ q = ap (λ (D : Configuration). D.state) e in
         changed_by c begin_emptying Buffering pl (omega (arith, r.transitions_fit)) mode (at_end_lem state matching is)
         (same_config_lem (ap (λ (D : Configuration). D.input) e) state (ap (λ (D : Configuration). D.buffer) e) refl)
-    yields_moves (back_to_normal_lem {q = q} {u = u} is) c pl e =
+    yields_moves (returns_to_normal {q = q} {u = u} is) c pl e =
         let mode : c.mode ≡ Emptying = ap (λ (D : Configuration). D.mode) e in
         let state : c.state ≡ q = ap (λ (D : Configuration). D.state) e in
         let equal : c.start ≡ c.end = slice_none w c.start c.end pl.forward (omega (arith, pl.behind, pl.in_word)) (ap (λ (D : Configuration). D.buffer) e) in
@@ -239,9 +239,9 @@ module _ (m : Machine) (list : List ℕ) where
   entry_small r (normal δ apart not_from) = omega (arith, r.transitions_fit, δ.listed)
   entry_small r (buffer δ apart not-to) = omega (arith, r.transitions_fit, δ.listed)
   entry_small r (empty δ from to) = omega (arith, r.transitions_fit, δ.listed)
-  entry_small r (begin_buffering_lem is) = omega arith
-  entry_small r (begin_emptying_lem is) = omega arith
-  entry_small r (back_to_normal_lem is) = omega arith
+  entry_small r (begins_buffering is) = omega arith
+  entry_small r (begins_emptying is) = omega arith
+  entry_small r (returns_to_normal is) = omega arith
 
   pub entries_below : Rules m list → {D D' : Configuration} (s : Run (fsbm_of m list) D D') → AllBelow 65536 (entries_of m list s)
   unfolding entries_of

@@ -19,7 +19,7 @@ use Rattle.fsbm.specs.Moves.{mode_number, accepting}
 use Rattle.fsbm.specs.Moves.Laws.{mode_below, mode_same}
 use Rattle.fsbm.specs.Accepted.{run_bound, accepted}
 use Rattle.fsbm.specs.Accepted.Laws.{accepted_true}
-use Rattle.fsbm.specs.Published.{FSBM, Listed, fsbm_of, Configuration, config, Yields, normal, buffer, empty, begin_buffering_lem, begin_emptying_lem, back_to_normal_lem, InLanguage}
+use Rattle.fsbm.specs.Published.{FSBM, Listed, fsbm_of, Configuration, config, Yields, normal, buffer, empty, begins_buffering, begins_emptying, returns_to_normal, InLanguage}
 use Rattle.fsbm.specs.declared.machine.Machine.{Machine}
 use Rattle.fsbm.specs.declared.config.Mode.TheVariants.{Normal}
 use Rattle.basics.specs.Bools.{false_iff}
@@ -40,9 +40,9 @@ yields_shrinks (buffer {x = zero} {v = v} δ apart n) = record { shorter = omega
 yields_shrinks (buffer {x = suc x} {u = u} δ apart n) = record { shorter = omega arith; unread = λ (e : length u ≡ suc (length u)). absurd (omega arith) }
 yields_shrinks (empty {x = zero} δ a b) = record { shorter = omega arith; unread = λ e. (refl, refl) }
 yields_shrinks (empty {x = suc x} {u = u} δ a b) = record { shorter = omega arith; unread = λ (e : length u ≡ suc (length u)). absurd (omega arith) }
-yields_shrinks (begin_buffering_lem is) = record { shorter = omega arith; unread = λ e. (refl, refl) }
-yields_shrinks (begin_emptying_lem is) = record { shorter = omega arith; unread = λ e. (refl, refl) }
-yields_shrinks (back_to_normal_lem is) = record { shorter = omega arith; unread = λ e. (refl, refl) }
+yields_shrinks (begins_buffering is) = record { shorter = omega arith; unread = λ e. (refl, refl) }
+yields_shrinks (begins_emptying is) = record { shorter = omega arith; unread = λ e. (refl, refl) }
+yields_shrinks (returns_to_normal is) = record { shorter = omega arith; unread = λ e. (refl, refl) }
 
 path_shrinks : {M : FSBM} {D D' : Configuration} {n : ℕ} → Path Configuration (Yields M) D D' n → Shrinks D D'
 path_shrinks here = record { shorter = omega arith; unread = λ e. (refl, refl) }
@@ -94,9 +94,9 @@ module _ {m : Machine} {list : List ℕ} (r : Rules m list) where
   yields_below (normal δ apart n) = listed_below δ
   yields_below (buffer δ apart n) = listed_below δ
   yields_below (empty δ a b) = listed_below δ
-  yields_below (begin_buffering_lem {q = q} is) = let lt = buffering_below m list r q is in (lt, lt)
-  yields_below (begin_emptying_lem {q = q} is) = let lt = matching_below m list r q is in (lt, lt)
-  yields_below (back_to_normal_lem {q = q} is) = let lt = matching_below m list r q is in (lt, lt)
+  yields_below (begins_buffering {q = q} is) = let lt = buffering_below m list r q is in (lt, lt)
+  yields_below (begins_emptying {q = q} is) = let lt = matching_below m list r q is in (lt, lt)
+  yields_below (returns_to_normal {q = q} is) = let lt = matching_below m list r q is in (lt, lt)
 
   pub path_below : {D D' : Configuration} {n : ℕ} → Path Configuration (Yields (fsbm_of m list)) D D' n → D.state < m.states → D'.state < m.states
   path_below = closed (λ (D : Configuration). D.state < m.states) (λ D D' y lt. (yields_below y).1)

@@ -25,7 +25,7 @@ use Rattle.fsbm.specs.Machine.{well_formed, initial, final, transition_at}
 use Rattle.fsbm.specs.Moves.{well_placed, advanced, after, changed, move, start_at, is_normal}
 use Rattle.fsbm.specs.Moves.Laws.{advanced_suc, start_placed, move_elim, move_placed}
 use Rattle.fsbm.specs.Accepted.{run_bound, accepted}
-use Rattle.fsbm.specs.Published.{FSBM, fsbm_of, Configuration, config, Yields, normal, buffer, empty, begin_buffering_lem, begin_emptying_lem, back_to_normal_lem, Run, done}
+use Rattle.fsbm.specs.Published.{FSBM, fsbm_of, Configuration, config, Yields, normal, buffer, empty, begins_buffering, begins_emptying, returns_to_normal, Run, done}
 use Rattle.fsbm.specs.Entries.{entry_of, entries_of}
 use Rattle.fsbm.specs.Reaches.{same_mode, is_at, leads_from, leads, reaches, Reachable}
 use Rattle.fsbm.specs.Reaches.Laws.{same_mode_law, reaches_true}
@@ -135,9 +135,9 @@ yields_unstored : {M : FSBM} {D D' : Configuration} → Yields M D D' → Unstor
 yields_unstored (normal δ apart n) e = refl
 yields_unstored (buffer δ apart n) e = absurd (false≢true (ap is_normal e))
 yields_unstored (empty δ from to) e = absurd (false≢true (ap is_normal e))
-yields_unstored (begin_buffering_lem is) e = absurd (false≢true (ap is_normal e))
-yields_unstored (begin_emptying_lem is) e = absurd (false≢true (ap is_normal e))
-yields_unstored (back_to_normal_lem is) e = refl
+yields_unstored (begins_buffering is) e = absurd (false≢true (ap is_normal e))
+yields_unstored (begins_emptying is) e = absurd (false≢true (ap is_normal e))
+yields_unstored (returns_to_normal is) e = refl
 
 pub normal_empty : {M : FSBM} {w : List ℕ} {o : ℕ} {D : Configuration} → Run M (config w o [] Normal) D → D.mode ≡ Normal → D.buffer ≡ []
 normal_empty r = along r (λ e. refl)

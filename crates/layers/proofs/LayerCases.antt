@@ -24,7 +24,7 @@ use Rattle.graphs.specs.Paths.{here}
 use Rattle.stateset.specs.Set.{width, In, SetIs}
 use Rattle.stateset.specs.Set.Laws.{empty_in, lowest_in}
 use Rattle.fsbm.specs.Machine.{transition_at, final, buffering}
-use Rattle.fsbm.specs.Published.{config, begin_buffering_lem, begin_emptying_lem, back_to_normal_lem}
+use Rattle.fsbm.specs.Published.{config, begins_buffering, begins_emptying, returns_to_normal}
 use Rattle.fsbm.specs.declared.machine.Machine.{Machine}
 use Rattle.fsbm.specs.declared.config.Mode.{Mode}
 use Rattle.fsbm.specs.declared.config.Mode.TheVariants.{Normal, Buffering, Emptying}
@@ -81,10 +81,10 @@ seed_end m k row a b s = subst (λ (j : ℕ). Seeded m j row) (same k m.states a
     same i j a b = omega arith
 
 pub first_last : (m : Machine) (last : Bool) (row : List ℕ) → last ≡ true → Seeded m m.states row → FirstRow m last row
-first_last m last row t s = record { at_end_lem = λ h. s; before = λ h. absurd (not_both t h) }
+first_last m last row t s = record { at_end = λ h. s; before = λ h. absurd (not_both t h) }
 
 pub first_not : (m : Machine) (last : Bool) (row : List ℕ) → last ≡ false → row ≡ blank_row → FirstRow m last row
-first_not m last row f e = record { at_end_lem = λ h. absurd (not_both h f); before = λ h. e }
+first_not m last row f e = record { at_end = λ h. absurd (not_both h f); before = λ h. e }
 
 -- a live layer says nothing of its row
 pub lives : {A B : Type 0} → A → A × (true ≡ false → B)
@@ -187,7 +187,7 @@ module _ (m : Machine) (list targets : List ℕ) (g h : ℕ) (given : Given m li
           best = λ N u v head best-next best. buffering_best m list r N x u v next emptied row head best-next best
               (f.real N u v (λ c. let d : ◌≡◌ {A = ℕ} 0 1 = cc in absurd (omega arith)) (λ c. let d : ◌≡◌ {A = ℕ} 0 1 = cc in absurd (omega arith))
               (buffer_real N all x u v next row₁ row₂ c head best-next p
-              (beside_real (λ q. config u q v Buffering) (λ q. config u q v Emptying) (λ q i. begin_emptying_lem ((given.matchings q).0 i)) (λ q i n. let z : ◌≡◌ {A = ℕ} 0 1 = cc in absurd (omega arith))
+              (beside_real (λ q. config u q v Buffering) (λ q. config u q v Emptying) (λ q i. begins_emptying ((given.matchings q).0 i)) (λ q i n. let z : ◌≡◌ {A = ℕ} 0 1 = cc in absurd (omega arith))
               (λ q lt. (best q lt).realised) (start_real N u v Buffering row₀ blank) e)))
               (read_bounded (λ q. q < m.states) all Buffering x next row₁ row₂ row c p f.lower (λ k l i. (every.members (transition_at list k).from).1 (i, omega (arith, i, r.states_fit))))
               (λ q is. omega (arith, f.lower q, p.lower q, beside_marked e q ((given.matchings q).1 is))) f.bounded;
@@ -205,9 +205,9 @@ module _ (m : Machine) (list targets : List ℕ) (g h : ℕ) (given : Given m li
         let rn : RowReal m list N u [] Normal n₁ = fn.real N u [] (λ c. refl) (λ c q i. (sets.nears q).1 i) real.normal in
         let rb : RowReal m list N u [] Buffering b₁ = fb.real N u [] (λ c. refl) (λ c. let d : ◌≡◌ {A = ℕ} 0 1 = cc in absurd (omega arith)) real.buffering in
         let re : RowReal m list N u [] Emptying e₁ = fe.real N u [] (λ c. refl) (λ c. let d : ◌≡◌ {A = ℕ} 0 1 = cc in absurd (omega arith)) real.emptying in
-        let rn₂ : RowReal m list N u [] Normal n₂ = beside_real (λ q. config u q [] Normal) (λ q. config u q [] Buffering) (λ q i. begin_buffering_lem ((sets.begins q).0 i).1) (λ q i c. (sets.nears q).1 ((sets.begins q).0 i).0) rb rn gn in
-        let rb₂ : RowReal m list N u [] Buffering b₂ = beside_real (λ q. config u q [] Buffering) (λ q. config u q [] Emptying) (λ q i. begin_emptying_lem ((sets.matches q).0 i)) (λ q i c. let d : ◌≡◌ {A = ℕ} 0 1 = cc in absurd (omega arith)) re rb gb in
-        let re₂ : RowReal m list N u [] Emptying e₂ = beside_real (λ q. config u q [] Emptying) (λ q. config u q [] Normal) (λ q i. back_to_normal_lem ((sets.matches q).0 i)) (λ q i c. let d : ◌≡◌ {A = ℕ} 0 1 = cc in absurd (omega arith)) rn₂ re ge in
+        let rn₂ : RowReal m list N u [] Normal n₂ = beside_real (λ q. config u q [] Normal) (λ q. config u q [] Buffering) (λ q i. begins_buffering ((sets.begins q).0 i).1) (λ q i c. (sets.nears q).1 ((sets.begins q).0 i).0) rb rn gn in
+        let rb₂ : RowReal m list N u [] Buffering b₂ = beside_real (λ q. config u q [] Buffering) (λ q. config u q [] Emptying) (λ q i. begins_emptying ((sets.matches q).0 i)) (λ q i c. let d : ◌≡◌ {A = ℕ} 0 1 = cc in absurd (omega arith)) re rb gb in
+        let re₂ : RowReal m list N u [] Emptying e₂ = beside_real (λ q. config u q [] Emptying) (λ q. config u q [] Normal) (λ q i. returns_to_normal ((sets.matches q).0 i)) (λ q i c. let d : ◌≡◌ {A = ℕ} 0 1 = cc in absurd (omega arith)) rn₂ re ge in
         record { normal = rn₂; buffering = rb₂; emptying = re₂ }
 
     round_lower : LowerPlace m list near starts h n b e n₂ b₂ e₂
@@ -228,9 +228,9 @@ module _ (m : Machine) (list targets : List ℕ) (g h : ℕ) (given : Given m li
           in_normal = subst (λ (s : List ℕ). Bounded m list (In near) Normal 0 s s) en fn.bounded;
           in_buffering = λ some. subst (λ (s : List ℕ). Bounded m list (λ q. q < m.states) Buffering 0 s s) eb fb.bounded;
           in_emptying = subst (λ (s : List ℕ). Bounded m list (λ q. q < m.states) Emptying 0 s s) ee fe.bounded;
-          begin_buffering_lem = subst (λ (s : List ℕ). ChangeBound (In starts) n₂ s) eb (beside_marked gn);
-          begin_emptying_lem = λ some. subst (λ (s : List ℕ). ChangeBound (In h) b₂ s) ee (beside_marked gb);
-          back_to_normal_lem = beside_marked ge;
+          begin_buffering = subst (λ (s : List ℕ). ChangeBound (In starts) n₂ s) eb (beside_marked gn);
+          begin_emptying = λ some. subst (λ (s : List ℕ). ChangeBound (In h) b₂ s) ee (beside_marked gb);
+          back_to_normal = beside_marked ge;
         }
 
     pub round_made : (s : Bool) → (s ≡ false → (x ≡ false) × (y ≡ false) × (z ≡ false)) → (s ≡ true → (x ≡ true) ⊎ ((y ≡ true) ⊎ (z ≡ true))) → Round m list near starts h n b e n₂ b₂ e₂ s
@@ -273,7 +273,7 @@ module _ (m : Machine) (list targets : List ℕ) (g h : ℕ) (given : Given m li
           lower = record {
             real = λ N u sets real.
                 let rn : RowReal m list N u [] Normal n₁ = fn.real N u [] (λ c. refl) (λ c q i. (sets.nears q).1 i) real.normal in
-                let re : RowReal m list N u [] Emptying e₁ = beside_real (λ q. config u q [] Emptying) (λ q. config u q [] Normal) (λ q i. back_to_normal_lem ((sets.matches q).0 i)) (λ q i c. let d : ◌≡◌ {A = ℕ} 0 1 = cc in absurd (omega arith)) rn real.emptying ge in
+                let re : RowReal m list N u [] Emptying e₁ = beside_real (λ q. config u q [] Emptying) (λ q. config u q [] Normal) (λ q i. returns_to_normal ((sets.matches q).0 i)) (λ q i c. let d : ◌≡◌ {A = ℕ} 0 1 = cc in absurd (omega arith)) rn real.emptying ge in
                 record { normal = rn; buffering = real.buffering; emptying = fe.real N u [] (λ c. refl) (λ c. let d : ◌≡◌ {A = ℕ} 0 1 = cc in absurd (omega arith)) re };
             normal = fn.lower;
             buffering = λ q. omega arith;
@@ -283,9 +283,9 @@ module _ (m : Machine) (list targets : List ℕ) (g h : ℕ) (given : Given m li
             in_normal = fn.bounded;
             in_buffering = λ (l : 0 < 0). absurd (omega arith);
             in_emptying = fe.bounded;
-            begin_buffering_lem = λ q i. absurd (empty_in q i);
-            begin_emptying_lem = λ (l : 0 < 0). absurd (omega arith);
-            back_to_normal_lem = marked_lower e₁ e₂ n₁ fe.lower (beside_marked ge);
+            begin_buffering = λ q i. absurd (empty_in q i);
+            begin_emptying = λ (l : 0 < 0). absurd (omega arith);
+            back_to_normal = marked_lower e₁ e₂ n₁ fe.lower (beside_marked ge);
           };
         }
 
@@ -299,13 +299,13 @@ module _ (m : Machine) (list targets : List ℕ) (g h : ℕ) (given : Given m li
     where
       on : (final m.marks q ≡ true) ⊎ (final m.marks q ≡ false) → Go m list N (config u q [] Normal) (at row q)
       on (inl t) =
-          let z : at row q ≡ 0 = (f.at_end_lem refl).done q lt ∙ ap (λ (b : Bool). cond b 0 none) t in
+          let z : at row q ≡ 0 = (f.at_end refl).done q lt ∙ ap (λ (b : Bool). cond b 0 none) t in
           rw (z, iff.0 refl) (record { last = q; last_final = t; path = here })
-      on (inr g) = let z : at row q ≡ none = (f.at_end_lem refl).done q lt ∙ ap (λ (b : Bool). cond b 0 none) g in absurd (omega arith)
+      on (inr g) = let z : at row q ≡ none = (f.at_end refl).done q lt ∙ ap (λ (b : Bool). cond b 0 none) g in absurd (omega arith)
   first_real N false row u f iff q lt l = start_real N u [] Normal row (f.before refl) q lt l
 
   first_goal : (last : Bool) (row u : List ℕ) → FirstRow m last row → (last ≡ true) ↔ (u ≡ []) → u ≡ [] → (q : ℕ) → q < m.states → final m.marks q ≡ true → at row q ≡ 0
-  first_goal last row u f iff e q lt t = (f.at_end_lem (iff.1 e)).done q lt ∙ ap (λ (b : Bool). cond b 0 none) t
+  first_goal last row u f iff e q lt t = (f.at_end (iff.1 e)).done q lt ∙ ap (λ (b : Bool). cond b 0 none) t
 
   pub position_made : (near starts all : ℕ) {w : ℕ} (last : Bool) (x : ℕ) (next-n next-b n₀ b₀ e₀ n₁ b₁ n b e : List ℕ) (c d : Bool) → SetIs starts w (λ q. In near q × In g q)
       → Storing starts m.states all → FirstRow m last n₀ → b₀ ≡ blank_row → e₀ ≡ blank_row → Lowering (Within (Reads m list Normal x next-n) near) n₀ n₁ c

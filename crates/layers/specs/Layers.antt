@@ -45,7 +45,7 @@ pub record Seeded (m : Machine) (k : ℕ) (row : List ℕ) : Type 0 where
 
 -- the row that normal mode starts from: the goals are at the end of the word
 pub record FirstRow (m : Machine) (last : Bool) (row : List ℕ) : Type 0 where
-  pub at_end_lem : last ≡ true → Seeded m m.states row
+  pub at_end : last ≡ true → Seeded m m.states row
   pub before : last ≡ false → row ≡ blank_row
 
 pub record EmptyingLayer (m : Machine) (list : List ℕ) (x : ℕ) (next row : List ℕ) : Type 0 where
@@ -71,9 +71,9 @@ pub record Settled (m : Machine) (list : List ℕ) (near starts h : ℕ) (n b e 
   pub in_normal : Bounded m list (In near) Normal 0 n n
   pub in_buffering : 0 < starts → Bounded m list (λ q. q < m.states) Buffering 0 b b
   pub in_emptying : Bounded m list (λ q. q < m.states) Emptying 0 e e
-  pub begin_buffering_lem : ChangeBound (In starts) n b
-  pub begin_emptying_lem : 0 < starts → ChangeBound (In h) b e
-  pub back_to_normal_lem : ChangeBound (In h) e n
+  pub begin_buffering : ChangeBound (In starts) n b
+  pub begin_emptying : 0 < starts → ChangeBound (In h) b e
+  pub back_to_normal : ChangeBound (In h) e n
 
 pub record Sets (m : Machine) (N : ℕ → ℕ) (u : List ℕ) (near starts h : ℕ) : Type 0 where
   pub nears : (q : ℕ) → Near N u q ↔ In near q

@@ -113,7 +113,7 @@ module _ (m : Machine) (list line out out' : List ℕ) (t : Turn) (used : ℕ)
       record {
         input = reached.input;
         pending = reached.pending;
-        at_end_lem = or_first (at_end t) t.closed d o;
+        at_end = or_first (at_end t) t.closed d o;
         still_open = o;
         printed = front out out' (end_prints m list (pending_of line t.held)) used finished.1 finished.0
             ∙ (end_read sheet from.good from.entry from.long m list from.machine from.transitions (pending_of line t.held)

@@ -56,7 +56,7 @@ pub record LastBytes (sheet line : List ℕ) (t : Turn) (bytes : List ℕ) : Typ
   pub input : List ℕ
   pub pending : pending_of line t.held ≡ after_piece nothing_yet input
   pub printed : bytes ≡ end_bytes sheet input
-  pub at_end_lem : at_end t ≡ true
+  pub at_end : at_end t ≡ true
   pub still_open : t.closed ≡ false
 
 -- sixteen bytes of output for each byte of a piece

@@ -22,7 +22,7 @@ use Rattle.graphs.specs.Paths.{Path, here, step}
 use Rattle.fsbm.specs.Accepted.{accepted}
 use Rattle.fsbm.specs.Machine.{max_states, mark_of, initial, final, matching, transition_at}
 use Rattle.fsbm.specs.Moves.{accepting}
-use Rattle.fsbm.specs.Published.{Listed, fsbm_of, Configuration, config, symbol, Yields, normal, buffer, empty, begin_buffering_lem, begin_emptying_lem, back_to_normal_lem}
+use Rattle.fsbm.specs.Published.{Listed, fsbm_of, Configuration, config, symbol, Yields, normal, buffer, empty, begins_buffering, begins_emptying, returns_to_normal}
 use Rattle.fsbm.specs.declared.machine.Machine.{Machine}
 use Rattle.fsbm.specs.declared.machine.Transition.{Transition}
 use Rattle.fsbm.specs.declared.config.Mode.{Mode}
@@ -149,9 +149,9 @@ module _ (m₁ : Machine) (l₁ : List ℕ) (m₂ : Machine) (l₂ : List ℕ) (
   split_first (empty {p = P} {x = x} {q = Q} δ a b) =
       let s = listed_split δ in
       empty s.of_first (sym (matching_at j P s.from_below) ∙ a) (sym (matching_at j Q s.to_below) ∙ b)
-  split_first (begin_buffering_lem {q = q} is) = begin_buffering_lem (sym (buffering_at j q (buffering_below J L joined_rules q is)) ∙ is)
-  split_first (begin_emptying_lem {q = q} is) = begin_emptying_lem (sym (matching_at j q (matching_below J L joined_rules q is)) ∙ is)
-  split_first (back_to_normal_lem {q = q} is) = back_to_normal_lem (sym (matching_at j q (matching_below J L joined_rules q is)) ∙ is)
+  split_first (begins_buffering {q = q} is) = begins_buffering (sym (buffering_at j q (buffering_below J L joined_rules q is)) ∙ is)
+  split_first (begins_emptying {q = q} is) = begins_emptying (sym (matching_at j q (matching_below J L joined_rules q is)) ∙ is)
+  split_first (returns_to_normal {q = q} is) = returns_to_normal (sym (matching_at j q (matching_below J L joined_rules q is)) ∙ is)
 
   path_first : {D D' : Configuration} {n : ℕ} → Path Configuration (Yields (fsbm_of J L)) D D' n → Path Configuration (Yields (fsbm_of m₁ l₁)) (first_of D) (first_of D') n
   path_first here = here
@@ -180,9 +180,9 @@ module _ (m₁ : Machine) (l₁ : List ℕ) (m₂ : Machine) (l₂ : List ℕ) (
   split_second (normal {p = P} {x = x} {q = Q} {u = u} δ apart n) = second_reads P x Q u [] [] Normal Normal (listed_split δ)
   split_second (buffer {p = P} {x = x} {q = Q} {u = u} {v = v} δ apart n) = second_reads P x Q u v (v ++ symbol x) Buffering Buffering (listed_split δ)
   split_second (empty {p = P} {x = x} {q = Q} {u = u} {v = v} δ a b) = second_reads P x Q u (symbol x ++ v) v Emptying Emptying (listed_split δ)
-  split_second (begin_buffering_lem is) = inl (refl, refl)
-  split_second (begin_emptying_lem is) = inl (refl, refl)
-  split_second (back_to_normal_lem is) = inl (refl, refl)
+  split_second (begins_buffering is) = inl (refl, refl)
+  split_second (begins_emptying is) = inl (refl, refl)
+  split_second (returns_to_normal is) = inl (refl, refl)
 
   path_second : {D D' : Configuration} {n : ℕ} → Path Configuration (Yields (fsbm_of J L)) D D' n
       → (k : ℕ) × (length D.input ≡ k + length D'.input) × Path Configuration (Yields (fsbm_of m₂ l₂)) (second_of D) (second_of D') k
@@ -211,9 +211,9 @@ module _ (m₁ : Machine) (l₁ : List ℕ) (m₂ : Machine) (l₂ : List ℕ) (
   path_reads (step (normal {x = suc x} δ apart n) p) e i = let (l, r) = path_reads p refl i in (ap suc l, more δ r)
   path_reads (step (buffer δ apart n) p) e i = absurd (normal_not e (inl refl))
   path_reads (step (empty δ a b) p) e i = absurd (normal_not e (inr refl))
-  path_reads (step (begin_buffering_lem {q = q} is) p) e i = absurd (not_both is (j.not_buffering q (buffering_below m₂ l₂ (rules m₂ l₂ j.good₂) q is)))
-  path_reads (step (begin_emptying_lem is) p) e i = absurd (normal_not e (inl refl))
-  path_reads (step (back_to_normal_lem is) p) e i = absurd (normal_not e (inr refl))
+  path_reads (step (begins_buffering {q = q} is) p) e i = absurd (not_both is (j.not_buffering q (buffering_below m₂ l₂ (rules m₂ l₂ j.good₂) q is)))
+  path_reads (step (begins_emptying is) p) e i = absurd (normal_not e (inl refl))
+  path_reads (step (returns_to_normal is) p) e i = absurd (normal_not e (inr refl))
 
   reads_none : {r q : ℕ} {u : List ℕ} → Reads r u q → u ≡ [] → r ≡ q
   reads_none done e = refl
@@ -283,15 +283,15 @@ module _ (m₁ : Machine) (l₁ : List ℕ) (m₂ : Machine) (l₂ : List ℕ) (
       let b = both x r u lr δ reads in
       let (l, on) = join_path path b.next last b.next_below i b.reads in
       (l, step (empty b.listed (matching_joined j p r b.from_below lr ∙ a) (matching_joined j q b.next b.to_below b.next_below ∙ c)) on)
-  join_path (step (begin_buffering_lem {q = q} is) path) r last lr i reads =
+  join_path (step (begins_buffering {q = q} is) path) r last lr i reads =
       let (l, on) = join_path path r last lr i reads in
-      (l, step (begin_buffering_lem (buffering_joined j q r (buffering_below m₁ l₁ (rules m₁ l₁ j.good₁) q is) lr ∙ is)) on)
-  join_path (step (begin_emptying_lem {q = q} is) path) r last lr i reads =
+      (l, step (begins_buffering (buffering_joined j q r (buffering_below m₁ l₁ (rules m₁ l₁ j.good₁) q is) lr ∙ is)) on)
+  join_path (step (begins_emptying {q = q} is) path) r last lr i reads =
       let (l, on) = join_path path r last lr i reads in
-      (l, step (begin_emptying_lem (matching_joined j q r (matching_below m₁ l₁ (rules m₁ l₁ j.good₁) q is) lr ∙ is)) on)
-  join_path (step (back_to_normal_lem {q = q} is) path) r last lr i reads =
+      (l, step (begins_emptying (matching_joined j q r (matching_below m₁ l₁ (rules m₁ l₁ j.good₁) q is) lr ∙ is)) on)
+  join_path (step (returns_to_normal {q = q} is) path) r last lr i reads =
       let (l, on) = join_path path r last lr i reads in
-      (l, step (back_to_normal_lem (matching_joined j q r (matching_below m₁ l₁ (rules m₁ l₁ j.good₁) q is) lr ∙ is)) on)
+      (l, step (returns_to_normal (matching_joined j q r (matching_below m₁ l₁ (rules m₁ l₁ j.good₁) q is) lr ∙ is)) on)
 
   -- Runs
 

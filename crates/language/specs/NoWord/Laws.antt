@@ -20,7 +20,7 @@ use Rattle.fsbm.specs.Moves.{passes, is_normal}
 use Rattle.fsbm.specs.Moves.Laws.{listed_normal, listed_buffering, listed_emptying}
 use Rattle.fsbm.specs.Accepted.{accepted}
 use Rattle.fsbm.specs.Accepted.Laws.{accepted_true}
-use Rattle.fsbm.specs.Published.{Listed, fsbm_of, Configuration, Yields, normal, buffer, empty, begin_buffering_lem, begin_emptying_lem, back_to_normal_lem, Run, done, InLanguage}
+use Rattle.fsbm.specs.Published.{Listed, fsbm_of, Configuration, Yields, normal, buffer, empty, begins_buffering, begins_emptying, returns_to_normal, Run, done, InLanguage}
 use Rattle.fsbm.specs.declared.machine.Machine.{Machine}
 use Rattle.fsbm.specs.declared.config.Mode.{Mode}
 use Rattle.fsbm.specs.declared.config.Mode.TheVariants.{Normal, Buffering, Emptying}
@@ -69,9 +69,9 @@ module _ (m : Machine) (list : List ℕ) where
   yields_follows (normal δ apart not_from) = cross Normal δ (listed_normal m.marks list δ apart not_from)
   yields_follows (buffer δ apart not-to) = cross Buffering δ (listed_buffering m.marks list δ apart not-to)
   yields_follows (empty δ from to) = cross Emptying δ (listed_emptying m.marks list δ from to)
-  yields_follows (begin_buffering_lem {q = q} is) = change q Normal is
-  yields_follows (begin_emptying_lem {q = q} is) = change q Buffering is
-  yields_follows (back_to_normal_lem {q = q} is) = change q Emptying is
+  yields_follows (begins_buffering {q = q} is) = change q Normal is
+  yields_follows (begins_emptying {q = q} is) = change q Buffering is
+  yields_follows (returns_to_normal {q = q} is) = change q Emptying is
 
   run_follows : {D D' : Configuration} → Run (fsbm_of m list) D D' → (n : ℕ) × Path Control (Edges (follows m list)) (control_of D) (control_of D') n
   run_follows done = (zero, here)

@@ -20,7 +20,7 @@ use Rattle.std.proofs.Math.ListN.{length, length-append}
 use Rattle.graphs.specs.Paths.{Path, here, step}
 use Rattle.fsbm.specs.Machine.{transition_at, buffering, matching}
 use Rattle.fsbm.specs.Moves.Laws.{passes_normal, passes_buffering, passes_emptying, listed_normal, listed_buffering, listed_emptying}
-use Rattle.fsbm.specs.Published.{Listed, fsbm_of, Configuration, config, Yields, normal, buffer, empty, begin_buffering_lem, begin_emptying_lem, back_to_normal_lem}
+use Rattle.fsbm.specs.Published.{Listed, fsbm_of, Configuration, config, Yields, normal, buffer, empty, begins_buffering, begins_emptying, returns_to_normal}
 use Rattle.fsbm.specs.declared.machine.Machine.{Machine}
 use Rattle.fsbm.specs.declared.config.Mode.{Mode}
 use Rattle.fsbm.specs.declared.config.Mode.TheVariants.{Normal, Buffering, Emptying}
@@ -71,9 +71,9 @@ module _ (m : Machine) (list : List ℕ) where
   yields_cases (buffer {x = suc x} {u = u} δ apart n) = buffer_letter δ.number x u (buffer_leads δ apart n) δ.from refl refl (same refl (sym δ.to) refl)
   yields_cases (empty {x = zero} δ a b) = silent δ.number (empty_leads δ a b) δ.from (same refl (sym δ.to) refl)
   yields_cases (empty {x = suc x} {u = u} {v = v} δ a b) = empty_letter δ.number x u v (empty_leads δ a b) δ.from refl refl refl (same refl (sym δ.to) refl)
-  yields_cases (begin_buffering_lem is) = to_buffering refl is refl
-  yields_cases (begin_emptying_lem is) = to_emptying refl is refl
-  yields_cases (back_to_normal_lem is) = to_normal refl refl is refl
+  yields_cases (begins_buffering is) = to_buffering refl is refl
+  yields_cases (begins_emptying is) = to_emptying refl is refl
+  yields_cases (returns_to_normal is) = to_normal refl refl is refl
 
   -- From a transition that leads to a move
 
@@ -151,9 +151,9 @@ module _ (m : Machine) (list : List ℕ) where
   fit_step (buffer {x = suc x} {u = u} {v = v} δ apart n) h = let l = length-append v (suc x ∷ []) in omega arith
   fit_step (empty {x = zero} δ a b) h = h
   fit_step (empty {x = suc x} δ a b) h = (h.0, ap (λ (s : List ℕ). suc x ∷ s) h.1)
-  fit_step (begin_buffering_lem is) h = refl
-  fit_step (begin_emptying_lem {u = u} {v = v} is) h = let l = length-append v h.0 in let e = ap length h.1 in omega arith
-  fit_step (back_to_normal_lem {u = u} is) h = (u, refl)
+  fit_step (begins_buffering is) h = refl
+  fit_step (begins_emptying {u = u} {v = v} is) h = let l = length-append v h.0 in let e = ap length h.1 in omega arith
+  fit_step (returns_to_normal {u = u} is) h = (u, refl)
 
   fit_path : {N : ℕ → ℕ} {C E : Configuration} {n : ℕ} → Path Configuration (Step m list N) C E n → Fit E → Fit C
   fit_path here h = h

@@ -266,9 +266,9 @@ module _ (m : Machine) (list : List ℕ) (r : Rules m list) (N : ℕ → ℕ) wh
             normals = λ l. left_n;
             buffers = λ l. left_b (l refl);
             empties = λ l x' u' v' f g. let z : ◌≡◌ {A = ℕ} 0 1 = cc in absurd (omega arith);
-            buffering_begins = λ l q kept is i g. inl (refl, (λ z. record { state = q; kept = kept; is = is }), settled.begin_buffering_lem q ((sets.begins q).1 ((sets.nears q).0 kept, is)));
-            emptying_begins = λ l q lt is i g. inl ((λ z. never_mode 0 cc), settled.begin_emptying_lem (some_start u near starts h sets (l refl)) q ((sets.matches q).1 is));
-            normal_again = λ l z q is i g. inl ((λ z. never_mode 0 cc), settled.back_to_normal_lem q ((sets.matches q).1 is));
+            buffering_begins = λ l q kept is i g. inl (refl, (λ z. record { state = q; kept = kept; is = is }), settled.begin_buffering q ((sets.begins q).1 ((sets.nears q).0 kept, is)));
+            emptying_begins = λ l q lt is i g. inl ((λ z. never_mode 0 cc), settled.begin_emptying (some_start u near starts h sets (l refl)) q ((sets.matches q).1 is));
+            normal_again = λ l z q is i g. inl ((λ z. never_mode 0 cc), settled.back_to_normal q ((sets.matches q).1 is));
           }
 
 -- Blank rows
@@ -335,9 +335,9 @@ module _ (m : Machine) (list : List ℕ) (r : Rules m list) where
               in_normal = λ k leads i. absurd (nothing (transition_at list k).from i);
               in_buffering = λ (l : 0 < 0). absurd (omega arith);
               in_emptying = blank_bounded (λ q. q < m.states) Emptying 0 blank_row blank_none;
-              begin_buffering_lem = λ q i. absurd (empty_in q i);
-              begin_emptying_lem = λ (l : 0 < 0). absurd (omega arith);
-              back_to_normal_lem = blank_marked (In h) (λ q i. matching_below m list r q ((matches q).0 i)) blank_row blank_none;
+              begin_buffering = λ q i. absurd (empty_in q i);
+              begin_emptying = λ (l : 0 < 0). absurd (omega arith);
+              back_to_normal = blank_marked (In h) (λ q i. matching_below m list r q ((matches q).0 i)) blank_row blank_none;
             });
       }
     where

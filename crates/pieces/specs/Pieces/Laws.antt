@@ -9,7 +9,7 @@ use Rattle.std.specs.Prelude.{ℕ, zero, suc, ◌+◌, ◌≡◌, refl, List, []
 use Rattle.std.proofs.Common.{sym, ap, ◌∙◌, subst, subst₂, append_assoc, append-nil, arith, zero-add, suc-add}
 use Rattle.graphs.specs.Paths.{Path, here, step}
 use Rattle.graphs.specs.Paths.Laws.{append}
-use Rattle.fsbm.specs.Published.{FSBM, Configuration, config, symbol, Yields, normal, buffer, empty, begin_buffering_lem, begin_emptying_lem, back_to_normal_lem}
+use Rattle.fsbm.specs.Published.{FSBM, Configuration, config, symbol, Yields, normal, buffer, empty, begins_buffering, begins_emptying, returns_to_normal}
 use Rattle.fsbm.specs.declared.config.Mode.{Mode}
 use Rattle.fsbm.specs.declared.config.Mode.TheVariants.{Normal, Buffering, Emptying}
 use Rattle.pieces.specs.Pieces.{Stores, stored, store, Matches, matched, match, Leads, ended, read, copy}
@@ -31,7 +31,7 @@ module _ {M : FSBM} where
   leads_path ended = here
   leads_path (read δ apart n r) = step (normal δ apart n) (leads_path r)
   leads_path (copy {x = x} {w = w} g s h m z r) =
-      step (begin_buffering_lem g) (append (stores_path s (x ++ w) []) (step (begin_emptying_lem h) (append (matches_path m w) (step (back_to_normal_lem z) (leads_path r)))))
+      step (begins_buffering g) (append (stores_path s (x ++ w) []) (step (begins_emptying h) (append (matches_path m w) (step (returns_to_normal z) (leads_path r)))))
 
 -- From a path to pieces
 
@@ -97,13 +97,13 @@ module _ {M : FSBM} where
         leads = r.leads;
         count = let c = r.count in omega arith;
       }
-  rest_of {f} (step {n = k} (begin_buffering_lem {q = q} {u = u} is) path) e =
+  rest_of {f} (step {n = k} (begins_buffering {q = q} {u = u} is) path) e =
       let r = rest_of path e in
       let t = r.then in
       let input : u ≡ r.left ++ (r.left ++ t.rest) = r.input ∙ ap (λ (z : List ℕ). r.left ++ z) t.input in
       let count : suc k ≡ suc (r.storing_moves + suc (t.matching_moves + suc t.other_moves)) = let c = r.count in let d = t.count in omega arith in
       subst₂ (λ (w : List ℕ) (n : ℕ). Leads M q w f n) (sym input) (sym count) (copy is r.stores r.turns t.matches t.ends t.leads)
-  rest_of {f} (step {n = k} (begin_emptying_lem {q = q} {u = u} {v = v} is) path) e =
+  rest_of {f} (step {n = k} (begins_emptying {q = q} {u = u} {v = v} is) path) e =
       record {
         left = [];
         input_left = u;
@@ -116,7 +116,7 @@ module _ {M : FSBM} where
         then = subst (λ (y : List ℕ). Matching M u y q f k) (sym (append-nil v)) (rest_of path e);
         count = omega arith;
       }
-  rest_of (step {n = k} (back_to_normal_lem {q = q} {u = u} is) path) e =
+  rest_of (step {n = k} (returns_to_normal {q = q} {u = u} is) path) e =
       record { last = q; rest = u; matching_moves = zero; other_moves = k; input = refl; matches = matched; ends = is; leads = rest_of path e; count = omega arith }
 
   pub path_leads : {q f k : ℕ} {w : List ℕ} → Path Configuration (Yields M) (config w q [] Normal) (config [] f [] Normal) k → Leads M q w f k

@@ -13,7 +13,7 @@ use mathlib.Core.List.{List, [], ◌∷◌, ◌++◌, append_assoc, append-nil}
 use Rattle.fsbm.specs.Moves.{begin_buffering, begin_emptying, back_to_normal}
 use Rattle.fsbm.specs.Machine.{initial, final, well_formed}
 use Rattle.fsbm.specs.Moves.{accepting}
-use Rattle.fsbm.specs.Published.{fsbm_of, Configuration, config, symbol, Yields, normal, buffer, empty, begin_buffering_lem, begin_emptying_lem, back_to_normal_lem, Run, done}
+use Rattle.fsbm.specs.Published.{fsbm_of, Configuration, config, symbol, Yields, normal, buffer, empty, begins_buffering, begins_emptying, returns_to_normal, Run, done}
 use Rattle.fsbm.specs.Entries.{entry_of, entries_of, WrittenRun}
 use Rattle.fsbm.specs.declared.machine.Machine.{Machine}
 use Rattle.fsbm.specs.declared.config.Mode.TheVariants.{Normal, Buffering, Emptying}
@@ -90,9 +90,9 @@ module _ (m : Machine) (list : List ℕ) where
   leads_run ended = (done, refl)
   leads_run (read t none n p) = first_move (normal (takes_listed t) none n) (leads_run p)
   leads_run (copy {x = x} {w = w} {es = es} {ds = ds} {rest = rest} g s h d z p) =
-      first_move (begin_buffering_lem g)
+      first_move (begins_buffering g)
       (stores_run s (x ++ w) [] (begin_emptying ∷ (ds ++ (back_to_normal ∷ rest)))
-      (first_move (begin_emptying_lem h) (matches_run d w (back_to_normal ∷ rest) (first_move (back_to_normal_lem z) (leads_run p)))))
+      (first_move (begins_emptying h) (matches_run d w (back_to_normal ∷ rest) (first_move (returns_to_normal z) (leads_run p)))))
 
   pub written_run : {q f : ℕ} {w es : List ℕ} → q < m.states → initial m.marks q ≡ true → final m.marks f ≡ true → LeadsBy m list q w es f → WrittenRun m list w (q ∷ es)
   written_run {q} {f} lt i last p =

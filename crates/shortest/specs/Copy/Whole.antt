@@ -84,7 +84,7 @@ module _ (m : Machine) (list links d b : List ℕ) (h z : ℕ) (word : List ℕ)
       pub word_fits : w.letter + (i - w.letter) ≤ length word₂
       pub entries_room : w.kept + 2 ≤ w.entry
       pub run_fits : w.entry ≤ length run₂
-      pub run_bound_lem : w.entry ≤ length run
+      pub run_bound : w.entry ≤ length run
 
     pub copy_finished : Finished
     copy_finished =
@@ -101,7 +101,7 @@ module _ (m : Machine) (list links d b : List ℕ) (h z : ℕ) (word : List ℕ)
           word_fits = let f = c.word_fits in let s = W.word_size in omega arith;
           entries_room = omega arith;
           run_fits = let f = c.run_fits in let s = W.run_size in let l = length-set run (r - 1) 65535 in omega arith;
-          run_bound_lem = let f = c.run_fits in omega arith;
+          run_bound = let f = c.run_fits in omega arith;
         }
 
     abbrev run₃ : List ℕ

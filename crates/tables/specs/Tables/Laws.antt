@@ -160,6 +160,6 @@ module _ (m : Machine) (list sets w : List ℕ) where
   pub position_end : (p near : ℕ) (next-n next-b n b e : List ℕ) → p ≡ length w → near ≡ bit_and (get_or sets p 0) (below m.states) → (last : Bool) → last ≡ true → PositionLayer m list near last 0 next-n next-b n b e
       → PositionBest m list (near_of m w sets) (drop p w) n b e
   unfolding head_of
-  position_end p near next-n next-b n b e at_end_lem near-is last is layer =
-      let z : drop p w ≡ [] = ap (λ (k : ℕ). drop k w) at_end_lem ∙ drop-length w in
+  position_end p near next-n next-b n b e at_end near-is last is layer =
+      let z : drop p w ≡ [] = ap (λ (k : ℕ). drop k w) at_end ∙ drop-length w in
       layer.best (near_of m w sets) (drop p w) (nears p near (omega arith) near-is) (λ t. z, λ t. is) (ap head_of (sym z)) (λ (l : 0 < 0). absurd (omega arith)) (λ y (l : 0 < 0). absurd (omega arith))

@@ -1,0 +1,14 @@
+use Prim.Native.Nat.{◌-◌}
+use mathlib.Core.Path.{◌≡◌, refl, ◌∙◌}
+use native.Mathlib.Omega.{arith}
+use lib.ListN.{length}
+use Rattle.accepts.specs.Ready.{Working}
+use Rattle.accepts.proofs.WordsCases.{Answering, answering_none, next_good, answering_more, answering_all}
+use borrow.Author.Rules.{rules}
+use Rattle.accepts.proofs.words.answer_each.Given as goal
+
+abbrev pub invariant-loop-k : goal.invariant-loop-k
+invariant-loop-k l = Answering l.m l.list l.letters l.ends l.initial.answers l.answers l.from l.k × Working l.m l.targets l.kinds l.rows l.steps l.sets × (length l.rows ≡ length l.initial.rows) × (length l.steps ≡ length l.initial.steps)
+
+abbrev pub decreases-loop-k : goal.decreases-loop-k
+decreases-loop-k l = length l.ends - l.k

@@ -1,0 +1,12 @@
+use mathlib.Core.Path.{sym, ◌∙◌}
+use borrow.Author.Tests.{not-true, not-false}
+use Rattle.pieces.specs.Blocks.{cell}
+use Rattle.shortest.specs.Copy.{Walking}
+use Rattle.shortest.specs.Copy.Laws.{walk_start, walk_states, matched_ready, stored_ready, walk_turn, walk_end}
+use Rattle.shortest.proofs.copy.walk_back.Given as goal
+
+abbrev pub invariant-loop-m : goal.invariant-loop-m
+invariant-loop-m l = Walking l.m l.list l.b l.h l.z l.initial.word l.i l.initial.run l.r l.word l.run l.later l.w
+
+abbrev pub decreases-loop-m : goal.decreases-loop-m
+decreases-loop-m l = cell l.b l.w.storing l.w.matching

@@ -1,0 +1,40 @@
+use Prim.Native.Nat.{ℕ, ◌-◌}
+use mathlib.Core.Path.{◌≡◌, sym, ◌∙◌, subst}
+use mathlib.Core.Bool.{true}
+use native.Mathlib.Omega.{arith}
+use borrow.Author.Rules.{rules}
+use Rattle.fsbm.specs.Rules.{rules as rules_of}
+use Rattle.basics.specs.Search.Laws.{not_both}
+use Rattle.shortest.specs.Find.{match_test}
+use Rattle.shortest.specs.Find.Laws.{Finding, finding_start, finding_next, finding_found, finding_none}
+use Rattle.shortest.proofs.find.find_match.Goals as goal
+
+pub bounds-links-t : goal.bounds-links-t
+bounds-links-t c = omega (arith, c.requires.3)
+
+pub loop-k-init : goal.loop-k-init
+loop-k-init c = subst (λ (k : ℕ). Finding c.args.m.transitions c.args.list.now c.args.t (λ j. match_test c.args.m.marks c.args.list.now c.args.b.now c.args.s c.args.x c.args.w c.args.want j ≡ true) k) (sym c.wide-k.ensures.0) (finding_start _ _ _ _ _ (c.requires.1.first c.args.t c.requires.3))
+
+pub match_fits-requires : goal.match_fits-requires
+match_fits-requires c = let T = rules_of _ _ c.requires.0 in (omega (arith, T.from_below c.loop-k.k c.loop-k-test.true, T.states_fit), c.requires.2)
+
+pub returns-then-match_fits : goal.returns-then-match_fits
+returns-then-match_fits c = finding_found _ _ _ _ _ c.loop-k.invariant c.loop-k-test.true (sym c.match_fits.ensures ∙ c.if-match_fits.true)
+
+pub overflow_add-k : goal.overflow_add-k
+overflow_add-k c = omega (arith, c.loop-k-test.true, (rules_of _ _ c.requires.0).transitions_fit)
+
+pub offset_bounds-links-k : goal.offset_bounds-links-k
+offset_bounds-links-k c = omega (arith, c.loop-k-test.true, (rules_of _ _ c.requires.0).transitions_fit)
+
+pub bounds-links-k : goal.bounds-links-k
+bounds-links-k c = omega (arith, c.loop-k-test.true, (rules_of _ _ c.requires.0).transitions_fit)
+
+pub loop-k-smaller : goal.loop-k-smaller
+loop-k-smaller c = omega (arith, c.wide-k-in-loop-k.ensures.0, (c.requires.1.link c.loop-k.k (omega arith) c.loop-k-test.true).on, c.loop-k-test.true)
+
+pub loop-k-preserved : goal.loop-k-preserved
+loop-k-preserved c = subst (λ (k : ℕ). Finding c.args.m.transitions c.args.list.now c.args.t (λ j. match_test c.args.m.marks c.args.list.now c.args.b.now c.args.s c.args.x c.args.w c.args.want j ≡ true) k) (sym c.wide-k-in-loop-k.ensures.0) (finding_next _ _ _ _ _ c.loop-k.invariant _ c.loop-k-test.true (λ h. not_both (c.match_fits.ensures ∙ h) c.if-match_fits.false) (c.requires.1.link c.loop-k.k (omega arith) c.loop-k-test.true))
+
+pub returns : goal.returns
+returns c = finding_none _ _ _ _ _ c.loop-k.invariant c.loop-k-test.false

@@ -1,0 +1,7 @@
+use mathlib.Core.Path.{sym}
+use Rattle.pieces.specs.Blocks.Laws.{cell_inside}
+use borrow.Author.Rules.{rules}
+use Rattle.shortest.proofs.find.number.Goals as goal
+
+pub returns : goal.returns
+returns c = sym (cell_inside _ _ _ c.requires.0 c.requires.1)

@@ -1,0 +1,14 @@
+use Rattle.tables.proofs.CopyCases.{Winding, extended_next, extended_dead, extended_whole}
+use Rattle.fsbm.specs.Rules.{rules as rules_of}
+use borrow.Author.Tests.{not-true}
+use Prim.Native.Nat.{◌+◌, ◌-◌}
+use native.Mathlib.Omega.{arith}
+use mathlib.Core.Path.{refl}
+use borrow.Author.Rules.{rules}
+use Rattle.tables.proofs.copy.extend.Given as goal
+
+abbrev pub invariant-loop-k : goal.invariant-loop-k
+invariant-loop-k l = Winding l.m l.list l.sets l.word l.e l.d l.k l.row
+
+abbrev pub decreases-loop-k : goal.decreases-loop-k
+decreases-loop-k l = l.d - l.k
