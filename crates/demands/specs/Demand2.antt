@@ -20,7 +20,7 @@
 use Rattle.std.specs.Prelude.{ℕ, ◌*◌, ◌≤◌, ◌≡◌, refl, ◌↔◌, Bool, true, false, cond, List, ◌++◌, length, take, drop, leb, eqb}
 use Rattle.std.proofs.Math.Path.{sym}
 use Rattle.std.proofs.Common.{◌∙◌, ap, subst, arith, le-leb, eq-eqb}
-use Rattle.std.proofs.Math.Logic.{Iff·trans}
+use Rattle.std.proofs.Math.Logic.Iff
 use Rattle.basics.specs.Bools.{is_first, is_second, false_iff}
 use Rattle.basics.specs.Search.Loops.{first}
 use Rattle.fsbm.specs.Moves.{accepting}
@@ -72,7 +72,7 @@ module _ (m : Machine) (list w before after : List ℕ) (r : Recognized) (contra
 
   pub no_iff_published : (r ≡ No) ↔ (InLanguage (fsbm_of m list) w → ⊥)
   no_iff_published =
-      Iff·trans (is_second (yes_not_no contract.entries) (accepted m list w) answered) (accepted_not_published m list w obeys)
+      Iff.trans (is_second (yes_not_no contract.entries) (accepted m list w) answered) (accepted_not_published m list w obeys)
 
   pub yes_written : (k : ℕ) → r ≡ Yes k → WrittenRun m list w (take k after) × (k ≤ run_bound m (length w)) × (after ≡ take k after ++ drop k before)
   yes_written k y =
@@ -99,10 +99,10 @@ module _ (m : Machine) (list w run : List ℕ) (r : Checked) (contract : r ≡ c
   written_iff = accepting_iff_written m list w (table_good longest_checked m list w not_refused).0 run
 
   pub passes_iff_written : (r ≡ checked.Accepting) ↔ WrittenRun m list w run
-  passes_iff_written = Iff·trans (is_first accepting_or_not (accepting m list w run) checked_as) written_iff
+  passes_iff_written = Iff.trans (is_first accepting_or_not (accepting m list w run) checked_as) written_iff
 
   pub fails_iff_not : (r ≡ checked.NotAccepting) ↔ (WrittenRun m list w run → ⊥)
-  fails_iff_not = Iff·trans (is_second accepting_or_not (accepting m list w run) checked_as) (false_iff (accepting m list w run) written_iff)
+  fails_iff_not = Iff.trans (is_second accepting_or_not (accepting m list w run) checked_as) (false_iff (accepting m list w run) written_iff)
 
 -- 3. Sheets
 

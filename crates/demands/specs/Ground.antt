@@ -23,7 +23,7 @@
 use Rattle.std.specs.Prelude.{ℕ, ◌+◌, ◌≤◌, ◌<◌, refl, ◌↔◌, ◌⊎◌, Bool, cond, List, ◌++◌, length, get_or, drop, leb}
 use Rattle.std.proofs.Math.Path.{◌≡◌}
 use Rattle.std.proofs.Common.{sym, ◌∙◌, ap, subst, inl, inr, length-append, length-drop, drop_at, leb-true, leb-false}
-use Rattle.std.proofs.Math.Logic.{Iff·trans, Iff·symm}
+use Rattle.std.proofs.Math.Logic.Iff
 use Rattle.std.proofs.Math.Bool.{true, false}
 use Rattle.std.proofs.lemmas.Bool.{false≢true}
 use native.Mathlib.Omega.{arith}
@@ -163,26 +163,26 @@ module _ (m : Machine) (list w before after : List ℕ) (r : Reaching) (answer :
     in_set p t q le = subst (λ (x : ℕ). In x q ↔ (reaches m list w p t q ≡ true)) (sym (set_is p t le)) (reached_in m list w obeys p t q)
 
     pub in_set_iff_run : (p : ℕ) (t : Mode) (q : ℕ) → p ≤ length w → In (get_or after (set_at p t) 0) q ↔ ((run : List ℕ) × (leads m list w p t q run ≡ true))
-    in_set_iff_run p t q le = Iff·trans (in_set p t q le) (reaches_iff_run m list w obeys p t q)
+    in_set_iff_run p t q le = Iff.trans (in_set p t q le) (reaches_iff_run m list w obeys p t q)
 
     pub in_set_iff_published : (p : ℕ) (t : Mode) (q : ℕ) → p ≤ length w → In (get_or after (set_at p t) 0) q ↔ Reachable (fsbm_of m list) w p t q
-    in_set_iff_published p t q le = Iff·trans (in_set p t q le) (reaches_iff_published m list w obeys p t q)
+    in_set_iff_published p t q le = Iff.trans (in_set p t q le) (reaches_iff_published m list w obeys p t q)
 
     -- 3. The ground of a yes and of a no
 
     pub accepted_by_sets : InLanguage (fsbm_of m list) w ↔ ((q : ℕ) × (final m.marks q ≡ true) × In (get_or after (set_at (length w) Normal) 0) q)
     accepted_by_sets =
-        Iff·trans (Iff·symm (accepted_iff_published m list w obeys)) (Iff·trans (accepted_iff_final m list w obeys) (
+        Iff.trans (Iff.symm (accepted_iff_published m list w obeys)) (Iff.trans (accepted_iff_final m list w obeys) (
           λ s. (s.0, s.1, (in_set (length w) Normal s.0 (omega arith)).1 s.2),
           λ s. (s.0, s.1, (in_set (length w) Normal s.0 (omega arith)).0 s.2),
         ))
 
     module _ (d : Decided) (contract : d ≡ decision m list w) where
       pub yes_by_sets : (d ≡ Yes) ↔ ((q : ℕ) × (final m.marks q ≡ true) × In (get_or after (set_at (length w) Normal) 0) q)
-      yes_by_sets = Iff·trans (words.yes_iff_published m list w d contract all_done.not_refused) accepted_by_sets
+      yes_by_sets = Iff.trans (words.yes_iff_published m list w d contract all_done.not_refused) accepted_by_sets
 
       pub no_by_sets : (d ≡ No) ↔ ((q : ℕ) → final m.marks q ≡ true → In (get_or after (set_at (length w) Normal) 0) q → ⊥)
-      no_by_sets = Iff·trans (words.no_iff_published m list w d contract all_done.not_refused) (
+      no_by_sets = Iff.trans (words.no_iff_published m list w d contract all_done.not_refused) (
         λ n q f i. n (accepted_by_sets.1 (q, f, i)),
         λ n l. let s = accepted_by_sets.0 l in n s.0 s.1 s.2,
       )

@@ -3,7 +3,6 @@ pub mod Demand2
 pub mod Demand3
 pub mod EmptyCopies
 pub mod Ground
-pub mod Letters
 pub mod LettersExample
 pub mod LettersText
 pub mod Page

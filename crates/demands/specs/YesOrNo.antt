@@ -26,7 +26,8 @@ use Prim.Native.Nat.{ℕ, ◌≤◌, ◌<◌}
 use Rattle.std.specs.Prelude.{◌≡◌, refl, ◌↔◌, ◌⊎◌, Bool, cond, List, ◌++◌, length, get_or, drop, leb}
 use Rattle.std.proofs.Math.Path.{sym}
 use Rattle.std.proofs.Common.{◌∙◌, ap, arith, length-append, length-drop, drop_at}
-use Rattle.std.proofs.Math.Logic.{inl, inr, Iff·trans, Iff·symm}
+use Rattle.std.proofs.Math.Logic.{inl, inr}
+use Rattle.std.proofs.Math.Logic.Iff
 use Rattle.std.proofs.Math.Bool.{true, false}
 use Rattle.std.proofs.Math.ListN.{get_or-append}
 use Rattle.std.proofs.Math.Dec.{eqb}
@@ -76,10 +77,10 @@ module _ (m : Machine) (list w : List ℕ) (d : Decided) (contract : d ≡ decis
     obeys = (table_good longest_recognized m list w not_refused).0
 
     pub yes_iff_published : (d ≡ Yes) ↔ InLanguage (fsbm_of m list) w
-    yes_iff_published = Iff·trans (is_first yes_not_no (accepted m list w) (decided_as not_refused)) (accepted_iff_published m list w obeys)
+    yes_iff_published = Iff.trans (is_first yes_not_no (accepted m list w) (decided_as not_refused)) (accepted_iff_published m list w obeys)
 
     pub no_iff_published : (d ≡ No) ↔ (InLanguage (fsbm_of m list) w → ⊥)
-    no_iff_published = Iff·trans (is_second yes_not_no (accepted m list w) (decided_as not_refused)) (accepted_not_published m list w obeys)
+    no_iff_published = Iff.trans (is_second yes_not_no (accepted m list w) (decided_as not_refused)) (accepted_not_published m list w obeys)
 
   some_refusal : (f : Refusal) → d ≡ Refused f → table_and_word longest_recognized m list w ≡ 0 → ⊥
   some_refusal f e h = at (accepted m list w) (decided_as h)
@@ -110,10 +111,10 @@ module _ (m : Machine) (list w before after : List ℕ) (r : Recognized) (wrote 
   module _ (not_refused : table_and_word longest_recognized m list w ≡ 0) (long_enough : run_bound m (length w) ≤ length before) where
     pub both_yes : ((k : ℕ) × (r ≡ recognized.Yes k)) ↔ (d ≡ Yes)
     both_yes =
-        Iff·trans (demand2.yes_iff_published m list w before after r wrote not_refused long_enough) (Iff·symm (yes_iff_published m list w d contract not_refused))
+        Iff.trans (demand2.yes_iff_published m list w before after r wrote not_refused long_enough) (Iff.symm (yes_iff_published m list w d contract not_refused))
 
     pub both_no : (r ≡ recognized.No) ↔ (d ≡ No)
-    both_no = Iff·trans (demand2.no_iff_published m list w before after r wrote not_refused long_enough) (Iff·symm (no_iff_published m list w d contract not_refused))
+    both_no = Iff.trans (demand2.no_iff_published m list w before after r wrote not_refused long_enough) (Iff.symm (no_iff_published m list w d contract not_refused))
 
   pub both_refuse : (table_and_word longest_recognized m list w ≡ 0 → ⊥) → (f : Refusal) → (r ≡ recognized.Refused f) ↔ (d ≡ Refused f)
   unfolding recognition
@@ -266,7 +267,7 @@ module _ (m : Machine) (list letters ends before after : List ℕ) (r : Answered
           ∙ byte_is (accepted m list (word_at letters ends k)))
 
       pub word_yes : (get_or after k 0 ≡ 1) ↔ InLanguage (fsbm_of m list) (word_at letters ends k)
-      word_yes = Iff·trans (is_first one_not_zero (accepted m list (word_at letters ends k)) byte) (accepted_iff_published m list (word_at letters ends k) all_done.table)
+      word_yes = Iff.trans (is_first one_not_zero (accepted m list (word_at letters ends k)) byte) (accepted_iff_published m list (word_at letters ends k) all_done.table)
 
       pub word_no : (get_or after k 0 ≡ 0) ↔ (InLanguage (fsbm_of m list) (word_at letters ends k) → ⊥)
-      word_no = Iff·trans (is_second one_not_zero (accepted m list (word_at letters ends k)) byte) (accepted_not_published m list (word_at letters ends k) all_done.table)
+      word_no = Iff.trans (is_second one_not_zero (accepted m list (word_at letters ends k)) byte) (accepted_not_published m list (word_at letters ends k) all_done.table)
