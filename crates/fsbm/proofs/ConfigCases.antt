@@ -10,7 +10,7 @@
 -- start_well_placed  == where a run starts
 use Prim.Native.Nat.{ℕ, zero, suc, ◌≤◌, ◌<◌, ◌+◌}
 use mathlib.Core.Path.{◌≡◌, refl, sym, ◌∙◌, ap}
-use mathlib.Core.Bool.{Bool, true, false, not, ◌&&◌}
+use mathlib.Core.Bool.{Bool, true, false, ◌&&◌}
 use mathlib.Core.List.{List, [], ◌∷◌}
 use native.Mathlib.Omega.{arith}
 use lib.ListN.{length, get_or, take, drop, drop_of_length-le, get_or-eq_default}
@@ -22,7 +22,6 @@ use Rattle.fsbm.specs.declared.config.Config.{Config}
 use Rattle.fsbm.specs.declared.config.Move.{Move}
 use Rattle.fsbm.specs.declared.config.Mode.TheVariants.{Normal, Buffering, Emptying}
 use Rattle.fsbm.specs.declared.machine.Transition.{Transition}
-use Rattle.fsbm.specs.Machine.{buffering}
 use Rattle.fsbm.specs.declared.machine.Machine.{Machine}
 use Rattle.fsbm.specs.Machine.{initial, transition_at, well_formed}
 use Rattle.fsbm.specs.Moves.{well_placed, reads_letter, advanced, may_take, after, goes, changes, move, start_at, accepts, accepting_from, accepting}

@@ -21,11 +21,18 @@ use accepts::prepared;
 use fsbm::limits::{LIST_LENGTH, POSITIONS};
 use fsbm::machine::Machine;
 use images::Kinds;
-use libc::{STDIN_FILENO, STDOUT_FILENO};
 use stateset::StateSet;
+use std::fs::File;
+use std::io::{Read, Write};
 use stream::Held;
 use subsets::{ROWS, STEPS};
 use targets::MOST_SETS;
+
+// The bytes of the input that are read at a time.
+const PIECE: usize = 4096;
+
+// The bytes of a table that are read, more than any sheet has, and of output that a piece of the input may make.
+const LARGE: usize = 65536;
 
 // The bytes of a line that are kept: one more than a word's line may have, which shows that it is too long.
 const LINE: usize = 1276;
@@ -38,29 +45,45 @@ pub struct Turn {
     pub closed: bool,
 }
 
+// Writes all of some bytes to standard output; answers whether that went well.
+fn write_bytes(rt: &HostRuntime, bytes: &[u8]) -> bool {
+    rt.stdout().write_all(bytes).is_ok()
+}
+
+// Reads a piece of standard input; answers how many bytes came, 0 at its end or where it cannot be read.
+fn read_piece(rt: &HostRuntime, input: &mut [u8]) -> usize
+    ensures { result ≤ length input.new }
+{
+    match rt.stdin().read(input) {
+        Ok(n) => n,
+        Err(_) => 0,
+    }
+}
+
 // Writes what is printed ahead of any input; answers whether that went well.
-fn write_opening(sheet: &[u8], bytes: &[u8]) -> bool
+fn write_opening(rt: &HostRuntime, sheet: &[u8], bytes: &[u8]) -> bool
     requires { bytes.now ≡ opening sheet.now }
 {
-    io::write_all(STDOUT_FILENO, bytes)
+    write_bytes(rt, bytes)
 }
 
 // Writes what is printed for a piece of the input; answers whether that went well.
-fn write_piece(sheet: &[u8], piece: &[u8], bytes: &[u8]) -> bool
+fn write_piece(rt: &HostRuntime, sheet: &[u8], piece: &[u8], bytes: &[u8]) -> bool
     requires { NextBytes sheet.now piece.now bytes.now }
 {
-    io::write_all(STDOUT_FILENO, bytes)
+    write_bytes(rt, bytes)
 }
 
 // Writes what is printed at the end of the input.
-fn write_end(sheet: &[u8], line: &[u8], t: Turn, bytes: &[u8])
+fn write_end(rt: &HostRuntime, sheet: &[u8], line: &[u8], t: Turn, bytes: &[u8])
     requires { LastBytes sheet.now line.now t bytes.now }
 {
-    io::write_all(STDOUT_FILENO, bytes);
+    write_bytes(rt, bytes);
 }
 
 // Reads a piece of the input, and writes what is printed for it. It reads only while the output is open.
 fn list_piece(
+    rt: &HostRuntime,
     sheet: &[u8],
     m: Machine,
     list: &[u16],
@@ -83,8 +106,7 @@ fn list_piece(
     ensures working { Working m targets.now kinds rows.new steps.new sets.new }
 {
     let held = t.held;
-    let got = libc::read(STDIN_FILENO, input);
-    let count = io::count(got, input);
+    let count = read_piece(rt, input);
     let taken = stream::take_piece(
         m,
         list,
@@ -100,7 +122,7 @@ fn list_piece(
     );
     let used = taken.used;
     let after = taken.held;
-    let written = write_piece(sheet, &input[..count], &out[..used]);
+    let written = write_piece(rt, sheet, &input[..count], &out[..used]);
     Turn {
         held: after,
         count,
@@ -125,6 +147,7 @@ fn is_done(t: Turn) -> bool
 // Reads standard input to its end and lists its words. A loop that is proved ends, so it counts its turns down from a number that no
 // run uses up.
 fn take_input(
+    rt: &HostRuntime,
     sheet: &[u8],
     m: Machine,
     list: &[u16],
@@ -151,7 +174,7 @@ fn take_input(
     let mut turns = u64::MAX;
     while 0 < turns {
         t = list_piece(
-            sheet, m, list, targets, kinds, input, line, out, t, rows, steps, sets,
+            rt, sheet, m, list, targets, kinds, input, line, out, t, rows, steps, sets,
         );
         if is_done(t) {
             return t;
@@ -168,6 +191,7 @@ fn take_input(
 
 // Lists the last line, unless the output is closed.
 fn end_input(
+    rt: &HostRuntime,
     sheet: &[u8],
     m: Machine,
     list: &[u16],
@@ -189,11 +213,12 @@ fn end_input(
     }
     let held = t.held;
     let used = stream::finish(m, list, targets, kinds, line, out, held, rows, steps, sets);
-    write_end(sheet, line, t, &out[..used]);
+    write_end(rt, sheet, line, t, &out[..used]);
 }
 
 // Lists the words of standard input over a table.
 fn list_words(
+    rt: &HostRuntime,
     sheet: &[u8],
     m: Machine,
     list: &[u16],
@@ -205,18 +230,32 @@ fn list_words(
     requires read_from { ReadFrom sheet.now m list.now }
     requires in_bounds { 65536 ≤ length out.old }
 {
-    let mut input = io::buffer();
+    let mut input = piece_buffer();
     let mut line = line_buffer();
     let mut rows = row_buffer();
     let mut steps = step_buffer();
     let mut sets = set_buffer();
     let t = take_input(
-        sheet, m, list, targets, kinds, &mut input, &mut line, out, &mut rows, &mut steps,
+        rt, sheet, m, list, targets, kinds, &mut input, &mut line, out, &mut rows, &mut steps,
         &mut sets,
     );
     end_input(
-        sheet, m, list, targets, kinds, &line, out, t, &mut rows, &mut steps, &mut sets,
+        rt, sheet, m, list, targets, kinds, &line, out, t, &mut rows, &mut steps, &mut sets,
     );
+}
+
+// Room for a piece of the input.
+fn piece_buffer() -> [u8; PIECE]
+    ensures { 4096 ≡ length result }
+{
+    [0; PIECE]
+}
+
+// Room for a table or for the output of a piece.
+fn large_buffer() -> [u8; LARGE]
+    ensures { 65536 ≡ length result }
+{
+    [0; LARGE]
 }
 
 // Room for a line and one byte more.
@@ -264,48 +303,70 @@ fn set_buffer() -> [StateSet; POSITIONS]
 }
 
 // Prepares the table once, and lists the words of standard input over it.
-fn list_prepared(sheet: &[u8], m: Machine, list: &[u16], out: &mut [u8])
+fn list_prepared(rt: &HostRuntime, sheet: &[u8], m: Machine, list: &[u16], out: &mut [u8])
     requires list_value { well_formed m list.now ≡ true }
     requires read_from { ReadFrom sheet.now m list.now }
     requires in_bounds { 65536 ≤ length out.old }
 {
     let mut targets = target_buffer();
     let kinds = prepared::prepare(m, list, &mut targets);
-    list_words(sheet, m, list, &targets, kinds, out);
+    list_words(rt, sheet, m, list, &targets, kinds, out);
 }
 
 // Prints the listing of a sheet and standard input.
-fn list_sheet(sheet: &[u8]) {
+fn list_sheet(rt: &HostRuntime, sheet: &[u8]) {
     let mut list = transition_buffer();
-    let mut out = io::large_buffer();
+    let mut out = large_buffer();
     let opened = stream::open(sheet, &mut list, &mut out);
     let used = opened.used;
-    if !write_opening(sheet, &out[..used]) {
+    if !write_opening(rt, sheet, &out[..used]) {
         return;
     }
     if !opened.good {
         return;
     }
     let machine = opened.machine;
-    list_prepared(sheet, machine, &list, &mut out);
+    list_prepared(rt, sheet, machine, &list, &mut out);
 }
 
-// Reads the file table.txt, as much of it as is longer than any sheet, and answers how many bytes came; 0 where it cannot be opened.
-fn read_table(table: &mut [u8]) -> usize
+// Reads a file from where it stands until the buffer is full, the file ends or a read fails; answers how many bytes came.
+fn read_full(file: &mut File, table: &mut [u8]) -> usize
     ensures { result ≤ length table.new }
 {
-    let fd = os::open_read(b"table.txt");
-    if fd < 0 {
-        return 0;
+    let mut n: usize = 0;
+    while n < table.len() {
+        let got = read_more(file, &mut table[n..]);
+        if got == 0 {
+            return n;
+        }
+        n += got;
     }
-    let n = io::read_full(fd, table);
-    libc::close(fd);
     n
 }
 
+// Reads some bytes of a file; answers how many came, 0 at its end or where it cannot be read.
+fn read_more(file: &mut File, rest: &mut [u8]) -> usize
+    ensures { result ≤ length rest.new }
+{
+    match file.read(rest) {
+        Ok(n) => n,
+        Err(_) => 0,
+    }
+}
+
+// Reads the file table.txt, as much of it as is longer than any sheet, and answers how many bytes came; 0 where it cannot be opened.
+fn read_table(rt: &HostRuntime, table: &mut [u8]) -> usize
+    ensures { result ≤ length table.new }
+{
+    match File::open(rt, "table.txt") {
+        Ok(mut file) => read_full(&mut file, table),
+        Err(_) => 0,
+    }
+}
+
 // Reads the table and lists the words of standard input.
-fn main() {
-    let mut table = io::large_buffer();
-    let n = read_table(&mut table);
-    list_sheet(&table[..n]);
+fn main(rt: HostRuntime) {
+    let mut table = large_buffer();
+    let n = read_table(&rt, &mut table);
+    list_sheet(&rt, &table[..n]);
 }

@@ -1,7 +1,5 @@
 use mathlib.Core.Path.{refl, sym, ◌∙◌}
 use native.Mathlib.Omega.{arith}
-use borrow.Author.Rules.{rules}
-use borrow.Author.Tests.{not-true, not-false}
 use Rattle.basics.specs.Search.Loops.{first, second}
 use Rattle.columns.specs.Column.Laws.{digit_range}
 use Rattle.columns.specs.Held.{held_next}

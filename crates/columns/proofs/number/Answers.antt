@@ -1,5 +1,4 @@
 use mathlib.Core.Path.{ap, ◌∙◌}
-use borrow.Author.Rules.{rules}
 use Rattle.columns.specs.Held.{held_number}
 use Rattle.columns.specs.Held.Laws.{as_before}
 use Rattle.columns.proofs.number.Goals as goal

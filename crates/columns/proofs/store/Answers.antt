@@ -1,7 +1,6 @@
 use lib.ListN.{length-set}
 use native.Mathlib.Omega.{arith}
 use Rattle.columns.proofs.Written.{five_put}
-use borrow.Author.Rules.{rules}
 use Rattle.columns.proofs.store.Goals as goal
 
 pub bounds-bytes-at-2 : goal.bounds-bytes-at-2

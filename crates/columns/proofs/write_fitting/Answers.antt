@@ -1,5 +1,4 @@
 use Rattle.columns.proofs.Written.{column_five}
-use borrow.Author.Rules.{rules}
 use Rattle.columns.proofs.write_fitting.Goals as goal
 
 pub returns : goal.returns

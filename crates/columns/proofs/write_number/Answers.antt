@@ -1,7 +1,6 @@
 use Prim.Native.Nat.{◌/◌}
 use native.Mathlib.Omega.{arith}
 use Rattle.columns.proofs.Written.{column_five, space, digit_of}
-use borrow.Author.Rules.{rules}
 use Rattle.columns.proofs.write_number.Goals as goal
 
 pub returns-then-n-lt10 : goal.returns-then-n-lt10

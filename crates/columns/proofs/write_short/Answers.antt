@@ -1,7 +1,6 @@
 use Prim.Native.Nat.{◌/◌}
 use Rattle.columns.proofs.Written.{column_five, space}
 use native.Mathlib.Omega.{arith}
-use borrow.Author.Rules.{rules}
 use Rattle.columns.proofs.write_short.Goals as goal
 
 pub returns : goal.returns

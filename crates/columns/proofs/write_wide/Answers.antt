@@ -2,7 +2,6 @@ use native.Mathlib.Omega.{arith}
 use lib.ListN.{length-set}
 use mathlib.Core.Path.{◌∙◌}
 use Rattle.columns.proofs.Written.{column_six}
-use borrow.Author.Rules.{rules}
 use Rattle.columns.proofs.write_wide.Goals as goal
 
 pub write_fitting-requires : goal.write_fitting-requires

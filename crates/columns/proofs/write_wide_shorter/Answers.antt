@@ -2,7 +2,6 @@ use native.Mathlib.Omega.{arith}
 use lib.ListN.{length-set}
 use mathlib.Core.Path.{◌∙◌}
 use Rattle.columns.proofs.Written.{column_six}
-use borrow.Author.Rules.{rules}
 use Rattle.columns.proofs.write_wide_shorter.Goals as goal
 
 pub write_shorter-requires : goal.write_shorter-requires

@@ -1,4 +1,3 @@
-use borrow.Author.Rules.{rules}
 use Rattle.stateset.specs.Set.Laws.{single_is}
 use Rattle.stateset.proofs.single.Goals as goal
 

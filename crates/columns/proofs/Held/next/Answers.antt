@@ -3,7 +3,6 @@ use mathlib.Core.Path.{sym, ap, ◌∙◌, subst}
 use Rattle.columns.specs.Column.{no_number}
 use Rattle.columns.specs.Held.{held_next, so_far}
 use Rattle.columns.specs.declared.Held.{Held}
-use borrow.Author.Rules.{rules}
 use Rattle.columns.proofs.Held.next.Goals as goal
 
 pub more-requires : goal.more-requires

@@ -1,6 +1,5 @@
 use mathlib.Core.Path.{sym, ap}
 use Rattle.columns.specs.Held.{held_number}
-use borrow.Author.Rules.{rules}
 use Rattle.columns.proofs.Held.number.Goals as goal
 
 pub returns-in-Blank : goal.returns-in-Blank

@@ -1,10 +1,5 @@
-use Prim.Native.Nat.{◌≤◌, ◌-◌}
-use mathlib.Core.Path.{◌≡◌, refl}
+use mathlib.Core.Path.{refl}
 use native.Mathlib.Omega.{arith}
-use lib.ListN.{length, drop}
-use borrow.Author.Rules.{rules}
-use borrow.Author.Tests.{not-true, not-false}
-use Rattle.basics.specs.Search.{all_in}
 use Rattle.basics.specs.Search.Loops.{in_fails, in_goes_on, in_done}
 use Rattle.fsbm.specs.Answers.{good_letter}
 use Rattle.fsbm.proofs.answer.good_letters.Goals as goal

@@ -1,8 +1,6 @@
 use mathlib.Core.Path.{refl, sym, ◌∙◌}
-use borrow.Author.Tests.{not-true, not-false}
 use Rattle.fsbm.specs.Answers.{table_and_word}
 use Rattle.basics.specs.Search.Loops.{first, second}
-use borrow.Author.Rules.{rules}
 use Rattle.fsbm.proofs.answer.table_and_word.Goals as goal
 
 pub returns-then-not-is_well_formed : goal.returns-then-not-is_well_formed

@@ -1,7 +1,6 @@
 use mathlib.Core.Path.{refl, sym, ◌∙◌}
-use borrow.Author.Tests.{le-leb, lt-leb, not-true, not-false}
+use borrow.Author.Tests.{le-leb, lt-leb}
 use Rattle.basics.specs.Search.Loops.{first, second}
-use borrow.Author.Rules.{rules}
 use Rattle.fsbm.proofs.answer.word_fault.Goals as goal
 
 pub returns-then-longest-word : goal.returns-then-longest-word

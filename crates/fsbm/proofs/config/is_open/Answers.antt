@@ -1,8 +1,6 @@
 use Rattle.basics.specs.Search.Loops.{pass, stop}
 use mathlib.Core.Bool.{not}
 use mathlib.Core.Path.{ap}
-use borrow.Author.Rules.{rules}
-use borrow.Author.Rules.{rules}
 use Rattle.fsbm.proofs.config.is_open.Goals as goal
 
 pub returns-then-both : goal.returns-then-both

@@ -3,8 +3,6 @@ use Rattle.fsbm.specs.declared.config.Mode.{Mode}
 use Rattle.fsbm.specs.Machine.{buffering}
 use mathlib.Core.Bool.{Bool, not, ◌&&◌}
 use mathlib.Core.Path.{sym, ◌∙◌, ap}
-use borrow.Author.Rules.{rules}
-use borrow.Author.Rules.{rules}
 use Rattle.fsbm.proofs.config.passes.Goals as goal
 
 pub returns-in-Normal : goal.returns-in-Normal

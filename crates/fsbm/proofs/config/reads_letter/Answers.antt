@@ -1,6 +1,5 @@
 use native.Mathlib.Omega.{arith}
 use Rattle.fsbm.proofs.ConfigCases.{reads_epsilon, reads_past, reads_outside, reads_here}
-use borrow.Author.Rules.{rules}
 use Rattle.fsbm.proofs.config.reads_letter.Goals as goal
 
 pub returns-then-x-eq0 : goal.returns-then-x-eq0

@@ -1,7 +1,5 @@
 use Rattle.basics.specs.Search.Loops.{pass, stop}
 use mathlib.Core.Path.{sym, ◌∙◌}
-use Rattle.fsbm.specs.Machine.{matching}
-use borrow.Author.Rules.{rules}
 use Rattle.fsbm.proofs.machine.both_matching.Goals as goal
 
 pub returns-then-is_matching : goal.returns-then-is_matching

@@ -1,12 +1,6 @@
-use Prim.Native.Nat.{◌≤◌, ◌-◌}
-use mathlib.Core.Path.{◌≡◌, refl, ◌∙◌}
-use mathlib.Core.Bool.{◌&&◌}
+use mathlib.Core.Path.{refl, ◌∙◌}
 use native.Mathlib.Omega.{arith}
 use lib.ListN.{get_or}
-use lib.Dec.{leb}
-use borrow.Author.Rules.{rules}
-use Rattle.basics.specs.Search.{all_below}
-use Rattle.fsbm.specs.Machine.{good_mark}
 use Rattle.fsbm.proofs.MachineCases.{marked, marked_by, marks_none, marks_next, marks_large, marks_end, states_few}
 use Rattle.fsbm.proofs.machine.good_marks.Goals as goal
 

@@ -1,13 +1,10 @@
 use Prim.Native.Nat.{◌≤◌, ◌-◌}
-use mathlib.Core.Path.{◌≡◌, refl, ◌∙◌}
+use mathlib.Core.Path.{◌≡◌}
 use mathlib.Core.Bool.{◌&&◌}
-use native.Mathlib.Omega.{arith}
-use lib.ListN.{get_or}
 use lib.Dec.{leb}
-use borrow.Author.Rules.{rules}
 use Rattle.basics.specs.Search.{all_below}
 use Rattle.fsbm.specs.Machine.{good_mark}
-use Rattle.fsbm.proofs.MachineCases.{marked, marked_by, marks_none, marks_next, marks_large, marks_end, states_few}
+use Rattle.fsbm.proofs.MachineCases.{marked}
 use Rattle.fsbm.proofs.machine.good_marks.Given as goal
 
 abbrev pub invariant-loop-q : goal.invariant-loop-q

@@ -1,12 +1,8 @@
-use Prim.Native.Nat.{ℕ, ◌+◌, ◌≤◌, ◌-◌}
-use mathlib.Core.Path.{◌≡◌, refl, ap, ◌∙◌}
-use mathlib.Core.Bool.{true}
+use Prim.Native.Nat.{ℕ, ◌+◌}
+use mathlib.Core.Path.{refl, ap, ◌∙◌}
 use native.Mathlib.Omega.{arith}
-use borrow.Author.Rules.{rules}
-use borrow.Author.Tests.{not-true, not-false}
-use Rattle.basics.specs.Search.{all_below}
 use Rattle.fsbm.specs.Machine.{good_transition}
-use Rattle.fsbm.proofs.MachineCases.{least_at, least_next, transitions_unnamed, transitions_fall, transitions_next, transitions_none, transitions_done, rank_small}
+use Rattle.fsbm.proofs.MachineCases.{least_next, transitions_unnamed, transitions_fall, transitions_next, transitions_none, transitions_done, rank_small}
 use Rattle.fsbm.proofs.machine.good_transitions.Goals as goal
 
 pub loop-k-init : goal.loop-k-init

@@ -1,12 +1,9 @@
-use Prim.Native.Nat.{ℕ, ◌+◌, ◌≤◌, ◌-◌}
-use mathlib.Core.Path.{◌≡◌, refl, ap, ◌∙◌}
+use Prim.Native.Nat.{◌≤◌, ◌-◌}
+use mathlib.Core.Path.{◌≡◌}
 use mathlib.Core.Bool.{true}
-use native.Mathlib.Omega.{arith}
-use borrow.Author.Rules.{rules}
-use borrow.Author.Tests.{not-true, not-false}
 use Rattle.basics.specs.Search.{all_below}
 use Rattle.fsbm.specs.Machine.{good_transition}
-use Rattle.fsbm.proofs.MachineCases.{least_at, least_next, transitions_unnamed, transitions_fall, transitions_next, transitions_none, transitions_done, rank_small}
+use Rattle.fsbm.proofs.MachineCases.{least_at}
 use Rattle.fsbm.proofs.machine.good_transitions.Given as goal
 
 abbrev pub invariant-loop-k : goal.invariant-loop-k

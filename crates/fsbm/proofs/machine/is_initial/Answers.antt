@@ -1,4 +1,3 @@
-use borrow.Author.Rules.{rules}
 use Rattle.fsbm.proofs.machine.is_initial.Goals as goal
 
 pub returns : goal.returns

@@ -1,5 +1,4 @@
 use Rattle.fsbm.proofs.MachineCases.{named_from, named_letter, named_to}
-use borrow.Author.Rules.{rules}
 use Rattle.fsbm.proofs.machine.is_named.Goals as goal
 
 pub returns-then-states-t : goal.returns-then-states-t

@@ -1,9 +1,8 @@
 use native.Mathlib.Omega.{arith}
 use mathlib.Core.Path.{refl, sym, ◌∙◌}
-use borrow.Author.Tests.{le-leb, lt-leb, not-true, not-false}
+use borrow.Author.Tests.{le-leb, lt-leb}
 use Rattle.fsbm.specs.Machine.{well_formed}
 use Rattle.basics.specs.Search.Loops.{pass, stop}
-use borrow.Author.Rules.{rules}
 use Rattle.fsbm.proofs.machine.is_well_formed.Goals as goal
 
 pub returns-then-m-lt1 : goal.returns-then-m-lt1

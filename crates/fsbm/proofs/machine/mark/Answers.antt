@@ -1,5 +1,4 @@
 use borrow.Author.Tests.{lt-ltb, le-ltb}
-use borrow.Author.Rules.{rules}
 use Rattle.fsbm.proofs.machine.mark.Goals as goal
 
 pub returns-then-q-lt-MAX_STATES : goal.returns-then-q-lt-MAX_STATES

@@ -1,7 +1,6 @@
 use mathlib.Core.Path.{refl}
 use borrow.Author.Tests.{eq-eqb, ne_eqb}
 use Rattle.basics.specs.Search.Loops.{first, second}
-use borrow.Author.Rules.{rules}
 use Rattle.fsbm.proofs.machine.states_for.Goals as goal
 
 pub returns-then-v-eq0 : goal.returns-then-v-eq0

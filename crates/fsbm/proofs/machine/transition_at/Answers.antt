@@ -1,5 +1,4 @@
 use Rattle.fsbm.proofs.MachineCases.{transition_past}
-use borrow.Author.Rules.{rules}
 use Rattle.fsbm.proofs.machine.transition_at.Goals as goal
 
 pub returns-then-list-k : goal.returns-then-list-k

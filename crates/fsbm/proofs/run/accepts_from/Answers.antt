@@ -1,12 +1,7 @@
 use Rattle.fsbm.proofs.ConfigCases.{ranges, move_change, move_not_taken, move_taken, run_end, run_on, run_off}
 use Rattle.fsbm.specs.Rules.{rules as rules_of}
-use Rattle.fsbm.specs.Moves.{well_placed, accepting_from}
 use borrow.Author.Tests.{not-true, not-false}
-use lib.ListN.{length, take, drop}
-use mathlib.Core.Bool.{true}
-use mathlib.Core.Path.{◌≡◌, refl, sym, ◌∙◌}
-use Prim.Native.Nat.{◌-◌}
-use borrow.Author.Rules.{rules}
+use mathlib.Core.Path.{refl, sym, ◌∙◌}
 use native.Mathlib.Omega.{arith}
 use Rattle.fsbm.proofs.run.accepts_from.Goals as goal
 

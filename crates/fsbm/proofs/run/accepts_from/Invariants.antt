@@ -1,13 +1,8 @@
-use Rattle.fsbm.proofs.ConfigCases.{ranges, move_change, move_not_taken, move_taken, run_end, run_on, run_off}
-use Rattle.fsbm.specs.Rules.{rules as rules_of}
 use Rattle.fsbm.specs.Moves.{well_placed, accepting_from}
-use borrow.Author.Tests.{not-true, not-false}
 use lib.ListN.{length, take, drop}
 use mathlib.Core.Bool.{true}
-use mathlib.Core.Path.{◌≡◌, refl, sym, ◌∙◌}
+use mathlib.Core.Path.{◌≡◌}
 use Prim.Native.Nat.{◌-◌}
-use borrow.Author.Rules.{rules}
-use native.Mathlib.Omega.{arith}
 use Rattle.fsbm.proofs.run.accepts_from.Given as goal
 
 abbrev pub invariant-loop-i : goal.invariant-loop-i

@@ -2,12 +2,10 @@ use Rattle.fsbm.proofs.ConfigCases.{run_none, run_first, start_well_placed}
 use Rattle.fsbm.specs.Moves.{well_placed, accepting_from}
 use Rattle.fsbm.specs.declared.config.Config.{Config}
 use Rattle.basics.specs.Search.Loops.{pass, stop}
-use borrow.Author.Tests.{lt-ltb, le-ltb, not-true, not-false}
+use borrow.Author.Tests.{lt-ltb, le-ltb}
 use lib.ListN.{length, take, drop}
 use mathlib.Core.Path.{sym, ◌∙◌, ap}
-use borrow.Author.Rules.{rules}
 use native.Mathlib.Omega.{arith}
-use borrow.Author.Rules.{rules}
 use Rattle.fsbm.proofs.run.accepts_front.Goals as goal
 
 pub returns-then-count-eq0 : goal.returns-then-count-eq0

@@ -1,8 +1,6 @@
 use Rattle.fsbm.proofs.AnswerCases.{check_refused, check_tried, check_says, table_good}
 use Rattle.fsbm.specs.Answers.{checked_by}
 use mathlib.Core.Path.{sym, ◌∙◌, ap}
-use borrow.Author.Rules.{rules}
-use borrow.Author.Rules.{rules}
 use Rattle.fsbm.proofs.run.check_run.Goals as goal
 
 pub returns-then-number-ne0 : goal.returns-then-number-ne0

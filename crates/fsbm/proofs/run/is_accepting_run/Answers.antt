@@ -3,8 +3,6 @@ use lib.Seq.{take-length}
 use Prim.Native.Nat.{ℕ}
 use mathlib.Core.List.{List}
 use mathlib.Core.Path.{◌∙◌, ap}
-use borrow.Author.Rules.{rules}
-use borrow.Author.Rules.{rules}
 use Rattle.fsbm.proofs.run.is_accepting_run.Goals as goal
 
 pub returns : goal.returns

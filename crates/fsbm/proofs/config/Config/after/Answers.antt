@@ -2,9 +2,7 @@ use Rattle.fsbm.proofs.ConfigCases.{after_normal, after_buffering, after_emptyin
 use Rattle.fsbm.specs.Moves.{after}
 use Rattle.fsbm.specs.declared.config.Mode.{Mode}
 use mathlib.Core.Path.{sym, ◌∙◌, ap}
-use borrow.Author.Rules.{rules}
 use native.Mathlib.Omega.{arith}
-use borrow.Author.Rules.{rules}
 use Rattle.fsbm.proofs.config.Config.after.Goals as goal
 
 pub advance-requires : goal.advance-requires

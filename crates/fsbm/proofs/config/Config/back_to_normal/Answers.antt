@@ -1,9 +1,8 @@
 use mathlib.Core.Path.{sym, ◌∙◌}
-use borrow.Author.Tests.{eq-eqb, ne_eqb, not-true, not-false}
+use borrow.Author.Tests.{eq-eqb, ne_eqb}
 use Rattle.fsbm.specs.Moves.{changes}
 use Rattle.fsbm.proofs.ConfigCases.{goes_not, goes_yes}
 use Rattle.basics.specs.Search.Loops.{pass, stop}
-use borrow.Author.Rules.{rules}
 use Rattle.fsbm.proofs.config.Config.back_to_normal.Goals as goal
 
 pub returns-then-entry-ne-BACK_TO_NORMAL : goal.returns-then-entry-ne-BACK_TO_NORMAL

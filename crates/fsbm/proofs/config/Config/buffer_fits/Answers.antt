@@ -1,7 +1,6 @@
 use mathlib.Core.Path.{sym, ap}
 use Rattle.fsbm.specs.declared.config.Mode.{Mode}
 use Rattle.fsbm.specs.Moves.{buffer_fits}
-use borrow.Author.Rules.{rules}
 use Rattle.fsbm.proofs.config.Config.buffer_fits.Goals as goal
 
 pub returns-in-Normal : goal.returns-in-Normal

@@ -1,8 +1,7 @@
 use mathlib.Core.Path.{refl, sym, ap, ◌∙◌}
-use borrow.Author.Tests.{eq-eqb, ne_eqb, not-true, not-false}
+use borrow.Author.Tests.{eq-eqb, ne_eqb}
 use Rattle.fsbm.specs.Moves.{accepts, is_normal}
 use Rattle.basics.specs.Search.Loops.{pass, stop}
-use borrow.Author.Rules.{rules}
 use Rattle.fsbm.proofs.config.Config.is_accepting.Goals as goal
 
 pub returns-then-not-is_final : goal.returns-then-not-is_final

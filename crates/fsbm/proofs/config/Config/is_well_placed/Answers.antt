@@ -1,7 +1,6 @@
 use borrow.Author.Tests.{le-leb, lt-leb, lt-ltb, le-ltb}
 use Rattle.fsbm.specs.Moves.{well_placed}
 use Rattle.basics.specs.Search.Loops.{pass, stop}
-use borrow.Author.Rules.{rules}
 use Rattle.fsbm.proofs.config.Config.is_well_placed.Goals as goal
 
 pub returns-then-n-self : goal.returns-then-n-self

@@ -1,9 +1,7 @@
 use Rattle.fsbm.specs.Moves.{may_take}
 use Rattle.basics.specs.Search.Loops.{pass, stop}
-use borrow.Author.Tests.{not-true, not-false, eq-eqb, ne_eqb}
+use borrow.Author.Tests.{eq-eqb, ne_eqb}
 use mathlib.Core.Path.{sym, ◌∙◌}
-use borrow.Author.Rules.{rules}
-use borrow.Author.Rules.{rules}
 use Rattle.fsbm.proofs.config.Config.may_take.Goals as goal
 
 pub returns-then-t-self : goal.returns-then-t-self

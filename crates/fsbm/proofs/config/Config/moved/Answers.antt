@@ -1,9 +1,6 @@
 use Rattle.fsbm.proofs.ConfigCases.{ranges, move_unplaced, move_change, move_not_taken, move_taken}
-use borrow.Author.Tests.{not-true, not-false}
 use mathlib.Core.Path.{sym, ◌∙◌}
-use borrow.Author.Rules.{rules}
 use native.Mathlib.Omega.{arith}
-use borrow.Author.Rules.{rules}
 use Rattle.fsbm.proofs.config.Config.moved.Goals as goal
 
 pub returns-then-not-is_well_placed : goal.returns-then-not-is_well_placed

@@ -1,8 +1,6 @@
 use Rattle.fsbm.specs.Moves.{reads_stored}
 use Rattle.fsbm.specs.declared.config.Mode.{Mode}
 use mathlib.Core.Path.{sym, ◌∙◌, ap}
-use borrow.Author.Rules.{rules}
-use borrow.Author.Rules.{rules}
 use Rattle.fsbm.proofs.config.Config.reads_stored.Goals as goal
 
 pub returns-in-Normal : goal.returns-in-Normal

@@ -1,7 +1,6 @@
 use mathlib.Core.Path.{refl, ◌∙◌}
 use Rattle.fsbm.proofs.AnswerCases.{step_refused, step_moved, step_says}
 use Rattle.basics.specs.Search.Loops.{first, second}
-use borrow.Author.Rules.{rules}
 use Rattle.fsbm.proofs.config.Config.step.Goals as goal
 
 pub returns-then-number-ne0 : goal.returns-then-number-ne0

@@ -1,0 +1,17 @@
+use Prim.Native.Nat.{◌≤◌}
+use mathlib.Core.Path.{◌≡◌, refl, sym, ◌∙◌}
+use mathlib.Core.Bool.{true, false}
+use native.Mathlib.Omega.{arith}
+use lib.ListN.{length}
+use Rattle.stream.specs.Pieces.{most_kept}
+use Rattle.listing.specs.Output.{HeldAfter}
+use Rattle.listing.proofs.OutputCases.{reached_begin, reached_more, ready_same, done_closed, still_open}
+use Rattle.accepts.specs.Ready.{Working}
+use borrow.Author.Rules.{rules}
+use Rattle.listing.proofs.take_input.Given as goal
+
+abbrev pub invariant-loop-turns : goal.invariant-loop-turns
+invariant-loop-turns l = HeldAfter l.line l.t.held × (l.t.held.kept ≤ most_kept) × (l.t.closed ≡ false) × (length l.input ≡ length l.initial.input) × (length l.line ≡ length l.initial.line) × (length l.out ≡ length l.initial.out) × Working l.m l.targets l.kinds l.rows l.steps l.sets × (length l.rows ≡ length l.initial.rows) × (length l.steps ≡ length l.initial.steps)
+
+abbrev pub decreases-loop-turns : goal.decreases-loop-turns
+decreases-loop-turns l = l.turns
