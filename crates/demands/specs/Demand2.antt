@@ -17,7 +17,7 @@
 -- table_round_trip    == a table written as a sheet and read again is the same table
 -- sheet_round_trip    == a sheet read and written is the same bytes with its blank columns filled
 -- sheet_same          == it is the same bytes where no column of it is blank
-use Rattle.std.specs.Prelude.{ℕ, ◌*◌, ◌≤◌, ◌≡◌, refl, ◌↔◌, Bool, true, false, cond, List, ◌++◌, length, take, drop, leb, eqb}
+use Rattle.std.specs.Prelude.{ℕ, ◌*◌, ◌≤◌, ◌≡◌, refl, ◌↔◌, Bool, true, false, cond, List, ◌++◌, length, take, drop}
 use Rattle.std.proofs.Math.Path.{sym}
 use Rattle.std.proofs.Common.{◌∙◌, ap, subst, arith, le-leb, eq-eqb}
 use Rattle.std.proofs.Math.Logic.Iff

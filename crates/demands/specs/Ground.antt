@@ -20,7 +20,7 @@
 -- 4. How far runs read:
 -- empty_after         == if all three sets of a position are empty, they are empty at every later one
 -- none_past           == then no run gets to that position or past it
-use Rattle.std.specs.Prelude.{ℕ, ◌+◌, ◌≤◌, ◌<◌, refl, ◌↔◌, ◌⊎◌, Bool, cond, List, ◌++◌, length, get_or, drop, leb}
+use Rattle.std.specs.Prelude.{ℕ, ◌≤◌, ◌<◌, refl, ◌↔◌, ◌⊎◌, Bool, cond, List, ◌++◌, length, get_or, drop, leb}
 use Rattle.std.proofs.Math.Path.{◌≡◌}
 use Rattle.std.proofs.Common.{sym, ◌∙◌, ap, subst, inl, inr, length-append, length-drop, drop_at, leb-true, leb-false}
 use Rattle.std.proofs.Math.Logic.Iff

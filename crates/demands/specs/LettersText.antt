@@ -6,16 +6,16 @@
 -- letter_loaded    == the letter of a byte in the record of a text
 -- loaded_good      == the record of a text that loads is good
 -- good_loads       == a good record of 256 letters is loaded from its text
-use Prim.Native.Nat.{ℕ, zero, suc, ◌+◌, ◌*◌, ◌<◌, ◌≤◌}
+use Prim.Native.Nat.{ℕ, zero, suc, ◌*◌, ◌<◌, ◌≤◌}
 use Rattle.std.specs.Prelude.{◌≡◌, refl, ◌⊎◌, ◌↔◌, Bool, true, false, ◌&&◌, length, get_or, drop, leb, eqb}
 use Rattle.std.proofs.Math.Path.{sym, ap, subst}
 use Rattle.std.proofs.Common.{◌∙◌, inl, inr}
 use mathlib.Core.List.{List, [], ◌∷◌, ◌++◌, append-nil}
 use Rattle.std.proofs.Math.Bool.{cond}
 use native.Mathlib.Omega.{arith}
-use Rattle.std.proofs.Math.Decide.{ℕ_discrete, dec_lt}
+use Rattle.std.proofs.Math.Decide.{ℕ_discrete}
 use Rattle.std.proofs.Math.Dec.{ltb}
-use borrow.Author.Tests.{le-leb, leb-true, lt-ltb, ltb-true, eq-eqb, ne_eqb, eqb-true, eqb-false}
+use borrow.Author.Tests.{le-leb, leb-true, lt-ltb, eq-eqb, ne_eqb, eqb-true, eqb-false}
 use Rattle.basics.specs.Each.{each_below}
 use Rattle.basics.specs.Each.Laws.{each_length, each_drop}
 use Rattle.basics.specs.Search.{all_below}
@@ -23,18 +23,17 @@ use Rattle.basics.specs.Search.Laws.{true_or_false, and_true, and_both_true, all
 use Rattle.columns.specs.Line.{line_of}
 use Rattle.columns.specs.Line.Laws.{line_length}
 use Rattle.fsbm.specs.Answers.{refusal}
-use Rattle.sheet.specs.Series.{or_else, first_of}
+use Rattle.sheet.specs.Series.{first_of}
 use Rattle.sheet.specs.Series.Laws.{or_zero, first_zero}
 use Rattle.sheet.specs.Reading.{unless, column_at, line_fault}
-use Rattle.sheet.specs.Reading.Laws.{unless_zero, line_none, GoodLine}
+use Rattle.sheet.specs.Reading.Laws.{unless_zero, line_none}
 use Rattle.sheet_laws.specs.Filled.{filled}
 use Rattle.sheet_laws.specs.Lines.{line_kept, line_number, line_good}
 use Rattle.letters.specs.Alphabet.{byte_values, max_lines, letter_in, largest_of, gapless, lettered, good_alphabet}
 use Rattle.letters.specs.Alphabet.Laws.{letter_in_lem, letters_at_lem, letters_list, largest_bound, largest_same, lettered_same, gapless_same, gapless_true, gapless_few}
 use Rattle.letters.specs.Loading.{byte_at, letter_at, lines_begun, entry_fault, letters_run, load_fault, last_of, letter_of, alphabet_of, no_alphabet, load_answer}
-use Rattle.letters.specs.Loading.Laws.{last_cases, last_none, last_named, largest_last, gapless_last, lettered_last, Apart, GoodEntry, entry_none, lines_begun_lem, entries_apart, entries_below, entries_few}
+use Rattle.letters.specs.Loading.Laws.{last_none, last_named, largest_last, gapless_last, lettered_last, Apart, entry_none, lines_begun_lem, entries_apart, entries_below, entries_few}
 use Rattle.letters.specs.declared.alphabet.Alphabet.{Alphabet}
-use Rattle.letters.specs.declared.loading.Loaded.{Loaded}
 
 -- A text that loads
 

@@ -23,7 +23,7 @@ use Rattle.basics.specs.Search.Laws.{not_both, true_or_false}
 use Rattle.graphs.specs.Paths.{here}
 use Rattle.stateset.specs.Set.{width, In, SetIs}
 use Rattle.stateset.specs.Set.Laws.{empty_in, lowest_in}
-use Rattle.fsbm.specs.Machine.{transition_at, final, buffering}
+use Rattle.fsbm.specs.Machine.{transition_at, final}
 use Rattle.fsbm.specs.Published.{config, begins_buffering, begins_emptying, returns_to_normal}
 use Rattle.fsbm.specs.declared.machine.Machine.{Machine}
 use Rattle.fsbm.specs.declared.config.Mode.{Mode}

@@ -5,7 +5,7 @@
 -- seen-..       == which letters are noted, likewise
 -- good-..       == the test of a record: too many letters, another count, the rest
 -- seen_gapless  == all from 1 to the largest are noted, exactly if there is no gap
-use Prim.Native.Nat.{ℕ, suc, ◌+◌, ◌-◌, ◌<◌, ◌≤◌}
+use Prim.Native.Nat.{ℕ, suc, ◌+◌, ◌<◌, ◌≤◌}
 use mathlib.Core.Path.{◌≡◌, refl, sym, ap, ◌∙◌, subst}
 use mathlib.Core.Logic.{◌⊎◌, inl, inr, ◌↔◌}
 use mathlib.Core.List.{List}

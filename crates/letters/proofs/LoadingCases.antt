@@ -8,16 +8,15 @@
 -- load_fault_lem, load_large, load_gap, load_good == the answer: a fault of a line, a letter above 250 or 0, a gap, none
 use Prim.Native.Nat.{ℕ, suc, ◌+◌, ◌*◌, ◌<◌, ◌≤◌}
 use mathlib.Core.Path.{◌≡◌, refl, sym, ap, ◌∙◌, subst}
-use mathlib.Core.Logic.{◌⊎◌, inl, inr, ◌↔◌}
-use mathlib.Core.List.{List, [], ◌∷◌, ◌++◌, append-nil}
+use mathlib.Core.Logic.{◌⊎◌, inl, inr}
+use mathlib.Core.List.{List, [], ◌∷◌}
 use mathlib.Core.Bool.{Bool, true, false, cond, not, ◌&&◌}
 use native.Mathlib.Omega.{arith}
 use native.Mathlib.Numerals.{add-one}
 use native.Mathlib.Decide.{ℕ_discrete, dec_lt}
 use lib.ListN.{length, get_or, set, replicate, length-set, length-replicate}
-use lib.Seq.{ext_get_or}
 use lib.Dec.{ltb, eqb}
-use borrow.Author.Tests.{ltb-true, lt-ltb, le-ltb, eq-eqb, ne_eqb}
+use borrow.Author.Tests.{lt-ltb, le-ltb, eq-eqb, ne_eqb}
 use Rattle.basics.specs.Lists.Laws.{set_cases, zeros_at}
 use Rattle.basics.specs.Search.{all_below}
 use Rattle.basics.specs.Search.Laws.{true_or_false, and_false_left, and_false_right, all_below_true, all_below_false}
@@ -33,7 +32,7 @@ use Rattle.sheet.proofs.PartCases.{ColumnsRead, columns_none, columns_next, line
 use Rattle.letters.specs.Alphabet.{byte_values, max_lines, letter_in, largest_of, gapless}
 use Rattle.letters.specs.Alphabet.Laws.{letter_in_lem, letters_list, largest_bound, largest_one, largest_same, gapless_same, gapless_true, gapless_few}
 use Rattle.letters.specs.Loading.{line_start, byte_at, letter_at, lines_begun, listed_before, entry_fault, letters_run, load_fault, last_of, letter_of, alphabet_of, no_alphabet, load_answer}
-use Rattle.letters.specs.Loading.Laws.{last_here, last_before, last_cases, last_none, last_some, last_same, last_named, largest_last, gapless_last, GoodEntry, entry_none, entries_apart, entries_below, entries_few}
+use Rattle.letters.specs.Loading.Laws.{last_here, last_before, last_none, last_some, last_same, largest_last, gapless_last, GoodEntry, entry_none, entries_apart, entries_below, entries_few}
 use Rattle.letters.specs.Lines.{kept, EntryRead, LinesRead}
 use Rattle.letters.specs.declared.loading.Entry.{Entry}
 use Rattle.letters.specs.declared.loading.Loaded.{Loaded}

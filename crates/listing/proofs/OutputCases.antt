@@ -10,7 +10,7 @@
 -- last_fits, last_bytes == what end_input writes
 -- opening_fits, opening_bytes == what list_sheet writes first
 -- opened_table, opened_obeys == the table of a good sheet
-use Prim.Native.Nat.{ℕ, ◌*◌, ◌+◌, ◌≤◌}
+use Prim.Native.Nat.{ℕ, ◌*◌, ◌≤◌}
 use mathlib.Core.Path.{◌≡◌, refl, sym, ap, ◌∙◌, subst}
 use mathlib.Core.List.{List, [], ◌++◌}
 use mathlib.Core.Bool.{Bool, true, false, ◌||◌}

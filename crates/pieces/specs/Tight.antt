@@ -7,7 +7,7 @@
 -- block_tight          == with a settled block for the guess of a tight copy, D q is the block's number and 2 more, for the changes of mode
 -- block_above          == and with any guess it is no more than that
 -- settled_leads        == a number below top is the weight of pieces from an initial state
-use Rattle.std.specs.Prelude.{ℕ, ◌+◌, ◌*◌, ◌-◌, ◌≤◌, ◌<◌, ◌≡◌, ◌⊎◌, List, length}
+use Rattle.std.specs.Prelude.{ℕ, ◌+◌, ◌*◌, ◌≤◌, ◌<◌, ◌≡◌, ◌⊎◌, List, length}
 use Rattle.std.proofs.Common.{subst, inl, inr, arith}
 use Rattle.graphs.specs.Cost.{Route, Settled}
 use Rattle.graphs.specs.Cost.Laws.{descend, zero_goal}

@@ -8,7 +8,7 @@
 -- joined_splits           == from an accepting run of the product one of each machine, the first's as long, the second's of n + 1 entries
 -- splits_join             == from accepting runs of both machines one of the product, as long as the first's
 -- joined_accepted         == the product accepts a word, if and only if both machines do
-use Rattle.std.specs.Prelude.{ℕ, zero, suc, ◌+◌, ◌*◌, ◌-◌, ◌/◌, ◌%◌, ◌<◌, ◌≡◌, ◌⊎◌, true, ◌&&◌, length, get_or, ltb}
+use Rattle.std.specs.Prelude.{ℕ, zero, suc, ◌+◌, ◌*◌, ◌/◌, ◌%◌, ◌<◌, ◌≡◌, ◌⊎◌, true, ◌&&◌, length, get_or}
 use Rattle.std.proofs.Math.Path.{refl, sym, subst}
 use Rattle.std.proofs.Common.{ap, ◌∙◌, inr, eqb-true, le-ltb}
 use Rattle.std.proofs.Math.Logic.{inl}
@@ -17,7 +17,7 @@ use native.Mathlib.Omega.{arith}
 use Rattle.std.proofs.Math.Decide.{dec_lt}
 use Rattle.basics.specs.Search.{AllBelow}
 use Rattle.basics.specs.Search.Laws.{and_true, and_both_true, not_both}
-use Rattle.basics.specs.Search.Loops.{first, second}
+use Rattle.basics.specs.Search.Loops.{second}
 use Rattle.graphs.specs.Paths.{Path, here, step}
 use Rattle.fsbm.specs.Accepted.{accepted}
 use Rattle.fsbm.specs.Machine.{max_states, mark_of, initial, final, matching, transition_at}

@@ -11,7 +11,7 @@ use Rattle.std.proofs.Math.Bool.{cond}
 use mathlib.Core.List.{List, [], ◌∷◌}
 use Rattle.std.proofs.Math.ListN.{length}
 use Rattle.std.proofs.Math.Dec.{eqb}
-use Rattle.basics.specs.Search.Loops.{first, second}
+use Rattle.basics.specs.Search.Loops.{second}
 use Rattle.fsbm.specs.Machine.{transition_at}
 use Rattle.fsbm.specs.declared.machine.Machine.{Machine}
 use Rattle.fsbm.specs.declared.machine.Transition.{Transition}

@@ -5,7 +5,7 @@
 -- moves_to, moves_epsilon, moves_letter == x stands in joint_moves exactly if it is such a step
 -- joined_to, joined_of_lem    == x stands in joined exactly if it stands in joint_moves of some transition of the first at some state
 -- flat_at                 == transition k of the written list is element k of joined
-use Rattle.std.specs.Prelude.{ℕ, zero, suc, ◌+◌, ◌*◌, ◌<◌, ◌≡◌, refl, ◌⊎◌, Bool, true, false, cond, ◌&&◌, length, get_or, eqb}
+use Rattle.std.specs.Prelude.{ℕ, zero, suc, ◌+◌, ◌*◌, ◌<◌, ◌≡◌, refl, ◌⊎◌, Bool, cond, ◌&&◌, length, get_or, eqb}
 use Rattle.std.proofs.Math.Path.{sym, ap}
 use Rattle.std.proofs.Common.{◌∙◌, subst, inr}
 use Rattle.std.proofs.Math.Logic.{inl}

@@ -5,7 +5,7 @@
 -- Joinable ..             == what the laws use of join_fault ≡ 0
 -- joinable                == join_fault ≡ 0 says it
 -- first_below, second_below == the parts of a state of the product are states of the two machines
-use Prim.Native.Nat.{ℕ, zero, suc, ◌+◌, ◌*◌, ◌-◌, ◌/◌, ◌%◌, ◌≤◌, ◌<◌}
+use Prim.Native.Nat.{ℕ, zero, suc, ◌+◌, ◌*◌, ◌/◌, ◌%◌, ◌≤◌, ◌<◌}
 use Rattle.std.proofs.Math.Path.{◌≡◌}
 use Rattle.std.specs.Prelude.{Bool, true, false, not, List, leb, ltb, eqb}
 use Rattle.std.proofs.Common.{arith, mod-lt, div-lt_iff_lt-mul, leb-true, ltb-true, eqb-true}

@@ -14,7 +14,7 @@
 -- transitions_none, transition_next, transitions_done == before the first, one transition more, after the last
 -- transition_line_lem, transition_order == a transition's line has a fault: of the line, of its numbers
 -- numbers_small             == the numbers of a transition without fault are small
-use Prim.Native.Nat.{ℕ, zero, suc, ◌+◌, ◌*◌, ◌-◌, ◌<◌, ◌≤◌}
+use Prim.Native.Nat.{ℕ, suc, ◌+◌, ◌*◌, ◌-◌, ◌<◌, ◌≤◌}
 use mathlib.Core.Path.{◌≡◌, refl, sym, ap, ◌∙◌, subst}
 use mathlib.Core.List.{List, [], ◌∷◌, ◌++◌}
 use mathlib.Core.Bool.{Bool, true, not, ◌&&◌}

@@ -10,7 +10,7 @@
 -- three_part       == three elements of a list, as a part of it
 -- each_get_d        == the elements of a list, one by one
 -- all_zero         == a list of zeros
-use Rattle.std.specs.Prelude.{ℕ, zero, suc, ◌+◌, ◌*◌, ◌-◌, ◌<◌, ◌≤◌, ◌≡◌, refl, List, [], ◌∷◌, ◌++◌, length, take, drop, get_or, replicate}
+use Rattle.std.specs.Prelude.{ℕ, zero, suc, ◌+◌, ◌*◌, ◌<◌, ◌≤◌, ◌≡◌, refl, List, [], ◌∷◌, ◌++◌, length, take, drop, get_or, replicate}
 use Rattle.std.proofs.Common.{sym, ap, ◌∙◌, append_assoc, mul-suc, add-one, length-drop, take-append-drop, drop-drop, get_or-drop, length-take-le, drop-cons, take-suc}
 use Rattle.std.proofs.Math.Path.{subst}
 use native.Mathlib.Omega.{arith}

@@ -6,7 +6,7 @@
 -- piece_none, piece_lent, piece_more, piece_done == the loop of take_piece
 -- end_full, end_empty, end_last    == the ways through finish
 -- open_refused, open_good          == the ways through open
-use Prim.Native.Nat.{ℕ, ◌+◌, ◌-◌, ◌*◌, ◌<◌, ◌≤◌}
+use Prim.Native.Nat.{ℕ, ◌+◌, ◌*◌, ◌<◌, ◌≤◌}
 use mathlib.Core.Path.{◌≡◌, refl, sym, ap, ◌∙◌, subst}
 use mathlib.Core.List.{List, [], ◌∷◌, ◌++◌}
 use mathlib.Core.Bool.{true, false}

@@ -1,10 +1,6 @@
-use Prim.Native.Nat.{◌-◌, ◌+◌}
-use mathlib.Core.Path.{◌≡◌}
-use mathlib.Core.Bool.{true}
 use native.Mathlib.Omega.{arith}
-use Rattle.fsbm.specs.Machine.{well_formed}
 use Rattle.fsbm.specs.Rules.{rules as rules_of}
-use Rattle.adjacency.specs.Index.Laws.{Built, built_start, built_turn, built_index}
+use Rattle.adjacency.specs.Index.Laws.{built_start, built_turn, built_index}
 use Rattle.adjacency.proofs.index.Goals as goal
 
 pub loop-q-init : goal.loop-q-init

@@ -1,8 +1,6 @@
 use borrow.Author.Count.{below_more}
-use Prim.Native.Nat.{ℕ, ◌≤◌, ◌<◌, ◌-◌, ◌*◌}
+use Prim.Native.Nat.{◌≤◌, ◌<◌}
 use native.Mathlib.Omega.{arith}
-use lib.ListN.{length}
-use Rattle.adjacency.specs.Index.{column}
 use Rattle.adjacency.proofs.seek.Goals as goal
 
 pub loop-r-init : goal.loop-r-init

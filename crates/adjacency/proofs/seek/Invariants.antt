@@ -1,6 +1,4 @@
-use borrow.Author.Count.{below_more}
 use Prim.Native.Nat.{ℕ, ◌≤◌, ◌<◌, ◌-◌, ◌*◌}
-use native.Mathlib.Omega.{arith}
 use lib.ListN.{length}
 use Rattle.adjacency.specs.Index.{column}
 use Rattle.adjacency.proofs.seek.Given as goal

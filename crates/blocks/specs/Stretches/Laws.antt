@@ -7,7 +7,7 @@
 -- bounded, bounded_next == the numbers of an index are numbers of transitions
 -- stretch           == the transitions from index[q × stride + a] up to index[q × stride + a + 1] are those that leave q by a
 -- row_stretch       == those from index[q × stride] up to index[(q + 1) × stride] are all that leave q
-use Rattle.std.specs.Prelude.{ℕ, ◌+◌, ◌*◌, ◌-◌, ◌≤◌, ◌<◌, ◌≡◌, ◌↔◌, List, length, get_or, set}
+use Rattle.std.specs.Prelude.{ℕ, ◌+◌, ◌*◌, ◌≤◌, ◌<◌, ◌≡◌, ◌↔◌, List, length, get_or, set}
 use Rattle.std.proofs.Common.{ap, ◌∙◌, arith, mul-le-mul, length-set}
 use Rattle.std.proofs.Math.Decide.{dec_lt, ℕ_discrete}
 use Rattle.basics.specs.Lists.Laws.{set_next}

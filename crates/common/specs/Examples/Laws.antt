@@ -16,7 +16,6 @@ use Rattle.std.proofs.Math.ListN.{length}
 use Rattle.std.proofs.lemmas.Bool.{not-true}
 use Rattle.basics.specs.Search.{any_below, all_below, AllBelow}
 use Rattle.basics.specs.Search.Laws.{and_true, and_both_true, or_false, not_both, any_below_false, all_below_true, AllBelow-head, AllBelow-tail}
-use Rattle.basics.specs.Search.Loops.{first, second}
 use Rattle.fsbm.specs.Moves.{accepting}
 use Rattle.fsbm.specs.Accepted.{run_bound}
 use Rattle.fsbm.specs.declared.machine.Machine.{Machine}

@@ -1,7 +1,5 @@
-use Prim.Native.Nat.{◌-◌}
 use native.Mathlib.Omega.{arith}
-use lib.ListN.{length}
-use Rattle.copies.proofs.CopyCases.{Counting, counting_start, counting_position, counting_copy, counting_same, counting_end, kept_other, kept_empty, kept_copy}
+use Rattle.copies.proofs.CopyCases.{counting_start, counting_position, counting_copy, counting_same, counting_end, kept_other, kept_empty, kept_copy}
 use Rattle.copies.proofs.count_copies.Goals as goal
 
 pub loop-i-init : goal.loop-i-init

@@ -1,10 +1,8 @@
 use Rattle.copies.specs.Copies.{longest_copied}
 use mathlib.Core.Path.{sym, ◌∙◌}
 use native.Mathlib.Omega.{arith}
-use borrow.Author.Tests.{not-true, not-false}
 use Rattle.fsbm.proofs.AnswerCases.{table_good}
 use Rattle.copies.proofs.CopyCases.{entries_fit, count_few, early, not_accepting, no_room, listed, copies_says}
-use borrow.Author.Rules.{rules}
 use Rattle.copies.proofs.list_copies.Goals as goal
 
 pub returns-then-number-ne0 : goal.returns-then-number-ne0

@@ -1,5 +1,5 @@
 use native.Mathlib.Omega.{arith}
-use Rattle.copies.proofs.CopyCases.{Adding, adding_start, adding_copy, adding_end}
+use Rattle.copies.proofs.CopyCases.{adding_start, adding_copy, adding_end}
 use Prim.Native.Nat.{◌+◌, ◌-◌, ◌*◌}
 use Rattle.copies.proofs.total_back.Goals as goal
 

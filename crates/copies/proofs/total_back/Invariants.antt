@@ -1,6 +1,4 @@
-use native.Mathlib.Omega.{arith}
-use Rattle.copies.proofs.CopyCases.{Adding, adding_start, adding_copy, adding_end}
-use Prim.Native.Nat.{◌+◌, ◌-◌, ◌*◌}
+use Rattle.copies.proofs.CopyCases.{Adding}
 use Rattle.copies.proofs.total_back.Given as goal
 
 abbrev pub invariant-loop-k : goal.invariant-loop-k

@@ -33,7 +33,7 @@ use Rattle.basics.specs.Search.{all_in, any_in}
 use Rattle.basics.specs.Search.Laws.{and_true}
 use Rattle.basics.specs.Search.Loops.{first, second}
 use Rattle.fsbm.specs.Machine.{well_formed, transition_at, initial, buffering, matching}
-use Rattle.fsbm.specs.Moves.{after, may_change, changed, move, start_at, is_normal, accepts, accepting_from, accepting, begin_buffering, begin_emptying, back_to_normal}
+use Rattle.fsbm.specs.Moves.{after, may_change, changed, move, start_at, is_normal, accepting_from, accepting, begin_buffering, begin_emptying, back_to_normal}
 use Rattle.fsbm.specs.declared.machine.Machine.{Machine}
 use Rattle.fsbm.specs.declared.machine.Transition.{Transition}
 use Rattle.fsbm.specs.declared.config.Config.{Config}

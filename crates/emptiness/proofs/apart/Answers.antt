@@ -1,5 +1,4 @@
 use Rattle.emptiness.specs.Reached.Laws.{apart_is}
-use borrow.Author.Rules.{rules}
 use Rattle.emptiness.proofs.apart.Goals as goal
 
 pub returns : goal.returns

@@ -1,9 +1,8 @@
 use native.Mathlib.Omega.{arith}
 use mathlib.Core.Path.{refl}
-use borrow.Author.Rules.{rules}
 use Rattle.basics.specs.Search.Laws.{not_both}
 use Rattle.fsbm.specs.Rules.{rules as rules_of}
-use Rattle.emptiness.specs.Reached.Laws.{Begun, begun_more, same_empty}
+use Rattle.emptiness.specs.Reached.Laws.{begun_more, same_empty}
 use Rattle.emptiness.proofs.is_barren.Goals as goal
 
 pub loop-left-init : goal.loop-left-init

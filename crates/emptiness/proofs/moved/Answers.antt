@@ -1,7 +1,5 @@
 use mathlib.Core.Path.{sym, ◌∙◌}
-use borrow.Author.Tests.{not-true, not-false}
 use Rattle.emptiness.specs.Reached.Laws.{moved_from, moved_to, moved_both}
-use borrow.Author.Rules.{rules}
 use Rattle.emptiness.proofs.moved.Goals as goal
 
 pub returns-then-not-member : goal.returns-then-not-member

@@ -1,7 +1,4 @@
 use native.Mathlib.Omega.{arith}
-use Prim.Native.Nat.{◌-◌}
-use borrow.Author.Rules.{rules}
-use Rattle.emptiness.specs.Reached.{Swept}
 use Rattle.emptiness.specs.Reached.Laws.{swept_start, swept_more, swept_end}
 use Rattle.emptiness.proofs.pass.Goals as goal
 

@@ -1,8 +1,5 @@
-use native.Mathlib.Omega.{arith}
 use Prim.Native.Nat.{◌-◌}
-use borrow.Author.Rules.{rules}
 use Rattle.emptiness.specs.Reached.{Swept}
-use Rattle.emptiness.specs.Reached.Laws.{swept_start, swept_more, swept_end}
 use Rattle.emptiness.proofs.pass.Given as goal
 
 abbrev pub invariant-loop-k : goal.invariant-loop-k

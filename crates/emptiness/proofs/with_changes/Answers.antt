@@ -1,5 +1,4 @@
 use Rattle.emptiness.specs.Reached.Laws.{changed_is}
-use borrow.Author.Rules.{rules}
 use Rattle.emptiness.proofs.with_changes.Goals as goal
 
 pub returns : goal.returns

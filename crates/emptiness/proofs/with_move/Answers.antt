@@ -1,6 +1,5 @@
 use native.Mathlib.Omega.{arith}
 use Prim.Native.Nat.{◌+◌, ◌*◌}
-use borrow.Author.Rules.{rules}
 use Rattle.emptiness.proofs.with_move.Goals as goal
 
 pub overflow_cast-list : goal.overflow_cast-list

@@ -1,7 +1,5 @@
 use mathlib.Core.Path.{sym, ◌∙◌}
-use borrow.Author.Tests.{not-true}
 use Rattle.emptiness.specs.Reached.Laws.{next_barred, next_other, next_is}
-use borrow.Author.Rules.{rules}
 use Rattle.emptiness.proofs.with_next.Goals as goal
 
 pub returns-then-barred : goal.returns-then-barred

@@ -1,6 +1,5 @@
 use native.Mathlib.Omega.{arith}
 use Rattle.images.proofs.SetCases.{add_yes, add_no, members_is}
-use borrow.Author.Rules.{rules}
 use Rattle.images.proofs.add_if.Goals as goal
 
 pub returns-then-yes : goal.returns-then-yes

@@ -1,6 +1,5 @@
 use Rattle.images.proofs.SetCases.{advance_none, advance_some}
 use Rattle.images.specs.Graph.{graph}
-use borrow.Author.Rules.{rules}
 use Rattle.images.proofs.advance.Goals as goal
 
 pub returns-then-read-eq0 : goal.returns-then-read-eq0

@@ -1,11 +1,9 @@
-use borrow.Author.Rules.{rules}
 use Prim.Native.Nat.{◌-◌}
 use lib.Count.{ones}
 use Rattle.stateset.specs.Set.{width}
 use Rattle.fsbm.specs.declared.config.Mode.TheVariants.{Normal}
 use Rattle.images.specs.Graph.{graph, Edge, EmptyCopy, Good}
-use Rattle.images.proofs.Sweeps.{Placing, placing_start, placing_turn, placing_less, placing_end}
-use Rattle.images.proofs.SetCases.{members_is}
+use Rattle.images.proofs.Sweeps.{Placing}
 use Rattle.images.proofs.close_in_turns.Given as goal
 
 abbrev pub invariant-loop-states : goal.invariant-loop-states

@@ -6,7 +6,6 @@ use Rattle.stateset.specs.Set.{In}
 use Rattle.images.specs.Graph.{graph, Star, Turn, closure_of}
 use Rattle.images.proofs.SetCases.{members_is, members_none, none_in, none_other}
 use Rattle.images.proofs.Sweeps.{rows_united}
-use borrow.Author.Rules.{rules}
 use Rattle.images.proofs.close_position.Goals as goal
 
 pub returns-then-set-eq0 : goal.returns-then-set-eq0

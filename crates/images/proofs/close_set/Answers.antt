@@ -1,11 +1,9 @@
-use Rattle.images.proofs.Sweeps.{part_image, no_image, Closing, closing_start, closing_turn, closing_less, closing_end, closing_stuck}
+use Rattle.images.proofs.Sweeps.{part_image, no_image, closing_start, closing_turn, closing_less, closing_end, closing_stuck}
 use Rattle.images.proofs.SetCases.{members_is}
 use mathlib.Core.Path.{sym, subst}
-use Prim.Native.Nat.{ℕ, ◌-◌}
-use lib.Count.{ones}
-use Rattle.stateset.specs.Set.{width, In}
-use Rattle.images.specs.Graph.{graph, Edge, Good}
-use borrow.Author.Rules.{rules}
+use Prim.Native.Nat.{ℕ}
+use Rattle.stateset.specs.Set.{In}
+use Rattle.images.specs.Graph.{graph, Edge}
 use native.Mathlib.Omega.{arith}
 use Rattle.images.proofs.close_set.Goals as goal
 

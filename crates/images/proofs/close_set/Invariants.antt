@@ -1,12 +1,8 @@
-use Rattle.images.proofs.Sweeps.{part_image, no_image, Closing, closing_start, closing_turn, closing_less, closing_end, closing_stuck}
-use Rattle.images.proofs.SetCases.{members_is}
-use mathlib.Core.Path.{sym, subst}
+use Rattle.images.proofs.Sweeps.{Closing}
 use Prim.Native.Nat.{ℕ, ◌-◌}
 use lib.Count.{ones}
 use Rattle.stateset.specs.Set.{width, In}
 use Rattle.images.specs.Graph.{graph, Edge, Good}
-use borrow.Author.Rules.{rules}
-use native.Mathlib.Omega.{arith}
 use Rattle.images.proofs.close_set.Given as goal
 
 abbrev pub invariant-loop-mode : goal.invariant-loop-mode

@@ -1,6 +1,5 @@
 use Rattle.images.proofs.SetCases.{empty_none, empty_some, members_is}
 use Rattle.images.specs.Graph.{graph}
-use borrow.Author.Rules.{rules}
 use Rattle.images.proofs.empty_copies.Goals as goal
 
 pub returns-then-begun-eq0 : goal.returns-then-begun-eq0

@@ -1,10 +1,7 @@
-use Rattle.images.specs.Graph.{Members}
 use Rattle.fsbm.specs.Machine.{mark_of}
-use Rattle.stateset.specs.Set.{width}
 use mathlib.Core.Path.{◌≡◌}
-use Prim.Native.Nat.{ℕ, ◌<◌, ◌≤◌, ◌-◌, ◌/◌, ◌%◌, ◌^◌}
+use Prim.Native.Nat.{◌<◌, ◌/◌, ◌%◌, ◌^◌}
 use Rattle.images.proofs.SetCases.{marked_turn, members_as, members_is}
-use borrow.Author.Rules.{rules}
 use native.Mathlib.Omega.{arith}
 use Rattle.images.proofs.kinds_of.Goals as goal
 

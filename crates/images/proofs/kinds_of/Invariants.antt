@@ -3,9 +3,6 @@ use Rattle.fsbm.specs.Machine.{mark_of}
 use Rattle.stateset.specs.Set.{width}
 use mathlib.Core.Path.{◌≡◌}
 use Prim.Native.Nat.{ℕ, ◌<◌, ◌≤◌, ◌-◌, ◌/◌, ◌%◌, ◌^◌}
-use Rattle.images.proofs.SetCases.{marked_turn, members_as, members_is}
-use borrow.Author.Rules.{rules}
-use native.Mathlib.Omega.{arith}
 use Rattle.images.proofs.kinds_of.Given as goal
 
 abbrev pub invariant-loop-q : goal.invariant-loop-q

@@ -1,6 +1,5 @@
 use Rattle.images.proofs.SetCases.{read_none, read_some}
 use Rattle.images.specs.Graph.{graph}
-use borrow.Author.Rules.{rules}
 use Rattle.images.proofs.read_set.Goals as goal
 
 pub returns-then-x-eq0 : goal.returns-then-x-eq0

@@ -1,12 +1,10 @@
-use borrow.Author.Rules.{rules}
 use native.Mathlib.Omega.{arith}
 use Rattle.stateset.specs.Set.Laws.{drop_lowest, lowest_removed}
 use Rattle.stateset.specs.Set.{In}
-use lib.ListN.{length, get_or}
-use lib.Count.{ones}
-use Prim.Native.Nat.{ℕ, ◌+◌, ◌≤◌, ◌<◌}
+use lib.ListN.{get_or}
+use Prim.Native.Nat.{ℕ, ◌+◌}
 use Rattle.images.proofs.SetCases.{members_is, states_image}
-use Rattle.images.proofs.Sweeps.{Swept, swept_start, swept_turn, swept_end}
+use Rattle.images.proofs.Sweeps.{swept_start, swept_turn, swept_end}
 use Rattle.images.proofs.row_union.Goals as goal
 
 pub loop-rest-init : goal.loop-rest-init

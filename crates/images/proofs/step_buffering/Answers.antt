@@ -1,4 +1,3 @@
-use borrow.Author.Rules.{rules}
 use Rattle.images.proofs.SetCases.{members_is, buffering_moves}
 use Rattle.images.proofs.step_buffering.Goals as goal
 

@@ -1,4 +1,3 @@
-use borrow.Author.Rules.{rules}
 use Rattle.images.proofs.SetCases.{members_is, emptying_moves}
 use Rattle.images.proofs.step_emptying.Goals as goal
 

@@ -10,7 +10,7 @@
 -- Fit D, go_fit      == what a configuration with a way to acceptance has: an emptied buffer stands at the front of the input,
 --                       a stored one is no longer than the input
 -- best_none          == where there is no way, none is Best
-use Prim.Native.Nat.{ℕ, zero, suc, ◌+◌, ◌≤◌, ◌<◌}
+use Prim.Native.Nat.{ℕ, zero, suc, ◌≤◌, ◌<◌}
 use Rattle.std.specs.Prelude.{◌≡◌, ◌⊎◌, true}
 use Rattle.std.proofs.Math.Path.{refl, ap}
 use Rattle.std.proofs.Common.{sym, subst, inl, inr}

@@ -7,7 +7,7 @@
 -- none_best         == a row that says none is as good as a blank one
 -- blank_emptying, blank_buffering == where the rows after it are blank, so is a layer
 -- blank_position       == where no state is kept, the rows of a position are blank
-use Prim.Native.Nat.{ℕ, zero, suc, ◌+◌, ◌≤◌, ◌<◌}
+use Prim.Native.Nat.{ℕ, zero, suc, ◌≤◌, ◌<◌}
 use Rattle.std.specs.Prelude.{◌≡◌, ◌⊎◌, ◌↔◌, true, false, length}
 use Rattle.std.proofs.Math.Path.{refl, ap}
 use Rattle.std.proofs.Common.{sym, ◌∙◌, subst, inl, inr}

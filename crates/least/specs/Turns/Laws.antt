@@ -30,8 +30,8 @@ use Rattle.fsbm.specs.Rules.{rules, one_kind}
 use Rattle.fsbm.specs.declared.machine.Machine.{Machine}
 use Rattle.images.specs.Graph.{KindsOf}
 use Rattle.images.specs.declared.Kinds.{Kinds}
-use Rattle.pieces.specs.Pairs.{Pair, both, PairMove, NormalMove, Piece, moved, copied}
-use Rattle.pieces.specs.Blocks.{nothing, cell, cost_of, inside}
+use Rattle.pieces.specs.Pairs.{Pair, both, PairMove, NormalMove, Piece, moved}
+use Rattle.pieces.specs.Blocks.{nothing, cell, cost_of}
 use Rattle.pieces.specs.Blocks.Laws.{cost_inside, cost_past, block_copies}
 use Rattle.pieces.specs.Rounds.Laws.{NormalDone, CopiesDone, rounds_start, rounds_turn, rounds_looked, rounds_copied, rounds_end, stores_enters, copy_origin}
 use Rattle.blocks.specs.Numbers.{total}

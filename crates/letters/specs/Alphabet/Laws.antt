@@ -10,7 +10,7 @@
 -- gapless_true       == without a gap: each number from 1 to the largest is one of them
 -- gapless_few        == numbers without a gap are at least as many as the largest says
 use Prim.Native.Nat.{ℕ, zero, suc, ◌+◌, ◌<◌, ◌≤◌}
-use Rattle.std.specs.Prelude.{◌≡◌, ◌⊎◌, ◌↔◌, Bool, length, get_or, leb, ltb}
+use Rattle.std.specs.Prelude.{◌≡◌, ◌⊎◌, ◌↔◌, Bool, length, get_or, leb}
 use Rattle.std.proofs.Math.Path.{refl, ap}
 use Rattle.std.proofs.Common.{sym, ◌∙◌, subst, add-one, ext_get_or}
 use Rattle.std.proofs.Math.Logic.{inl, inr}
@@ -21,7 +21,7 @@ use native.Mathlib.Omega.{arith}
 use Rattle.std.proofs.Math.Dec.{eqb}
 use borrow.Author.Tests.{leb-true, leb-false, lt-ltb, eqb-true, eqb-false, eq-eqb}
 use Rattle.basics.specs.Bools.{same_truth}
-use Rattle.basics.specs.Search.{any_below, all_below, AllBelow, none, more}
+use Rattle.basics.specs.Search.{any_below, AllBelow, none, more}
 use Rattle.basics.specs.Search.Laws.{true_or_false, any_below_true, all_below_true}
 use Rattle.basics.specs.Each.{each_below}
 use Rattle.basics.specs.Each.Laws.{each_length, each_elem}

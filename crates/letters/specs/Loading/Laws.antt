@@ -12,27 +12,24 @@
 -- GoodLines text n     == the text has n lines, at most 250, without fault; lines-none == what that says
 -- load-iff             == a text loads exactly if its lines have no fault and its letters run from 1 without a gap
 -- letter-of            == the letter of each byte in the record
-use Prim.Native.Nat.{ℕ, zero, suc, ◌+◌, ◌*◌, ◌/◌, ◌<◌, ◌≤◌}
-use Rattle.std.specs.Prelude.{◌≡◌, ◌⊎◌, ◌↔◌, List, [], ◌∷◌, ◌++◌, Bool, true, false, ◌||◌, ◌&&◌, length, get_or, leb, ltb}
+use Prim.Native.Nat.{ℕ, zero, suc, ◌*◌, ◌<◌, ◌≤◌}
+use Rattle.std.specs.Prelude.{◌≡◌, ◌⊎◌, ◌↔◌, List, Bool, true, false, ◌&&◌, length, ltb}
 use Rattle.std.proofs.Math.Path.{refl, ap}
-use Rattle.std.proofs.Common.{sym, ◌∙◌, subst, append-nil, add-one}
+use Rattle.std.proofs.Common.{sym, ◌∙◌, subst}
 use Rattle.std.proofs.Math.Logic.{inl, inr}
 use Rattle.std.proofs.Math.Bool.{cond, not}
 use native.Mathlib.Omega.{arith}
 use Rattle.std.proofs.Math.Decide.{ℕ_discrete, dec_lt}
 use Rattle.std.proofs.Math.Dec.{eqb}
-use borrow.Author.Tests.{ltb-true, lt-ltb, eqb-true, eqb-false, eq-eqb, ne_eqb, not-true}
-use Rattle.basics.specs.Search.{any_below, all_below}
-use Rattle.basics.specs.Search.Laws.{true_or_false, or_true, or_false, and_true, and_both_true, any_below_true, any_below_false, all_below_true}
-use Rattle.basics.specs.Each.{each_below}
-use Rattle.basics.specs.Each.Laws.{each_elem}
+use borrow.Author.Tests.{ltb-true, lt-ltb, eqb-false, eq-eqb, ne_eqb, not-true}
+use Rattle.basics.specs.Search.Laws.{and_true, and_both_true, any_below_false}
 use Rattle.sheet.specs.Series.{or_else, first_of}
 use Rattle.sheet.specs.Series.Laws.{or_zero, first_zero}
-use Rattle.sheet.specs.Reading.{unless, column_at, line_fault}
+use Rattle.sheet.specs.Reading.{unless, line_fault}
 use Rattle.sheet.specs.Reading.Laws.{unless_zero}
-use Rattle.letters.specs.Alphabet.{byte_values, max_lines, letter_in, largest_of, gapless, lettered}
+use Rattle.letters.specs.Alphabet.{byte_values, max_lines, largest_of, gapless, lettered}
 use Rattle.letters.specs.Alphabet.Laws.{largest_bound, largest_below, lettered_same, gapless_both}
-use Rattle.letters.specs.Loading.{line_start, byte_at, letter_at, lines_begun, listed_before, entry_fault, letters_run, load_fault, last_of, letter_of, alphabet_of}
+use Rattle.letters.specs.Loading.{line_start, byte_at, lines_begun, listed_before, entry_fault, last_of}
 
 -- The letter of a byte
 

@@ -6,7 +6,6 @@ use Rattle.accepts.specs.Decision.{decision}
 use Rattle.lines.specs.Line.Laws.{short_line, turned_down, line_answered}
 use Rattle.lines.specs.Steps.{as_byte, answer_of}
 use Rattle.lines.proofs.LineCases.{as_byte_kept, as_byte_good}
-use borrow.Author.Rules.{rules}
 use Rattle.lines.proofs.answer_line.Goals as goal
 
 pub read_word-refusal-requires : goal.read_word-refusal-requires

@@ -1,6 +1,5 @@
 use mathlib.Core.Path.{sym, ap}
 use Rattle.lines.specs.Steps.{answer_of}
-use borrow.Author.Rules.{rules}
 use Rattle.lines.proofs.answer_of.Goals as goal
 
 pub returns-in-Refused : goal.returns-in-Refused

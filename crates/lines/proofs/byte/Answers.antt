@@ -1,7 +1,6 @@
 use mathlib.Core.Path.{refl}
 use borrow.Author.Tests.{le-leb, lt-leb}
 use Rattle.basics.specs.Search.Loops.{first, second}
-use borrow.Author.Rules.{rules}
 use Rattle.lines.proofs.byte.Goals as goal
 
 pub returns-then-v-gt255 : goal.returns-then-v-gt255

@@ -1,10 +1,9 @@
-use Prim.Native.Nat.{◌-◌, ◌/◌}
-use mathlib.Core.Path.{◌≡◌, refl, ◌∙◌}
+use Prim.Native.Nat.{◌/◌}
+use mathlib.Core.Path.{refl, ◌∙◌}
 use native.Mathlib.Omega.{arith}
 use lib.ListN.{length, length-set}
 use Rattle.lines.specs.Line.{letter_at}
-use Rattle.lines.proofs.LineCases.{Read, read_none, read_stops, read_more, word_refused, word_taken, fault_long, fault_part, fault_column}
-use borrow.Author.Rules.{rules}
+use Rattle.lines.proofs.LineCases.{read_none, read_stops, read_more, word_refused, word_taken, fault_long, fault_part, fault_column}
 use Rattle.lines.proofs.read_word.Goals as goal
 
 pub returns-then-line-gt-LONGEST : goal.returns-then-line-gt-LONGEST

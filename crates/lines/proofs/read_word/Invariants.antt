@@ -1,10 +1,7 @@
-use Prim.Native.Nat.{◌-◌, ◌/◌}
-use mathlib.Core.Path.{◌≡◌, refl, ◌∙◌}
-use native.Mathlib.Omega.{arith}
-use lib.ListN.{length, length-set}
-use Rattle.lines.specs.Line.{letter_at}
-use Rattle.lines.proofs.LineCases.{Read, read_none, read_stops, read_more, word_refused, word_taken, fault_long, fault_part, fault_column}
-use borrow.Author.Rules.{rules}
+use Prim.Native.Nat.{◌-◌}
+use mathlib.Core.Path.{◌≡◌}
+use lib.ListN.{length}
+use Rattle.lines.proofs.LineCases.{Read}
 use Rattle.lines.proofs.read_word.Given as goal
 
 abbrev pub invariant-loop-k : goal.invariant-loop-k

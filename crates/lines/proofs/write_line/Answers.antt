@@ -5,7 +5,6 @@ use Rattle.lines.proofs.LineCases.{line_length}
 use mathlib.Core.Path.{◌∙◌, ap}
 use lib.ListN.{length}
 use Rattle.lines.proofs.LineCases.{line_written}
-use borrow.Author.Rules.{rules}
 use Rattle.lines.proofs.write_line.Goals as goal
 
 pub shape_of-out : goal.shape_of-out

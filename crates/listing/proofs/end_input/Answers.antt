@@ -1,7 +1,6 @@
 use mathlib.Core.Path.{sym}
 use lib.Seq.{length-take-le}
 use Rattle.listing.proofs.OutputCases.{last_fits, last_bytes}
-use borrow.Author.Rules.{rules}
 use Rattle.listing.proofs.end_input.Goals as goal
 
 pub slice_bounds-write_end-end : goal.slice_bounds-write_end-end

@@ -1,6 +1,5 @@
 use mathlib.Core.Path.{sym, ◌∙◌}
 use Rattle.listing.proofs.OutputCases.{done_none, done_full, done_else}
-use borrow.Author.Rules.{rules}
 use Rattle.listing.proofs.is_done.Goals as goal
 
 pub returns-then-t-eq0 : goal.returns-then-t-eq0

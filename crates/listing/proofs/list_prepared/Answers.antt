@@ -1,7 +1,6 @@
 use Rattle.fsbm.specs.Rules.{rules as rules_of}
 use native.Mathlib.Omega.{arith}
 use Rattle.targets.specs.Prepared.Laws.{product_small}
-use borrow.Author.Rules.{rules}
 use Rattle.listing.proofs.list_prepared.Goals as goal
 
 pub prepare-kinds-requires : goal.prepare-kinds-requires

@@ -1,7 +1,6 @@
 use mathlib.Core.Path.{sym}
 use native.Mathlib.Omega.{arith}
 use Rattle.accepts.specs.Ready.Laws.{working_start}
-use borrow.Author.Rules.{rules}
 use Rattle.listing.proofs.list_words.Goals as goal
 
 pub take_input-t-requires : goal.take_input-t-requires

@@ -1,13 +1,10 @@
 use Prim.Native.Nat.{◌≤◌}
-use mathlib.Core.Path.{◌≡◌, refl, sym, ◌∙◌}
-use mathlib.Core.Bool.{true, false}
-use native.Mathlib.Omega.{arith}
+use mathlib.Core.Path.{◌≡◌}
+use mathlib.Core.Bool.{false}
 use lib.ListN.{length}
 use Rattle.stream.specs.Pieces.{most_kept}
 use Rattle.listing.specs.Output.{HeldAfter}
-use Rattle.listing.proofs.OutputCases.{reached_begin, reached_more, ready_same, done_closed, still_open}
 use Rattle.accepts.specs.Ready.{Working}
-use borrow.Author.Rules.{rules}
 use Rattle.listing.proofs.take_input.Given as goal
 
 abbrev pub invariant-loop-turns : goal.invariant-loop-turns

@@ -1,5 +1,4 @@
 use Rattle.page.proofs.PageCases.{taken, turned}
-use borrow.Author.Rules.{rules}
 use Rattle.page.proofs.after_entry.Goals as goal
 
 pub returns-then-transitions-k : goal.returns-then-transitions-k

@@ -1,9 +1,7 @@
 use mathlib.Core.Logic.{inr}
 use Rattle.page.specs.Page.Laws.{fault_table, fault_length}
 use Rattle.page.proofs.PageCases.{fault_word}
-use borrow.Author.Tests.{not-true, not-false}
 use mathlib.Core.Path.{sym, ◌∙◌}
-use borrow.Author.Rules.{rules}
 use Rattle.page.proofs.fault.Goals as goal
 
 pub returns-then-not-is_well_formed : goal.returns-then-not-is_well_formed

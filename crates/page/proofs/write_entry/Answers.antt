@@ -7,7 +7,6 @@ use native.Mathlib.Omega.{arith}
 use Prim.Native.Nat.{ℕ, ◌+◌, ◌-◌}
 use Rattle.fsbm.specs.Moves.{mode_number}
 use Rattle.fsbm.specs.Moves.Laws.{mode_below}
-use borrow.Author.Rules.{rules}
 use Rattle.page.proofs.write_entry.Goals as goal
 
 pub write_wide_shorter-requires-2 : goal.write_wide_shorter-requires-2

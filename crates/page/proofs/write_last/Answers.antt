@@ -1,7 +1,6 @@
 use Rattle.page.proofs.PageCases.{last_line}
 use lib.ListN.{length-set}
 use mathlib.Core.Path.{◌∙◌}
-use borrow.Author.Rules.{rules}
 use Rattle.page.proofs.write_last.Goals as goal
 
 pub shape_of-page : goal.shape_of-page

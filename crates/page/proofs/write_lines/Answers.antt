@@ -1,9 +1,6 @@
-use Rattle.page.proofs.PageCases.{Following, Extends, extends_next, follow_start, follow_placed, follow_ranges, follow_on, follow_here, follow_next, follow_end, laid_first, laid_end}
-use Prim.Native.Nat.{◌*◌, ◌-◌}
-use mathlib.Core.Path.{◌≡◌, refl, sym, ◌∙◌}
-use lib.ListN.{length}
+use Rattle.page.proofs.PageCases.{extends_next, follow_start, follow_placed, follow_ranges, follow_on, follow_here, follow_next, follow_end, laid_first, laid_end}
+use mathlib.Core.Path.{refl, sym, ◌∙◌}
 use native.Mathlib.Omega.{arith}
-use borrow.Author.Rules.{rules}
 use Rattle.fsbm.specs.Rules.{rules as rules_of}
 use Rattle.page.specs.Page.Laws.{some_entry}
 use Rattle.page.proofs.write_lines.Goals as goal

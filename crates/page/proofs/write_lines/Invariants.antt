@@ -1,11 +1,7 @@
-use Rattle.page.proofs.PageCases.{Following, Extends, extends_next, follow_start, follow_placed, follow_ranges, follow_on, follow_here, follow_next, follow_end, laid_first, laid_end}
+use Rattle.page.proofs.PageCases.{Following, Extends}
 use Prim.Native.Nat.{◌*◌, ◌-◌}
-use mathlib.Core.Path.{◌≡◌, refl, sym, ◌∙◌}
+use mathlib.Core.Path.{◌≡◌}
 use lib.ListN.{length}
-use native.Mathlib.Omega.{arith}
-use borrow.Author.Rules.{rules}
-use Rattle.fsbm.specs.Rules.{rules as rules_of}
-use Rattle.page.specs.Page.Laws.{some_entry}
 use Rattle.page.proofs.write_lines.Given as goal
 
 abbrev pub invariant-loop-i : goal.invariant-loop-i

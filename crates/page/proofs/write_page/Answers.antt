@@ -1,8 +1,6 @@
 use Rattle.page.proofs.PageCases.{early, tested, not_accepting, no_room, laid, page_says}
 use mathlib.Core.Path.{sym, ◌∙◌}
 use native.Mathlib.Omega.{arith}
-use borrow.Author.Tests.{not-true, not-false}
-use borrow.Author.Rules.{rules}
 use Rattle.page.proofs.write_page.Goals as goal
 
 pub returns-then-number-ne0 : goal.returns-then-number-ne0

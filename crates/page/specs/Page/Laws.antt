@@ -9,7 +9,7 @@
 -- fault_table, fault_length, fault_letter, fault_none == the first refusals: 16, 9, 8; none, exactly if all of that is good
 -- Leaves r after       == write_page answers r and leaves after in the slice
 -- refused_first, refused_run, refused_room, written_all == it does so, in its four cases: by 16, 9 or 8; by 14; by 19; or the page
-use Prim.Native.Nat.{ℕ, zero, suc, ◌+◌, ◌*◌, ◌≤◌, ◌<◌}
+use Prim.Native.Nat.{ℕ, zero, suc, ◌*◌, ◌≤◌, ◌<◌}
 use Rattle.std.proofs.Math.Path.{◌≡◌, refl, sym, ap, subst}
 use Rattle.std.proofs.Common.{◌∙◌, inl, inr, drop-cons}
 use Rattle.std.specs.Prelude.{◌↔◌, ◌⊎◌, Bool, ◌&&◌, drop, ltb}

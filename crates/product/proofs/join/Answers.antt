@@ -1,10 +1,7 @@
-use Prim.Native.Nat.{◌-◌}
 use mathlib.Core.Path.{sym, ◌∙◌}
 use native.Mathlib.Omega.{arith}
-use lib.ListN.{length}
 use Rattle.product.specs.Tables.{joinable}
 use Rattle.product.proofs.JoinCases.{refused_fault, refused_room, long_enough, joins}
-use borrow.Author.Rules.{rules}
 use Rattle.product.proofs.join.Goals as goal
 
 pub returns-then-number-ne0 : goal.returns-then-number-ne0

@@ -1,5 +1,4 @@
 use Rattle.basics.specs.Lists.Laws.{zeros_at}
-use borrow.Author.Rules.{rules}
 use Rattle.recognize.proofs.answer_medium.Goals as goal
 
 pub answer_with-requires : goal.answer_with-requires

@@ -5,7 +5,6 @@ use Rattle.fsbm.proofs.AnswerCases.{table_good}
 use Rattle.fsbm.specs.Rules.{rules as rules_of}
 use Rattle.recognize.proofs.RecognizeCases.{says_no_lem, says_yes, fewest_front}
 use native.Mathlib.Omega.{arith}
-use borrow.Author.Rules.{rules}
 use Rattle.recognize.proofs.answer_small.Goals as goal
 
 pub kinds_of-kinds-requires : goal.kinds_of-kinds-requires

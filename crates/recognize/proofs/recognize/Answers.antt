@@ -5,7 +5,6 @@ use Rattle.fsbm.proofs.AnswerCases.{table_good}
 use Rattle.targets.specs.Prepared.Laws.{product_small}
 use Rattle.fsbm.specs.Accepted.{run_bound}
 use mathlib.Core.Path.{refl, sym, ◌∙◌}
-use borrow.Author.Rules.{rules}
 use Rattle.recognize.proofs.recognize.Goals as goal
 
 pub returns-then-number-ne0 : goal.returns-then-number-ne0

@@ -1,6 +1,5 @@
 use native.Mathlib.Omega.{arith}
 use Rattle.found.proofs.SearchCases.{join_refuses, join_gives, fault}
-use borrow.Author.Rules.{rules}
 use Rattle.search.proofs.common_word.Goals as goal
 
 pub returns-then-refusal-ne0 : goal.returns-then-refusal-ne0

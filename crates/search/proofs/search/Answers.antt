@@ -3,7 +3,6 @@ use Rattle.fsbm.specs.Rules.{rules as rules_of}
 use Rattle.blocks.specs.Works.Laws.{kind_buffering, ready_of}
 use Rattle.found.proofs.SearchCases.{joined_good, none}
 use Rattle.search.proofs.BarrenCases.{barren_past}
-use borrow.Author.Rules.{rules}
 use Rattle.search.proofs.search.Goals as goal
 
 pub kinds_of-kinds-requires : goal.kinds_of-kinds-requires

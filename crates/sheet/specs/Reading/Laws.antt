@@ -6,7 +6,7 @@
 -- state_none, transition_none == the line of a state, of a transition, without fault
 -- Header, header_none == line one without fault
 -- Sound, no_fault  == a sheet without fault: line one, the lines of the states, those of the transitions, nothing more
-use Prim.Native.Nat.{ℕ, zero, ◌+◌, ◌*◌, ◌-◌, ◌/◌, ◌%◌, ◌<◌, ◌≤◌}
+use Prim.Native.Nat.{ℕ, ◌+◌, ◌*◌, ◌-◌, ◌/◌, ◌%◌, ◌<◌, ◌≤◌}
 use Rattle.std.specs.Prelude.{◌≡◌, refl, ◌⊎◌, ◌↔◌, List, Bool, true, false, cond, not, ◌&&◌, ◌||◌, length, get_or, leb, eqb}
 use Rattle.std.proofs.Common.{sym, ◌∙◌, inl, inr, arith}
 use Rattle.std.proofs.Math.Path.{ap}

@@ -5,7 +5,7 @@
 -- first_at              == the first fault is the one at k, where none stands below k
 -- first_next            == no fault below k and none at k: none below k + 1
 -- first_zero            == no fault below n, if and only if none at any k < n
-use Rattle.std.specs.Prelude.{ℕ, zero, suc, ◌+◌, ◌-◌, ◌<◌, ◌≡◌, refl, ◌↔◌}
+use Rattle.std.specs.Prelude.{ℕ, zero, suc, ◌+◌, ◌<◌, ◌≡◌, refl, ◌↔◌}
 use Rattle.std.proofs.Common.{sym, ap, ◌∙◌, arith, add-one}
 use Rattle.std.proofs.Math.Decide.{ℕ_discrete}
 use Rattle.sheet.specs.Series.{or_else, first_of}

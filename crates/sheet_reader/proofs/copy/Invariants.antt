@@ -1,9 +1,7 @@
 use Prim.Native.Nat.{◌≤◌, ◌-◌}
-use mathlib.Core.Path.{◌≡◌, refl, ◌∙◌}
-use native.Mathlib.Omega.{arith}
-use lib.ListN.{length, take, length-set}
+use mathlib.Core.Path.{◌≡◌}
+use lib.ListN.{length, take}
 use Rattle.basics.specs.Lists.{put}
-use Rattle.basics.specs.Lists.Laws.{put_none, copied_more, copied}
 use Rattle.sheet_reader.proofs.copy.Given as goal
 
 abbrev pub invariant-loop-i : goal.invariant-loop-i

@@ -1,6 +1,5 @@
 use native.Mathlib.Omega.{arith}
 use Rattle.sheet_reader.proofs.ReadCases.{counted}
-use borrow.Author.Rules.{rules}
 use Rattle.sheet_reader.proofs.read_many.Goals as goal
 
 pub read_rest-requires : goal.read_rest-requires

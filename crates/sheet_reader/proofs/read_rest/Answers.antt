@@ -3,7 +3,6 @@ use mathlib.Core.Path.{◌≡◌, sym, ◌∙◌}
 use native.Mathlib.Omega.{arith}
 use lib.Seq.{length-take-le}
 use Rattle.sheet_reader.proofs.ReadCases.{counted, fault_state, fault_transition, fault_bytes, fault_none, list_copied, rest_fault_lem, rest_short, rest_read}
-use borrow.Author.Rules.{rules}
 use Rattle.sheet_reader.proofs.read_rest.Goals as goal
 
 pub read_states-state_fault-requires : goal.read_states-state_fault-requires

@@ -1,6 +1,5 @@
 use Rattle.sheet_reader.proofs.ReadCases.{fault_header, rest_fault_lem, answer_refused, answer_read}
 use mathlib.Core.List.{[]}
-use borrow.Author.Rules.{rules}
 use Rattle.sheet_reader.proofs.read_sheet.Goals as goal
 
 pub returns-then-header-ne0 : goal.returns-then-header-ne0

@@ -5,7 +5,6 @@ use lib.ListN.{length}
 use Rattle.basics.specs.Lists.Laws.{put_length}
 use Rattle.columns.specs.Line.{line_of}
 use Rattle.sheet_writer.proofs.WriteCases.{line_three, length_three}
-use borrow.Author.Rules.{rules}
 use Rattle.sheet_writer.proofs.write_header.Goals as goal
 
 pub bounds-sheet-15 : goal.bounds-sheet-15

@@ -1,9 +1,6 @@
 use Rattle.sheet_writer.proofs.WriteCases.{write_ill, write_short, write_long, write_says, sheet_put, well_formed_counts, well_formed_letters, well_formed_short}
-use borrow.Author.Tests.{not-true, not-false}
-use lib.ListN.{length}
 use native.Mathlib.Omega.{arith}
 use mathlib.Core.Path.{refl}
-use borrow.Author.Rules.{rules}
 use Rattle.sheet_writer.proofs.write_sheet.Goals as goal
 
 pub returns-then-not-is_well_formed : goal.returns-then-not-is_well_formed

@@ -2,13 +2,8 @@ use Rattle.sheet_writer.proofs.WriteCases.{state_piece}
 use Rattle.basics.specs.Each.Laws.{each_none, each_more, each_done}
 use Rattle.sheet.specs.Format.Laws.{state_wide}
 use Rattle.sheet.specs.Format.{state_line}
-use Rattle.basics.specs.Each.{each_below}
-use Rattle.basics.specs.Lists.{put}
-use borrow.Author.Rules.{rules}
-use lib.ListN.{length}
 use native.Mathlib.Omega.{arith}
-use mathlib.Core.Path.{◌≡◌, refl, ◌∙◌}
-use Prim.Native.Nat.{◌≤◌, ◌+◌, ◌-◌, ◌*◌}
+use mathlib.Core.Path.{refl, ◌∙◌}
 use Rattle.sheet_writer.proofs.write_states.Goals as goal
 
 pub loop-q-init : goal.loop-q-init

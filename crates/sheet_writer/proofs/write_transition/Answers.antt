@@ -5,7 +5,6 @@ use lib.ListN.{length}
 use Rattle.basics.specs.Lists.Laws.{put_length}
 use Rattle.columns.specs.Line.{line_of}
 use Rattle.sheet_writer.proofs.WriteCases.{line_three, length_three}
-use borrow.Author.Rules.{rules}
 use Rattle.sheet_writer.proofs.write_transition.Goals as goal
 
 pub bounds-sheet-at : goal.bounds-sheet-at

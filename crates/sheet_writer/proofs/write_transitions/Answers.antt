@@ -2,12 +2,8 @@ use Rattle.sheet_writer.proofs.WriteCases.{transition_piece}
 use Rattle.basics.specs.Each.Laws.{each_none, each_more, each_done}
 use Rattle.sheet.specs.Format.Laws.{transition_wide}
 use Rattle.sheet.specs.Format.{transition_line}
-use Rattle.basics.specs.Each.{each_below}
-use Rattle.basics.specs.Lists.{put}
-use lib.ListN.{length}
 use native.Mathlib.Omega.{arith}
-use mathlib.Core.Path.{◌≡◌, refl, ◌∙◌}
-use Prim.Native.Nat.{◌≤◌, ◌+◌, ◌-◌, ◌*◌}
+use mathlib.Core.Path.{refl, ◌∙◌}
 use Rattle.sheet_writer.proofs.write_transitions.Goals as goal
 
 pub loop-k-init : goal.loop-k-init

@@ -10,7 +10,6 @@ use mathlib.Core.List.{List, [], ◌∷◌, ◌++◌, append_assoc, append-nil}
 use native.Mathlib.Omega.{arith}
 use Rattle.std.proofs.Math.ListN.{length-append}
 use Rattle.basics.specs.Lists.Laws.{drop_set}
-use Rattle.fsbm.specs.Machine.{matching}
 use Rattle.fsbm.specs.Moves.{begin_buffering, begin_emptying, back_to_normal}
 use Rattle.fsbm.specs.declared.machine.Machine.{Machine}
 use Rattle.pieces.specs.Pieces.{stored, matched, ended, copy}

@@ -1,10 +1,7 @@
-use Prim.Native.Nat.{◌≤◌, ◌-◌}
-use mathlib.Core.Path.{◌≡◌, refl}
+use mathlib.Core.Path.{refl}
 use native.Mathlib.Omega.{arith}
-use lib.ListN.{length, drop, get_or}
-use borrow.Author.Rules.{rules}
+use lib.ListN.{get_or}
 use mathlib.Core.Bool.{true, false}
-use Rattle.basics.specs.Search.{all_in}
 use Rattle.basics.specs.Search.Loops.{in_fails, in_goes_on, in_done}
 use Rattle.spelling.specs.Spelling.{has_letter}
 use Rattle.spelling.proofs.SpellingCases.{letter_none, letter_some}

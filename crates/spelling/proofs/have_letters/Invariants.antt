@@ -1,13 +1,8 @@
 use Prim.Native.Nat.{◌≤◌, ◌-◌}
-use mathlib.Core.Path.{◌≡◌, refl}
-use native.Mathlib.Omega.{arith}
-use lib.ListN.{length, drop, get_or}
-use borrow.Author.Rules.{rules}
-use mathlib.Core.Bool.{true, false}
+use mathlib.Core.Path.{◌≡◌}
+use lib.ListN.{length, drop}
 use Rattle.basics.specs.Search.{all_in}
-use Rattle.basics.specs.Search.Loops.{in_fails, in_goes_on, in_done}
 use Rattle.spelling.specs.Spelling.{has_letter}
-use Rattle.spelling.proofs.SpellingCases.{letter_none, letter_some}
 use Rattle.spelling.proofs.have_letters.Given as goal
 
 abbrev pub invariant-loop-i : goal.invariant-loop-i

@@ -1,6 +1,5 @@
 use native.Mathlib.Omega.{arith}
 use Rattle.spelling.proofs.SpellingCases.{letters, letter_rule}
-use borrow.Author.Rules.{rules}
 use Rattle.spelling.proofs.letter.Goals as goal
 
 pub returns : goal.returns

@@ -1,6 +1,4 @@
-use borrow.Author.Tests.{not-true, not-false}
 use Rattle.spelling.proofs.SpellingCases.{translate_long, translate_unknown, translate_short, translate_done, translate_says}
-use borrow.Author.Rules.{rules}
 use Rattle.spelling.proofs.translate.Goals as goal
 
 pub returns-then-n-gt255 : goal.returns-then-n-gt255

@@ -1,10 +1,6 @@
-use Prim.Native.Nat.{◌≤◌, ◌-◌}
-use mathlib.Core.Path.{◌≡◌, refl, ◌∙◌}
-use mathlib.Core.List.{◌++◌, map}
+use mathlib.Core.Path.{refl, ◌∙◌}
 use native.Mathlib.Omega.{arith}
-use lib.ListN.{length, take, drop, length-set}
-use borrow.Author.Rules.{rules}
-use Rattle.spelling.specs.Spelling.{letter_of}
+use lib.ListN.{length-set}
 use Rattle.spelling.proofs.SpellingCases.{letters_more, letters_done}
 use Rattle.spelling.proofs.write_letters.Goals as goal
 

@@ -1,11 +1,8 @@
 use Prim.Native.Nat.{◌≤◌, ◌-◌}
-use mathlib.Core.Path.{◌≡◌, refl, ◌∙◌}
+use mathlib.Core.Path.{◌≡◌}
 use mathlib.Core.List.{◌++◌, map}
-use native.Mathlib.Omega.{arith}
-use lib.ListN.{length, take, drop, length-set}
-use borrow.Author.Rules.{rules}
+use lib.ListN.{length, take, drop}
 use Rattle.spelling.specs.Spelling.{letter_of}
-use Rattle.spelling.proofs.SpellingCases.{letters_more, letters_done}
 use Rattle.spelling.proofs.write_letters.Given as goal
 
 abbrev pub invariant-loop-i : goal.invariant-loop-i

@@ -1,8 +1,6 @@
-use Prim.Native.Nat.{◌≤◌, ◌-◌}
-use mathlib.Core.Path.{◌≡◌, refl, ◌∙◌}
+use mathlib.Core.Path.{refl, ◌∙◌}
 use native.Mathlib.Omega.{arith}
-use lib.ListN.{length, take, length-set}
-use Rattle.basics.specs.Lists.{put}
+use lib.ListN.{length-set}
 use Rattle.basics.specs.Lists.Laws.{put_none, copied_more, copied}
 use Rattle.stream.proofs.copy.Goals as goal
 

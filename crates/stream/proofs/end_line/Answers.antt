@@ -4,7 +4,6 @@ use lib.Seq.{length-take-le}
 use lib.ListN.{take}
 use Rattle.stream.proofs.PieceCases.{line_printed}
 use native.Mathlib.Omega.{arith}
-use borrow.Author.Rules.{rules}
 use Rattle.stream.proofs.end_line.Goals as goal
 
 pub slice_bounds-answer_line-end : goal.slice_bounds-answer_line-end

@@ -1,5 +1,4 @@
 use Rattle.stream.proofs.PieceCases.{end_full, end_empty, end_last}
-use borrow.Author.Rules.{rules}
 use Rattle.stream.proofs.finish.Goals as goal
 
 pub returns-then-held-ge-MOST_WORDS : goal.returns-then-held-ge-MOST_WORDS

@@ -1,5 +1,4 @@
 use Rattle.stream.proofs.PieceCases.{kept_full, kept_more}
-use borrow.Author.Rules.{rules}
 use Rattle.stream.proofs.keep.Goals as goal
 
 pub returns-then-line-kept : goal.returns-then-line-kept

@@ -1,5 +1,4 @@
 use Rattle.stream.proofs.PieceCases.{open_refused, open_good}
-use borrow.Author.Rules.{rules}
 use Rattle.stream.proofs.open.Goals as goal
 
 pub returns-then-number-ne0 : goal.returns-then-number-ne0

@@ -1,6 +1,5 @@
 use Rattle.stream.proofs.PieceCases.{byte_full, byte_end, byte_more}
 use native.Mathlib.Omega.{arith}
-use borrow.Author.Rules.{rules}
 use Rattle.stream.proofs.take_byte.Goals as goal
 
 pub returns-then-p-ge-MOST_WORDS : goal.returns-then-p-ge-MOST_WORDS

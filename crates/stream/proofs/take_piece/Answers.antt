@@ -1,10 +1,6 @@
-use Prim.Native.Nat.{◌≤◌, ◌-◌}
-use mathlib.Core.Path.{◌≡◌, refl, ◌∙◌}
+use mathlib.Core.Path.{refl, ◌∙◌}
 use native.Mathlib.Omega.{arith}
-use lib.ListN.{length, take}
-use Rattle.stream.specs.Calls.{PieceTaken}
 use Rattle.stream.proofs.PieceCases.{piece_none, piece_lent, piece_more, piece_done}
-use Rattle.accepts.specs.Ready.{Working}
 use Rattle.stream.proofs.take_piece.Goals as goal
 
 pub loop-i-init : goal.loop-i-init

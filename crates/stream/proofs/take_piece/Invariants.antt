@@ -1,9 +1,7 @@
 use Prim.Native.Nat.{◌≤◌, ◌-◌}
-use mathlib.Core.Path.{◌≡◌, refl, ◌∙◌}
-use native.Mathlib.Omega.{arith}
+use mathlib.Core.Path.{◌≡◌}
 use lib.ListN.{length, take}
 use Rattle.stream.specs.Calls.{PieceTaken}
-use Rattle.stream.proofs.PieceCases.{piece_none, piece_lent, piece_more, piece_done}
 use Rattle.accepts.specs.Ready.{Working}
 use Rattle.stream.proofs.take_piece.Given as goal
 

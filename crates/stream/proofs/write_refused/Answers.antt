@@ -2,7 +2,6 @@ use lib.ListN.{length-set}
 use mathlib.Core.Path.{◌∙◌}
 use Rattle.stream.specs.Listing.{sheet_refused}
 use Rattle.stream.proofs.PieceCases.{refused_written}
-use borrow.Author.Rules.{rules}
 use Rattle.stream.proofs.write_refused.Goals as goal
 
 pub shape_of-out : goal.shape_of-out

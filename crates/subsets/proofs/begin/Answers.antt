@@ -3,7 +3,6 @@ use native.Mathlib.Omega.{arith}
 use Rattle.images.specs.Graph.{graph}
 use lib.ListN.{get_or}
 use Rattle.subsets.specs.Rows.Laws.{row_taken, found_right, found_some, image_begun}
-use borrow.Author.Rules.{rules}
 use Rattle.subsets.proofs.begin.Goals as goal
 
 pub known-row-requires : goal.known-row-requires

@@ -5,7 +5,6 @@ use Rattle.images.specs.Graph.{Members, From, Free, graph}
 use Rattle.images.proofs.SetCases.{members_is}
 use Rattle.subsets.specs.Rows.{Begun}
 use Rattle.subsets.specs.Rows.Laws.{begun_from}
-use borrow.Author.Rules.{rules}
 use Rattle.subsets.proofs.begun.Goals as goal
 
 pub returns-in-Normal : goal.returns-in-Normal

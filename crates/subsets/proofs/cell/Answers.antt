@@ -2,7 +2,6 @@ use mathlib.Core.Path.{ap}
 use Prim.Native.Nat.{ℕ, ◌+◌, ◌*◌}
 use native.Mathlib.Omega.{arith}
 use Rattle.subsets.specs.Rows.Laws.{cell_small}
-use borrow.Author.Rules.{rules}
 use Rattle.subsets.proofs.cell.Goals as goal
 
 pub overflow_mul-result-2 : goal.overflow_mul-result-2

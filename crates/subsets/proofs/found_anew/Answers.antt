@@ -2,7 +2,6 @@ use Prim.Native.Nat.{ℕ}
 use mathlib.Core.Path.{sym, subst}
 use Rattle.images.specs.Graph.{Members, From, graph}
 use Rattle.subsets.specs.Rows.{Image}
-use borrow.Author.Rules.{rules}
 use Rattle.subsets.proofs.found_anew.Goals as goal
 
 pub returns : goal.returns

@@ -3,7 +3,6 @@ use mathlib.Core.Bool.{true, false, false≢true}
 use native.Mathlib.Omega.{arith}
 use Prim.Native.Nat.{◌+◌, ◌*◌}
 use Rattle.subsets.specs.Rows.Laws.{cell_small}
-use borrow.Author.Rules.{rules}
 use Rattle.subsets.proofs.has_room.Goals as goal
 
 pub returns-then-rows-taken : goal.returns-then-rows-taken

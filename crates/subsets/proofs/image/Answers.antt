@@ -2,7 +2,6 @@ use Prim.Native.Nat.{◌-◌}
 use native.Mathlib.Omega.{arith}
 use Rattle.images.specs.Graph.{graph}
 use Rattle.subsets.specs.Rows.Laws.{begun_image, reads_image}
-use borrow.Author.Rules.{rules}
 use Rattle.subsets.proofs.image.Goals as goal
 
 pub returns-then-column-eq0 : goal.returns-then-column-eq0

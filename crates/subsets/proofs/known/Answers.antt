@@ -1,11 +1,9 @@
 use mathlib.Core.Path.{refl, ap}
 use mathlib.Core.Logic.{inl}
 use native.Mathlib.Omega.{arith}
-use borrow.Author.Tests.{not-false}
 use Prim.Native.Nat.{ℕ}
 use lib.ListN.{get_or}
 use Rattle.subsets.specs.Rows.Laws.{cell_inside, found_or}
-use borrow.Author.Rules.{rules}
 use Rattle.subsets.proofs.known.Goals as goal
 
 pub returns-then-columns-column : goal.returns-then-columns-column

@@ -4,7 +4,6 @@ use Rattle.fsbm.specs.declared.config.Mode.TheVariants.{Normal}
 use Rattle.images.specs.Graph.{Members, From, Edge, graph}
 use Rattle.subsets.specs.Rows.{Reads}
 use Rattle.subsets.specs.Rows.Laws.{reads_normal}
-use borrow.Author.Rules.{rules}
 use Rattle.subsets.proofs.lettered.Goals as goal
 
 pub returns-in-Normal : goal.returns-in-Normal

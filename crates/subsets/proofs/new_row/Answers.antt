@@ -1,9 +1,7 @@
 use mathlib.Core.Path.{refl}
 use mathlib.Core.Logic.{inl}
 use native.Mathlib.Omega.{arith}
-use borrow.Author.Tests.{not-false}
 use Rattle.subsets.specs.Rows.Laws.{row_made, row_same}
-use borrow.Author.Rules.{rules}
 use Rattle.subsets.proofs.new_row.Goals as goal
 
 pub returns-then-taken-eq0 : goal.returns-then-taken-eq0

@@ -1,12 +1,10 @@
 use mathlib.Core.Path.{sym}
 use Prim.Native.Nat.{ℕ}
 use native.Mathlib.Omega.{arith}
-use borrow.Author.Tests.{not-false}
 use lib.ListN.{set}
 use mathlib.Core.Path.{subst}
 use Rattle.subsets.specs.Rows.{Noted}
 use Rattle.subsets.specs.Rows.Laws.{cell_inside, step_noted, has_some}
-use borrow.Author.Rules.{rules}
 use Rattle.subsets.proofs.note.Goals as goal
 
 pub overflow_cast-steps : goal.overflow_cast-steps

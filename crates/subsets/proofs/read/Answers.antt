@@ -4,7 +4,6 @@ use native.Mathlib.Omega.{arith}
 use lib.ListN.{get_or}
 use Rattle.images.specs.Graph.{graph, Room}
 use Rattle.subsets.specs.Rows.Laws.{row_taken, found_right, found_some, image_reads}
-use borrow.Author.Rules.{rules}
 use Rattle.subsets.proofs.read.Goals as goal
 
 pub known-row-requires : goal.known-row-requires

@@ -3,7 +3,6 @@ use mathlib.Core.Logic.{inl, inr}
 use native.Mathlib.Omega.{arith}
 use Prim.Native.Nat.{◌%◌}
 use Rattle.subsets.specs.Rows.Laws.{row_same}
-use borrow.Author.Rules.{rules}
 use Rattle.subsets.proofs.row_for.Goals as goal
 
 pub returns-then-steps-slot : goal.returns-then-steps-slot

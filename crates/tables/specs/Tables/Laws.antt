@@ -25,7 +25,7 @@ use Rattle.fsbm.specs.declared.machine.Machine.{Machine}
 use Rattle.fsbm.specs.declared.config.Mode.{Mode}
 use Rattle.fsbm.specs.declared.config.Mode.TheVariants.{Normal, Buffering, Emptying}
 use Rattle.fsbm.specs.Rules.{Rules}
-use Rattle.layers.specs.Costs.{Near, at, Go, RowBest}
+use Rattle.layers.specs.Costs.{Near, Go, RowBest}
 use Rattle.layers.specs.Costs.Laws.{Fits, go_fit, best_none}
 use Rattle.layers.specs.Layers.{head_of, tail_of, blank_row, EmptyingLayer, BufferingLayer, Begins, PositionLayer, PositionBest}
 use Rattle.layers.specs.Layers.Laws.{blank_at, blank_emptying}

@@ -1,6 +1,5 @@
 use Rattle.images.proofs.SetCases.{members_is}
 use Rattle.targets.specs.Prepared.Laws.{closing_end}
-use borrow.Author.Rules.{rules}
 use Rattle.targets.proofs.close_states.Goals as goal
 
 pub returns : goal.returns

@@ -1,7 +1,6 @@
 use Rattle.fsbm.specs.Rules.{rules as rules_of}
 use Rattle.targets.specs.Prepared.Laws.{made}
 use native.Mathlib.Omega.{arith}
-use borrow.Author.Rules.{rules}
 use Rattle.targets.proofs.fill.Goals as goal
 
 pub sources-set-requires : goal.sources-set-requires

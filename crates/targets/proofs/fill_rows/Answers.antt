@@ -1,10 +1,6 @@
 use Rattle.targets.specs.Prepared.{Filled}
 use Rattle.targets.specs.Prepared.Laws.{inside_at, filled_start}
-use Rattle.fsbm.specs.Machine.{well_formed}
-use mathlib.Core.Path.{◌≡◌, refl, ◌∙◌, subst}
-use mathlib.Core.Bool.{true}
-use Prim.Native.Nat.{◌≤◌, ◌-◌}
-use lib.ListN.{length}
+use mathlib.Core.Path.{refl, ◌∙◌, subst}
 use native.Mathlib.Omega.{arith}
 use Rattle.targets.proofs.fill_rows.Goals as goal
 

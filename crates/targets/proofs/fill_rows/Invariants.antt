@@ -1,11 +1,9 @@
 use Rattle.targets.specs.Prepared.{Filled}
-use Rattle.targets.specs.Prepared.Laws.{inside_at, filled_start}
 use Rattle.fsbm.specs.Machine.{well_formed}
-use mathlib.Core.Path.{◌≡◌, refl, ◌∙◌, subst}
+use mathlib.Core.Path.{◌≡◌}
 use mathlib.Core.Bool.{true}
 use Prim.Native.Nat.{◌≤◌, ◌-◌}
 use lib.ListN.{length}
-use native.Mathlib.Omega.{arith}
 use Rattle.targets.proofs.fill_rows.Given as goal
 
 abbrev pub invariant-loop-k : goal.invariant-loop-k

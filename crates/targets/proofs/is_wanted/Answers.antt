@@ -1,5 +1,4 @@
 use Rattle.targets.specs.Prepared.Laws.{wanted_zero, wanted_none, wanted_some}
-use borrow.Author.Rules.{rules}
 use Rattle.targets.proofs.is_wanted.Goals as goal
 
 pub returns-then-x-eq0 : goal.returns-then-x-eq0

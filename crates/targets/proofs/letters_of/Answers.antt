@@ -1,8 +1,8 @@
 use native.Mathlib.Omega.{arith}
-use Prim.Native.Nat.{◌-◌, ◌≤◌, ◌<◌}
-use mathlib.Core.Path.{◌≡◌, refl, ◌∙◌}
-use lib.ListN.{length, length-set}
-use Rattle.targets.specs.Prepared.Laws.{WantedBefore, marked_turn}
+use Prim.Native.Nat.{◌<◌}
+use mathlib.Core.Path.{refl, ◌∙◌}
+use lib.ListN.{length-set}
+use Rattle.targets.specs.Prepared.Laws.{marked_turn}
 use Rattle.targets.proofs.letters_of.Goals as goal
 
 pub loop-i-init : goal.loop-i-init

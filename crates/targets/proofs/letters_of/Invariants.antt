@@ -1,8 +1,7 @@
-use native.Mathlib.Omega.{arith}
-use Prim.Native.Nat.{◌-◌, ◌≤◌, ◌<◌}
-use mathlib.Core.Path.{◌≡◌, refl, ◌∙◌}
-use lib.ListN.{length, length-set}
-use Rattle.targets.specs.Prepared.Laws.{WantedBefore, marked_turn}
+use Prim.Native.Nat.{◌-◌, ◌≤◌}
+use mathlib.Core.Path.{◌≡◌}
+use lib.ListN.{length}
+use Rattle.targets.specs.Prepared.Laws.{WantedBefore}
 use Rattle.targets.proofs.letters_of.Given as goal
 
 abbrev pub invariant-loop-i : goal.invariant-loop-i

@@ -4,7 +4,6 @@ use Rattle.fsbm.specs.Rules.{rules as rules_of}
 use Rattle.targets.specs.Prepared.Laws.{made_good, made_whole}
 use native.Mathlib.Omega.{arith}
 use lib.ListN.{get_or-replicate}
-use borrow.Author.Rules.{rules}
 use Rattle.targets.proofs.prepare.Goals as goal
 
 pub close_states-requires : goal.close_states-requires

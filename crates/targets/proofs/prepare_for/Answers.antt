@@ -1,5 +1,4 @@
 use Rattle.targets.specs.Prepared.Laws.{made_for}
-use borrow.Author.Rules.{rules}
 use Rattle.targets.proofs.prepare_for.Goals as goal
 
 pub returns : goal.returns

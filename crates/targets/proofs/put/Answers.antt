@@ -1,9 +1,7 @@
 use Rattle.targets.specs.Prepared.Laws.{put_none, put_some, put_room, product_small}
-use borrow.Author.Tests.{not-true, not-false}
 use mathlib.Core.Path.{refl}
 use native.Mathlib.Omega.{arith}
 use Rattle.fsbm.specs.Machine.{transition_at}
-use borrow.Author.Rules.{rules}
 use Rattle.targets.proofs.put.Goals as goal
 
 pub returns-then-not-is_wanted : goal.returns-then-not-is_wanted

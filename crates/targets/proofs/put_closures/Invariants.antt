@@ -1,12 +1,8 @@
-use borrow.Author.Rules.{rules}
-use native.Mathlib.Omega.{arith}
 use Prim.Native.Nat.{◌-◌}
 use mathlib.Core.Path.{◌≡◌}
 use lib.ListN.{get_or}
 use Rattle.images.specs.Graph.{Good}
-use Rattle.images.proofs.SetCases.{members_is}
 use Rattle.targets.specs.Prepared.{Closing}
-use Rattle.targets.specs.Prepared.Laws.{closing_start, closing_good, closing_turn}
 use Rattle.targets.proofs.put_closures.Given as goal
 
 abbrev pub invariant-loop-p : goal.invariant-loop-p

@@ -1,6 +1,5 @@
 use native.Mathlib.Omega.{arith}
 use Rattle.targets.specs.Prepared.Laws.{product_small}
-use borrow.Author.Rules.{rules}
 use Rattle.targets.proofs.sets_of.Goals as goal
 
 pub overflow_mul-result : goal.overflow_mul-result

@@ -1,10 +1,5 @@
-use Prim.Native.Nat.{◌+◌, ◌≤◌, ◌-◌}
-use lib.ListN.{length}
-use Rattle.stateset.specs.Set.{width}
-use Rattle.targets.specs.Prepared.{Sources}
 use Rattle.targets.specs.Prepared.Laws.{sources_start, sources_turn}
 use native.Mathlib.Omega.{arith}
-use borrow.Author.Rules.{rules}
 use Rattle.targets.proofs.sources.Goals as goal
 
 pub loop-p-init : goal.loop-p-init

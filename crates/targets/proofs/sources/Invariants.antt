@@ -2,9 +2,6 @@ use Prim.Native.Nat.{◌+◌, ◌≤◌, ◌-◌}
 use lib.ListN.{length}
 use Rattle.stateset.specs.Set.{width}
 use Rattle.targets.specs.Prepared.{Sources}
-use Rattle.targets.specs.Prepared.Laws.{sources_start, sources_turn}
-use native.Mathlib.Omega.{arith}
-use borrow.Author.Rules.{rules}
 use Rattle.targets.proofs.sources.Given as goal
 
 abbrev pub invariant-loop-p : goal.invariant-loop-p

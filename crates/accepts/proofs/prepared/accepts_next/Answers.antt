@@ -2,7 +2,6 @@ use mathlib.Core.Path.{sym, ◌∙◌, ap}
 use Rattle.fsbm.proofs.AnswerCases.{word_good}
 use Rattle.accepts.specs.Decision.{decided_by}
 use Rattle.accepts.proofs.DecisionCases.{of_word, refused, decided}
-use borrow.Author.Rules.{rules}
 use Rattle.accepts.proofs.prepared.accepts_next.Goals as goal
 
 pub returns-then-number-ne0 : goal.returns-then-number-ne0

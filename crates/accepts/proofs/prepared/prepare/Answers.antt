@@ -1,5 +1,4 @@
 use Rattle.fsbm.specs.Rules.{rules as rules_of}
-use borrow.Author.Rules.{rules}
 use Rattle.accepts.proofs.prepared.prepare.Goals as goal
 
 pub kinds_of-kinds-requires : goal.kinds_of-kinds-requires

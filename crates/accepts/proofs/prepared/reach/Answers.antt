@@ -1,5 +1,4 @@
 use Rattle.fsbm.proofs.AnswerCases.{table_good}
-use borrow.Author.Rules.{rules}
 use Rattle.accepts.proofs.prepared.reach.Goals as goal
 
 pub prepare_for-requires : goal.prepare_for-requires

@@ -4,7 +4,6 @@ use Rattle.fsbm.proofs.AnswerCases.{table_good}
 use Rattle.fsbm.specs.Rules.{rules as rules_of}
 use Rattle.targets.specs.Prepared.Laws.{product_small}
 use Rattle.accepts.proofs.DecisionCases.{refused, says}
-use borrow.Author.Rules.{rules}
 use Rattle.accepts.proofs.word.accepts.Goals as goal
 
 pub returns-then-number-ne0 : goal.returns-then-number-ne0

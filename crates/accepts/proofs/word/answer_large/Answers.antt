@@ -1,5 +1,4 @@
 use Rattle.basics.specs.Lists.Laws.{zeros_at}
-use borrow.Author.Rules.{rules}
 use Rattle.accepts.proofs.word.answer_large.Goals as goal
 
 pub answer_with-requires : goal.answer_with-requires

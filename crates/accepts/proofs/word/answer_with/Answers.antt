@@ -3,7 +3,6 @@ use Rattle.fsbm.proofs.AnswerCases.{table_good}
 use Rattle.fsbm.specs.Rules.{rules as rules_of}
 use Rattle.accepts.specs.Decision.{decided_by}
 use Rattle.accepts.proofs.DecisionCases.{decided}
-use borrow.Author.Rules.{rules}
 use Rattle.accepts.proofs.word.answer_with.Goals as goal
 
 pub kinds_of-kinds-requires : goal.kinds_of-kinds-requires

@@ -1,7 +1,5 @@
 use mathlib.Core.Path.{sym, ◌∙◌}
-use borrow.Author.Tests.{not-true, not-false}
 use Rattle.accepts.proofs.WordsCases.{refused_table, refused_ends, refused_slice, answered}
-use borrow.Author.Rules.{rules}
 use Rattle.accepts.proofs.words.accept_words.Goals as goal
 
 pub returns-then-not-is_well_formed : goal.returns-then-not-is_well_formed

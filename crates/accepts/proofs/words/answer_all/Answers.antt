@@ -2,7 +2,6 @@ use native.Mathlib.Omega.{arith}
 use Rattle.basics.specs.Lists.Laws.{zeros_at}
 use Rattle.fsbm.specs.Rules.{rules as rules_of}
 use Rattle.targets.specs.Prepared.Laws.{product_small}
-use borrow.Author.Rules.{rules}
 use Rattle.accepts.proofs.words.answer_all.Goals as goal
 
 pub prepare-kinds-requires : goal.prepare-kinds-requires

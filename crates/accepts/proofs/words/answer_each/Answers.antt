@@ -1,10 +1,6 @@
-use Prim.Native.Nat.{◌-◌}
-use mathlib.Core.Path.{◌≡◌, refl, ◌∙◌}
+use mathlib.Core.Path.{refl, ◌∙◌}
 use native.Mathlib.Omega.{arith}
-use lib.ListN.{length}
-use Rattle.accepts.specs.Ready.{Working}
-use Rattle.accepts.proofs.WordsCases.{Answering, answering_none, next_good, answering_more, answering_all}
-use borrow.Author.Rules.{rules}
+use Rattle.accepts.proofs.WordsCases.{answering_none, next_good, answering_more, answering_all}
 use Rattle.accepts.proofs.words.answer_each.Goals as goal
 
 pub loop-k-init : goal.loop-k-init

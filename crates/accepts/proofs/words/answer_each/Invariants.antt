@@ -1,10 +1,8 @@
 use Prim.Native.Nat.{◌-◌}
-use mathlib.Core.Path.{◌≡◌, refl, ◌∙◌}
-use native.Mathlib.Omega.{arith}
+use mathlib.Core.Path.{◌≡◌}
 use lib.ListN.{length}
 use Rattle.accepts.specs.Ready.{Working}
-use Rattle.accepts.proofs.WordsCases.{Answering, answering_none, next_good, answering_more, answering_all}
-use borrow.Author.Rules.{rules}
+use Rattle.accepts.proofs.WordsCases.{Answering}
 use Rattle.accepts.proofs.words.answer_each.Given as goal
 
 abbrev pub invariant-loop-k : goal.invariant-loop-k

@@ -3,7 +3,6 @@ use native.Mathlib.Omega.{arith}
 use lib.ListN.{replicate, set}
 use Rattle.basics.specs.Lists.Laws.{zeros_at}
 use Rattle.accepts.specs.Ready.Laws.{working_start}
-use borrow.Author.Rules.{rules}
 use Rattle.accepts.proofs.words.answer_prepared.Goals as goal
 
 pub answer_each-requires : goal.answer_each-requires

@@ -1,10 +1,6 @@
-use Prim.Native.Nat.{◌-◌, ◌≤◌}
-use mathlib.Core.Path.{◌≡◌, refl, ◌∙◌}
+use mathlib.Core.Path.{refl, ◌∙◌}
 use native.Mathlib.Omega.{arith}
-use lib.ListN.{length, drop}
-use Rattle.accepts.specs.Words.{good_ends}
 use Rattle.accepts.proofs.WordsCases.{ends_fall, ends_pass, ends_go_on, ends_done}
-use borrow.Author.Rules.{rules}
 use Rattle.accepts.proofs.words.are_good.Goals as goal
 
 pub loop-k-init : goal.loop-k-init

@@ -1,10 +1,7 @@
 use Prim.Native.Nat.{◌-◌, ◌≤◌}
-use mathlib.Core.Path.{◌≡◌, refl, ◌∙◌}
-use native.Mathlib.Omega.{arith}
+use mathlib.Core.Path.{◌≡◌}
 use lib.ListN.{length, drop}
 use Rattle.accepts.specs.Words.{good_ends}
-use Rattle.accepts.proofs.WordsCases.{ends_fall, ends_pass, ends_go_on, ends_done}
-use borrow.Author.Rules.{rules}
 use Rattle.accepts.proofs.words.are_good.Given as goal
 
 abbrev pub invariant-loop-k : goal.invariant-loop-k

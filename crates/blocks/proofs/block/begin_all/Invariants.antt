@@ -1,12 +1,7 @@
-use native.Mathlib.Omega.{arith}
-use mathlib.Core.Path.{sym}
-use borrow.Author.Rules.{rules}
 use lib.Count.{ones}
-use Rattle.pieces.specs.Blocks.Laws.{cost_inside}
 use Rattle.blocks.specs.Numbers.{Lowers}
-use Rattle.blocks.specs.Numbers.Laws.{Left, Rest, rest_start, rest_more, lowest_inside, taken, sized_after}
+use Rattle.blocks.specs.Numbers.Laws.{Left, Rest}
 use Rattle.blocks.specs.Settling.{Begins}
-use Rattle.blocks.specs.Settling.Laws.{begins_start, begins_more, begins_end}
 use Rattle.blocks.proofs.block.begin_all.Given as goal
 
 abbrev pub invariant-loop-rest : goal.invariant-loop-rest

@@ -3,7 +3,6 @@ use mathlib.Core.Path.{◌∙◌}
 use Rattle.blocks.specs.Numbers.Laws.{sized_after}
 use Rattle.blocks.specs.Works.Laws.{ready_states}
 use Rattle.blocks.specs.Settling.Laws.{block_done}
-use borrow.Author.Rules.{rules}
 use Rattle.blocks.proofs.block.block_by.Goals as goal
 
 pub overflow_mul-m : goal.overflow_mul-m

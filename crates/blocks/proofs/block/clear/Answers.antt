@@ -1,6 +1,4 @@
 use native.Mathlib.Omega.{arith}
-use Prim.Native.Nat.{◌≤◌, ◌-◌}
-use Rattle.blocks.specs.Settling.{Cleared}
 use Rattle.blocks.specs.Settling.Laws.{clear_start, clear_more, clear_end}
 use Rattle.blocks.proofs.block.clear.Goals as goal
 

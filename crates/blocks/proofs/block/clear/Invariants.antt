@@ -1,7 +1,5 @@
-use native.Mathlib.Omega.{arith}
 use Prim.Native.Nat.{◌≤◌, ◌-◌}
 use Rattle.blocks.specs.Settling.{Cleared}
-use Rattle.blocks.specs.Settling.Laws.{clear_start, clear_more, clear_end}
 use Rattle.blocks.proofs.block.clear.Given as goal
 
 abbrev pub invariant-loop-i : goal.invariant-loop-i

@@ -1,8 +1,6 @@
-use native.Mathlib.Omega.{arith}
 use Prim.Native.Nat.{ℕ, ◌≤◌, ◌<◌, ◌-◌}
 use mathlib.Core.Path.{◌≡◌}
 use lib.ListN.{get_or}
-use Rattle.blocks.specs.Settling.Laws.{scan_found, scan_none, scan_on}
 use Rattle.blocks.proofs.block.scan.Given as goal
 
 abbrev pub invariant-loop-r : goal.invariant-loop-r

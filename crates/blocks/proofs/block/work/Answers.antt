@@ -1,11 +1,6 @@
 use native.Mathlib.Omega.{arith}
-use Prim.Native.Nat.{◌+◌, ◌*◌}
-use mathlib.Core.Path.{◌≡◌}
-use lib.ListN.{length}
-use Rattle.blocks.specs.Numbers.{Sized, total, marked}
 use Rattle.blocks.specs.Numbers.Laws.{sized_after, sized_set}
 use Rattle.blocks.specs.Works.Laws.{ready_states, ready_state}
-use Rattle.blocks.specs.Settling.{WorkOn}
 use Rattle.blocks.specs.Settling.Laws.{take_none, take_row, take_less, work_done}
 use Rattle.blocks.proofs.block.work.Goals as goal
 

@@ -1,5 +1,4 @@
 use native.Mathlib.Omega.{arith}
-use borrow.Author.Rules.{rules}
 use Rattle.blocks.specs.Gathered.Laws.{far_none, far_reach}
 use Rattle.blocks.proofs.gather.far.Goals as goal
 

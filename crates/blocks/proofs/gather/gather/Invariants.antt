@@ -1,12 +1,6 @@
-use native.Mathlib.Omega.{arith}
-use mathlib.Core.Path.{refl, sym, ◌∙◌}
-use borrow.Author.Rules.{rules}
 use lib.Count.{ones}
-use Rattle.pieces.specs.Blocks.Laws.{cell_inside}
 use Rattle.blocks.specs.Gathered.{Adding, From}
-use Rattle.blocks.specs.Gathered.Laws.{from_start, from_more, from_end}
-use Rattle.blocks.specs.Numbers.Laws.{Left, Rest, rest_start, rest_more, lowest_inside, taken}
-use Rattle.blocks.specs.Stretches.Laws.{key_fits}
+use Rattle.blocks.specs.Numbers.Laws.{Left, Rest}
 use Rattle.blocks.proofs.gather.gather.Given as goal
 
 abbrev pub invariant-loop-rest : goal.invariant-loop-rest

@@ -1,10 +1,8 @@
-use borrow.Author.Tests.{not-true, not-false}
 use native.Mathlib.Omega.{arith}
 use mathlib.Core.Path.{sym, ◌∙◌}
 use Rattle.stateset.specs.Set.{width}
 use Rattle.stateset.specs.Set.Laws.{in_lt, has_in}
 use Rattle.blocks.specs.Gathered.Laws.{pick_shut, pick_keeps, pick_lowers, pick_adds}
-use borrow.Author.Rules.{rules}
 use Rattle.blocks.proofs.gather.pick.Goals as goal
 
 pub returns-then-not-member : goal.returns-then-not-member

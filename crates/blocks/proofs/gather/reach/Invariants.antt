@@ -1,9 +1,7 @@
-use native.Mathlib.Omega.{arith}
-use Prim.Native.Nat.{◌≤◌, ◌-◌, ◌+◌, ◌*◌}
-use mathlib.Core.Path.{◌≡◌, refl, ◌∙◌}
-use mathlib.Core.Logic.{◌⊎◌, inl, inr}
+use Prim.Native.Nat.{◌≤◌, ◌-◌}
+use mathlib.Core.Path.{◌≡◌}
+use mathlib.Core.Logic.{◌⊎◌}
 use Rattle.blocks.specs.Gathered.{Adding, Reach}
-use Rattle.blocks.specs.Gathered.Laws.{reach_none, reach_more, reach_past}
 use Rattle.blocks.proofs.gather.reach.Given as goal
 
 abbrev pub invariant-loop-k : goal.invariant-loop-k

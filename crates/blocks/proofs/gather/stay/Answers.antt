@@ -1,11 +1,8 @@
 use native.Mathlib.Omega.{arith}
 use mathlib.Core.Path.{sym, ◌∙◌}
-use borrow.Author.Rules.{rules}
-use lib.Count.{ones}
 use Rattle.pieces.specs.Blocks.Laws.{cell_inside}
-use Rattle.blocks.specs.Gathered.{Adding, Stay}
 use Rattle.blocks.specs.Gathered.Laws.{stay_start, stay_more, stay_end}
-use Rattle.blocks.specs.Numbers.Laws.{Left, Rest, rest_start, rest_more, lowest_inside, taken}
+use Rattle.blocks.specs.Numbers.Laws.{rest_start, rest_more, lowest_inside, taken}
 use Rattle.blocks.proofs.gather.stay.Goals as goal
 
 pub loop-rest-init : goal.loop-rest-init

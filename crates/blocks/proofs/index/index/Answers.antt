@@ -1,7 +1,6 @@
 use native.Mathlib.Omega.{arith}
-use Prim.Native.Nat.{◌-◌, ◌+◌}
 use Rattle.fsbm.specs.Rules.{rules as rules_of}
-use Rattle.blocks.specs.Stretches.Laws.{Built, keys_fit, built_start, built_turn, built_end}
+use Rattle.blocks.specs.Stretches.Laws.{keys_fit, built_start, built_turn, built_end}
 use Rattle.blocks.proofs.index.index.Goals as goal
 
 pub overflow_add-stride : goal.overflow_add-stride

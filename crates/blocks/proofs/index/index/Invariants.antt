@@ -1,7 +1,5 @@
-use native.Mathlib.Omega.{arith}
 use Prim.Native.Nat.{◌-◌, ◌+◌}
-use Rattle.fsbm.specs.Rules.{rules as rules_of}
-use Rattle.blocks.specs.Stretches.Laws.{Built, keys_fit, built_start, built_turn, built_end}
+use Rattle.blocks.specs.Stretches.Laws.{Built}
 use Rattle.blocks.proofs.index.index.Given as goal
 
 abbrev pub invariant-loop-y : goal.invariant-loop-y

@@ -2,7 +2,6 @@ use lib.ListN.{get_or}
 use native.Mathlib.Omega.{arith}
 use Prim.Native.Nat.{◌+◌, ◌*◌}
 use Rattle.blocks.specs.Stretches.Laws.{product_fits}
-use borrow.Author.Rules.{rules}
 use Rattle.blocks.proofs.index.key.Goals as goal
 
 pub overflow_cast-result : goal.overflow_cast-result

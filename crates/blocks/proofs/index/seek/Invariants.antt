@@ -1,7 +1,5 @@
-use native.Mathlib.Omega.{arith}
 use Prim.Native.Nat.{ℕ, ◌≤◌, ◌<◌, ◌-◌}
 use Rattle.blocks.specs.Stretches.{key_of}
-use Rattle.blocks.specs.Stretches.Laws.{found_here, found_none, found_on}
 use Rattle.blocks.proofs.index.seek.Given as goal
 
 abbrev pub invariant-loop-r : goal.invariant-loop-r

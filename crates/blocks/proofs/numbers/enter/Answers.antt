@@ -1,10 +1,8 @@
 use native.Mathlib.Omega.{arith}
 use mathlib.Core.Path.{sym, ◌∙◌}
-use borrow.Author.Tests.{not-true, not-false}
 use Rattle.stateset.specs.Set.{width}
 use Rattle.stateset.specs.Set.Laws.{in_lt, has_in}
 use Rattle.blocks.specs.Numbers.Laws.{enter_not, enter_is}
-use borrow.Author.Rules.{rules}
 use Rattle.blocks.proofs.numbers.enter.Goals as goal
 
 pub returns-then-not-member : goal.returns-then-not-member

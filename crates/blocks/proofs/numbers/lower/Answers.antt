@@ -1,6 +1,5 @@
 use native.Mathlib.Omega.{arith}
 use Rattle.blocks.specs.Numbers.Laws.{lower_not, lower_is}
-use borrow.Author.Rules.{rules}
 use Rattle.blocks.proofs.numbers.lower.Goals as goal
 
 pub returns-then-b-i : goal.returns-then-b-i

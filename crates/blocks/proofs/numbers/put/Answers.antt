@@ -1,9 +1,6 @@
 use native.Mathlib.Omega.{arith}
 use mathlib.Core.Path.{refl}
-use borrow.Author.Rules.{rules}
-use lib.Count.{ones}
-use Rattle.blocks.specs.Numbers.{Lowers, Put}
-use Rattle.blocks.specs.Numbers.Laws.{Left, Rest, rest_start, rest_more, lowest_inside, taken, sized_after, put_start, put_more, put_end}
+use Rattle.blocks.specs.Numbers.Laws.{rest_start, rest_more, lowest_inside, taken, sized_after, put_start, put_more, put_end}
 use Rattle.blocks.proofs.numbers.put.Goals as goal
 
 pub loop-rest-init : goal.loop-rest-init

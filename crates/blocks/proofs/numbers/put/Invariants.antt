@@ -1,9 +1,6 @@
-use native.Mathlib.Omega.{arith}
-use mathlib.Core.Path.{refl}
-use borrow.Author.Rules.{rules}
 use lib.Count.{ones}
 use Rattle.blocks.specs.Numbers.{Lowers, Put}
-use Rattle.blocks.specs.Numbers.Laws.{Left, Rest, rest_start, rest_more, lowest_inside, taken, sized_after, put_start, put_more, put_end}
+use Rattle.blocks.specs.Numbers.Laws.{Left, Rest}
 use Rattle.blocks.proofs.numbers.put.Given as goal
 
 abbrev pub invariant-loop-rest : goal.invariant-loop-rest

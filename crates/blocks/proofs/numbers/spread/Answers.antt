@@ -1,8 +1,7 @@
 use native.Mathlib.Omega.{arith}
-use Prim.Native.Nat.{◌≤◌, ◌-◌, ◌+◌, ◌*◌}
-use mathlib.Core.Path.{◌≡◌, refl}
-use mathlib.Core.Logic.{◌⊎◌, inl, inr}
-use Rattle.blocks.specs.Numbers.{Lowers, Spread}
+use Prim.Native.Nat.{◌+◌, ◌*◌}
+use mathlib.Core.Path.{refl}
+use mathlib.Core.Logic.{inl, inr}
 use Rattle.blocks.specs.Numbers.Laws.{sized_after, spread_start, spread_more, spread_past}
 use Rattle.blocks.proofs.numbers.spread.Goals as goal
 

@@ -1,9 +1,7 @@
-use native.Mathlib.Omega.{arith}
-use Prim.Native.Nat.{◌≤◌, ◌-◌, ◌+◌, ◌*◌}
-use mathlib.Core.Path.{◌≡◌, refl}
-use mathlib.Core.Logic.{◌⊎◌, inl, inr}
+use Prim.Native.Nat.{◌≤◌, ◌-◌}
+use mathlib.Core.Path.{◌≡◌}
+use mathlib.Core.Logic.{◌⊎◌}
 use Rattle.blocks.specs.Numbers.{Lowers, Spread}
-use Rattle.blocks.specs.Numbers.Laws.{sized_after, spread_start, spread_more, spread_past}
 use Rattle.blocks.proofs.numbers.spread.Given as goal
 
 abbrev pub invariant-loop-k : goal.invariant-loop-k

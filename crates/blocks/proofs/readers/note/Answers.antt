@@ -2,12 +2,10 @@ use native.Mathlib.Omega.{arith}
 use Prim.Native.Nat.{◌+◌, ◌*◌}
 use mathlib.Core.Path.{sym, ◌∙◌}
 use mathlib.Core.Logic.{inl, inr}
-use borrow.Author.Tests.{not-true, not-false}
 use lib.ListN.{get_or}
 use Rattle.stateset.specs.Set.{width}
 use Rattle.stateset.specs.Set.Laws.{in_lt, has_in}
 use Rattle.blocks.specs.Readers.Laws.{noted_other, noted_is}
-use borrow.Author.Rules.{rules}
 use Rattle.blocks.proofs.readers.note.Goals as goal
 
 pub overflow_cast-from : goal.overflow_cast-from

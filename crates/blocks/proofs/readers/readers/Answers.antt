@@ -1,9 +1,8 @@
 use native.Mathlib.Omega.{arith}
-use Prim.Native.Nat.{ℕ, ◌-◌}
+use Prim.Native.Nat.{ℕ}
 use lib.ListN.{length-replicate}
 use Rattle.fsbm.specs.Rules.{rules as rules_of}
 use Rattle.basics.specs.Lists.Laws.{zeros_at}
-use Rattle.blocks.specs.Readers.{ReadersBelow}
 use Rattle.blocks.specs.Readers.Laws.{readers_start, readers_more, readers_end}
 use Rattle.blocks.proofs.readers.readers.Goals as goal
 

@@ -2,7 +2,6 @@ use native.Mathlib.Omega.{arith}
 use mathlib.Core.Path.{◌∙◌}
 use Rattle.blocks.specs.Works.Laws.{ready_stride, ready_from, ready_state, so_start}
 use Rattle.blocks.specs.Readers.Laws.{readers_cover, covers_from}
-use borrow.Author.Rules.{rules}
 use Rattle.blocks.proofs.row.alone.Goals as goal
 
 pub overflow_add-m : goal.overflow_add-m

@@ -1,6 +1,5 @@
 use native.Mathlib.Omega.{arith}
 use mathlib.Core.Path.{refl, ◌∙◌}
-use borrow.Author.Rules.{rules}
 use Rattle.blocks.specs.Works.Laws.{ready_stride, ready_next, ready_from, ready_state, ready_room, ready_letter, row_fits, group_fits, group_past, so_more}
 use Rattle.blocks.specs.Readers.Laws.{readers_cover}
 use Rattle.blocks.proofs.row.group.Goals as goal

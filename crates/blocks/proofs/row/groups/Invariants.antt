@@ -1,10 +1,7 @@
-use native.Mathlib.Omega.{arith}
 use Prim.Native.Nat.{◌≤◌, ◌-◌}
 use mathlib.Core.Path.{◌≡◌}
 use lib.ListN.{length}
 use Rattle.blocks.specs.Works.{RowOn}
-use Rattle.blocks.specs.Works.Laws.{on_none, on_then}
-use Rattle.blocks.specs.Numbers.Laws.{sized_after}
 use Rattle.blocks.proofs.row.groups.Given as goal
 
 abbrev pub invariant-loop-k : goal.invariant-loop-k

@@ -1,7 +1,6 @@
 use Rattle.blocks.specs.Readers.Laws.{covers_from}
 use Rattle.blocks.specs.Works.Laws.{moved_none, moved_letter}
 use native.Mathlib.Omega.{arith}
-use borrow.Author.Rules.{rules}
 use Rattle.blocks.proofs.row.moved.Goals as goal
 
 pub returns-then-x-eq0 : goal.returns-then-x-eq0

@@ -1,8 +1,6 @@
 use native.Mathlib.Omega.{arith}
-use Prim.Native.Nat.{◌-◌}
 use Rattle.blocks.specs.Numbers.Laws.{sized_after}
 use Rattle.blocks.specs.Works.Laws.{ready_stride, row_fits, row_leaves, row_done}
-use borrow.Author.Rules.{rules}
 use Rattle.blocks.proofs.row.row.Goals as goal
 
 pub overflow_add-stride : goal.overflow_add-stride

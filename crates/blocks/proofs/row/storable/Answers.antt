@@ -1,6 +1,5 @@
 use mathlib.Core.Path.{sym, ◌∙◌}
 use Rattle.blocks.specs.Works.Laws.{storable_held, storable_free}
-use borrow.Author.Rules.{rules}
 use Rattle.blocks.proofs.row.storable.Goals as goal
 
 pub returns-then-member : goal.returns-then-member

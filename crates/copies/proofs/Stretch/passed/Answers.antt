@@ -1,6 +1,5 @@
 use Rattle.copies.specs.Stretches.Laws.{passed_begin, passed_other}
 use Rattle.copies.proofs.CopyCases.{passed_still, passed_read}
-use borrow.Author.Rules.{rules}
 use Rattle.copies.proofs.Stretch.passed.Goals as goal
 
 pub returns-then-entry-eq-BEGIN_BUFFERING : goal.returns-then-entry-eq-BEGIN_BUFFERING

@@ -1,18 +1,13 @@
-use Prim.Native.Nat.{ℕ, ◌+◌, ◌-◌, ◌≤◌}
-use mathlib.Core.Path.{◌≡◌, refl, ◌∙◌}
+use Prim.Native.Nat.{◌+◌}
+use mathlib.Core.Path.{refl, ◌∙◌}
 use native.Mathlib.Omega.{arith}
-use lib.ListN.{length}
 use lib.Bits.{bit_and}
 use Rattle.fsbm.specs.declared.config.Mode.TheVariants.{Buffering}
-use Rattle.images.specs.Graph.{Members, From, Free, graph, Good, Fitting}
+use Rattle.images.specs.Graph.{Free, graph}
 use Rattle.images.proofs.SetCases.{members_is}
-use Rattle.subsets.specs.Rows.{Kept}
 use Rattle.subsets.specs.Rows.Laws.{from_begun}
-use Rattle.decide.specs.Squares.{RepeatEnds}
-use Rattle.decide.specs.Reach.{Rooms, LastSquare, Tailed}
 use Rattle.decide.proofs.StageCases.{fitting_set}
-use Rattle.decide.proofs.CopyCases.{turning_all, shared, Copying, copying_start, copying_turn, copying_pass, copying_dead, copying_end, tailed_start, tailed_at}
-use borrow.Author.Rules.{rules}
+use Rattle.decide.proofs.CopyCases.{turning_all, shared, copying_start, copying_turn, copying_pass, copying_dead, copying_end, tailed_start, tailed_at}
 use Rattle.decide.proofs.positions.copies_from.Goals as goal
 
 pub begin-s-requires : goal.begin-s-requires

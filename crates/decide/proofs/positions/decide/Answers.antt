@@ -14,7 +14,6 @@ use Rattle.basics.specs.Lists.Laws.{zeros_at}
 use Rattle.subsets.specs.Rows.Laws.{kept_start}
 use Rattle.decide.proofs.Decided.{decided, normal_sets}
 use Rattle.decide.proofs.StageCases.{stage_end}
-use borrow.Author.Rules.{rules}
 use Rattle.decide.proofs.positions.decide.Goals as goal
 
 pub shape_of-t-requires : goal.shape_of-t-requires

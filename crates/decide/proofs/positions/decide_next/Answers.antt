@@ -11,7 +11,6 @@ use Rattle.decide.proofs.Tables.{good_table, rooms}
 use lib.ListN.{set}
 use Rattle.decide.proofs.Decided.{decided}
 use Rattle.decide.proofs.StageCases.{stage_start, stage_end, cleared}
-use borrow.Author.Rules.{rules}
 use Rattle.decide.proofs.positions.decide_next.Goals as goal
 
 pub shape_of-t-requires : goal.shape_of-t-requires

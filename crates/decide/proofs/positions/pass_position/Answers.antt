@@ -8,7 +8,6 @@ use Rattle.images.proofs.SetCases.{members_is, members_none, none_in}
 use Rattle.subsets.specs.Rows.Laws.{normal_reads}
 use Rattle.decide.proofs.CopyCases.{copied_none}
 use Rattle.decide.proofs.StageCases.{passed_none, passed_over, passed_read, passed_copies, read_fitting}
-use borrow.Author.Rules.{rules}
 use Rattle.decide.proofs.positions.pass_position.Goals as goal
 
 pub returns-then-reached-eq0 : goal.returns-then-reached-eq0

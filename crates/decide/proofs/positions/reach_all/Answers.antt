@@ -1,11 +1,6 @@
-use Prim.Native.Nat.{ℕ, ◌≤◌, ◌+◌, ◌-◌}
-use mathlib.Core.Path.{◌≡◌, refl, ◌∙◌}
+use mathlib.Core.Path.{refl, ◌∙◌}
 use native.Mathlib.Omega.{arith}
-use lib.ListN.{length}
-use Rattle.images.specs.Graph.{graph, Good, Fitting}
-use Rattle.subsets.specs.Rows.{Kept}
-use Rattle.decide.specs.Reach.{Rooms, Stage}
-use Rattle.decide.specs.Squares.{RepeatEnds}
+use Rattle.images.specs.Graph.{graph}
 use Rattle.decide.proofs.StageCases.{stage_turn, stage_to}
 use Rattle.decide.proofs.SquareCases.{ends_start, ends_later}
 use Rattle.decide.proofs.positions.reach_all.Goals as goal

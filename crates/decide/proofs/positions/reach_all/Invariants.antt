@@ -1,13 +1,10 @@
 use Prim.Native.Nat.{ℕ, ◌≤◌, ◌+◌, ◌-◌}
-use mathlib.Core.Path.{◌≡◌, refl, ◌∙◌}
-use native.Mathlib.Omega.{arith}
+use mathlib.Core.Path.{◌≡◌}
 use lib.ListN.{length}
 use Rattle.images.specs.Graph.{graph, Good, Fitting}
 use Rattle.subsets.specs.Rows.{Kept}
 use Rattle.decide.specs.Reach.{Rooms, Stage}
 use Rattle.decide.specs.Squares.{RepeatEnds}
-use Rattle.decide.proofs.StageCases.{stage_turn, stage_to}
-use Rattle.decide.proofs.SquareCases.{ends_start, ends_later}
 use Rattle.decide.proofs.positions.reach_all.Given as goal
 
 abbrev pub invariant-loop-i : goal.invariant-loop-i

@@ -1,7 +1,6 @@
 use mathlib.Core.Path.{ap}
 use Prim.Native.Nat.{ℕ}
 use Rattle.subsets.specs.declared.Shape.{Shape}
-use borrow.Author.Rules.{rules}
 use Rattle.decide.proofs.positions.shape_of.Goals as goal
 
 pub returns : goal.returns

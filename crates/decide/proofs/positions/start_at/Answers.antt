@@ -3,7 +3,6 @@ use lib.ListN.{replicate}
 use Rattle.basics.specs.Lists.Laws.{zeros_at}
 use Rattle.decide.proofs.StageCases.{stage_start}
 use native.Mathlib.Omega.{arith}
-use borrow.Author.Rules.{rules}
 use Rattle.decide.proofs.positions.start_at.Goals as goal
 
 pub returns : goal.returns

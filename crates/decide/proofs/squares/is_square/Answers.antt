@@ -1,4 +1,3 @@
-use borrow.Author.Rules.{rules}
 use Rattle.decide.proofs.SquareCases.{square_yes, square_no}
 use Rattle.decide.proofs.squares.is_square.Goals as goal
 

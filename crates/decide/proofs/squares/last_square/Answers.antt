@@ -1,9 +1,7 @@
 use Rattle.decide.proofs.SquareCases.{last_down}
 use Rattle.basics.specs.Search.Laws.{not_both}
-use Rattle.decide.specs.Squares.{RepeatEnds}
-use Rattle.decide.specs.Reach.{Square}
 use lib.ListN.{length}
-use Prim.Native.Nat.{ℕ, ◌<◌, ◌≤◌, ◌-◌, ◌+◌, ◌/◌}
+use Prim.Native.Nat.{◌<◌, ◌≤◌, ◌-◌, ◌+◌, ◌/◌}
 use native.Mathlib.Omega.{arith}
 use Rattle.decide.proofs.squares.last_square.Goals as goal
 

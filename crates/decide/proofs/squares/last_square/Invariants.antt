@@ -1,10 +1,7 @@
-use Rattle.decide.proofs.SquareCases.{last_down}
-use Rattle.basics.specs.Search.Laws.{not_both}
 use Rattle.decide.specs.Squares.{RepeatEnds}
 use Rattle.decide.specs.Reach.{Square}
 use lib.ListN.{length}
-use Prim.Native.Nat.{ℕ, ◌<◌, ◌≤◌, ◌-◌, ◌+◌, ◌/◌}
-use native.Mathlib.Omega.{arith}
+use Prim.Native.Nat.{ℕ, ◌<◌, ◌≤◌, ◌-◌, ◌+◌}
 use Rattle.decide.proofs.squares.last_square.Given as goal
 
 abbrev pub invariant-loop-j : goal.invariant-loop-j

@@ -1,8 +1,6 @@
-use native.Mathlib.Omega.{arith}
 use lib.ListN.{length, get_or}
 use Prim.Native.Nat.{ℕ, ◌≤◌, ◌<◌, ◌-◌}
 use mathlib.Core.Path.{◌≡◌}
-use Rattle.decide.proofs.SquareCases.{run_more}
 use Rattle.decide.proofs.squares.run_end.Given as goal
 
 abbrev pub invariant-loop-r : goal.invariant-loop-r

@@ -1,7 +1,6 @@
 use Rattle.basics.specs.Search.Laws.{not_both}
 use Rattle.images.proofs.SetCases.{members_is}
 use Rattle.decide.proofs.SquareCases.{turning_none, turning_some, turning_apart}
-use borrow.Author.Rules.{rules}
 use Rattle.decide.proofs.squares.turning.Goals as goal
 
 pub returns-then-ready-eq0 : goal.returns-then-ready-eq0

@@ -4,7 +4,6 @@ use Rattle.fsbm.specs.declared.config.Mode.TheVariants.{Emptying}
 use Rattle.images.specs.Graph.{graph, Free}
 use Rattle.subsets.specs.Rows.Laws.{from_begun}
 use Rattle.decide.proofs.CopyCases.{tailed_on, tailed_anew}
-use borrow.Author.Rules.{rules}
 use Rattle.decide.proofs.walks.tail_to.Goals as goal
 
 pub walk_on-on-requires : goal.walk_on-on-requires

@@ -1,11 +1,7 @@
-use Prim.Native.Nat.{ℕ, ◌-◌, ◌≤◌}
-use mathlib.Core.Path.{◌≡◌, refl, ◌∙◌}
+use mathlib.Core.Path.{refl, ◌∙◌}
 use native.Mathlib.Omega.{arith}
-use lib.ListN.{length}
 use Rattle.fsbm.specs.declared.config.Mode.TheVariants.{Emptying}
-use Rattle.images.specs.Graph.{Members, From, graph, Good}
-use Rattle.subsets.specs.Rows.{Kept}
-use Rattle.decide.specs.Reach.{Rooms, Walk}
+use Rattle.images.specs.Graph.{graph}
 use Rattle.decide.proofs.CopyCases.{walks_turn, walks_dead, walks_to}
 use Rattle.decide.proofs.walks.walk_on.Goals as goal
 

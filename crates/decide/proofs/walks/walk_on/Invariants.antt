@@ -1,12 +1,10 @@
 use Prim.Native.Nat.{ℕ, ◌-◌, ◌≤◌}
-use mathlib.Core.Path.{◌≡◌, refl, ◌∙◌}
-use native.Mathlib.Omega.{arith}
+use mathlib.Core.Path.{◌≡◌}
 use lib.ListN.{length}
 use Rattle.fsbm.specs.declared.config.Mode.TheVariants.{Emptying}
 use Rattle.images.specs.Graph.{Members, From, graph, Good}
 use Rattle.subsets.specs.Rows.{Kept}
 use Rattle.decide.specs.Reach.{Rooms, Walk}
-use Rattle.decide.proofs.CopyCases.{walks_turn, walks_dead, walks_to}
 use Rattle.decide.proofs.walks.walk_on.Given as goal
 
 abbrev pub invariant-loop-at : goal.invariant-loop-at

@@ -2,7 +2,6 @@ use mathlib.Core.Path.{sym, ap}
 use Rattle.common.specs.declared.Common.{Common}
 use Rattle.common.specs.Common.{common_values}
 use Rattle.exports.specs.CommonWords.{common_record}
-use borrow.Author.Rules.{rules}
 use Rattle.exports.proofs.common_words.record_of_common.Goals as goal
 
 pub returns-in-Refused : goal.returns-in-Refused

@@ -2,7 +2,6 @@ use mathlib.Core.Path.{sym, ap, ◌∙◌}
 use Rattle.sheet.specs.Writing.{written_values}
 use Rattle.sheet.specs.declared.answers.Written.{Written}
 use Rattle.exports.specs.Pages.{page_record}
-use borrow.Author.Rules.{rules}
 use Rattle.exports.proofs.pages.zagvirk_write_page.Goals as goal
 
 pub returns-in-Refused : goal.returns-in-Refused

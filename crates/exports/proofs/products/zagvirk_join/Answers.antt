@@ -1,6 +1,5 @@
 use mathlib.Core.Path.{ap}
 use Rattle.exports.specs.Products.{joined_of}
-use borrow.Author.Rules.{rules}
 use Rattle.exports.proofs.products.zagvirk_join.Goals as goal
 
 pub returns : goal.returns

@@ -2,7 +2,6 @@ use mathlib.Core.Path.{sym, ap, ◌∙◌}
 use Rattle.copies.specs.Copies.{copied_values}
 use Rattle.copies.specs.declared.Copied.{Copied}
 use Rattle.exports.specs.Products.{copy_list_record}
-use borrow.Author.Rules.{rules}
 use Rattle.exports.proofs.products.zagvirk_list_copies.Goals as goal
 
 pub returns-in-Refused : goal.returns-in-Refused

@@ -2,7 +2,6 @@ use mathlib.Core.Path.{ap, sym, ◌∙◌}
 use Rattle.reach.specs.Reaching.{reaching_values}
 use Rattle.reach.specs.declared.answer.Reaching.{Reaching}
 use Rattle.exports.specs.ReachedStates.{reach_record}
-use borrow.Author.Rules.{rules}
 use Rattle.exports.proofs.reached_states.zagvirk_reach.Goals as goal
 
 pub returns-in-Refused : goal.returns-in-Refused

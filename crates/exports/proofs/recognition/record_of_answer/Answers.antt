@@ -2,7 +2,6 @@ use mathlib.Core.Path.{sym, ap}
 use Rattle.recognize.specs.Recognition.{recognized_values}
 use Rattle.recognize.specs.declared.Recognized.{Recognized}
 use Rattle.exports.specs.Recognize.{recognized_record}
-use borrow.Author.Rules.{rules}
 use Rattle.exports.proofs.recognition.record_of_answer.Goals as goal
 
 pub returns-in-Refused : goal.returns-in-Refused

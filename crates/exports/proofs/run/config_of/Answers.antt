@@ -1,7 +1,6 @@
 use mathlib.Core.Path.{ap}
 use Rattle.fsbm.specs.declared.config.Mode.{Mode}
 use Rattle.fsbm.specs.declared.config.Config.{Config}
-use borrow.Author.Rules.{rules}
 use Rattle.exports.proofs.run.config_of.Goals as goal
 
 pub returns : goal.returns

@@ -3,7 +3,6 @@ use borrow.Author.Tests.{lt-ltb, le-ltb}
 use Rattle.basics.specs.Search.Loops.{first, second}
 use Rattle.exports.specs.declared.run.ConfigRecord.{ConfigRecord}
 use Rattle.exports.specs.declared.run.SteppedRecord.{SteppedRecord}
-use borrow.Author.Rules.{rules}
 use Rattle.exports.proofs.run.moved_record.Goals as goal
 
 pub returns-then-config-gt2 : goal.returns-then-config-gt2

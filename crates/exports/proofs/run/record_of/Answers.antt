@@ -1,7 +1,6 @@
 use Prim.Native.Nat.{ℕ}
 use mathlib.Core.Path.{ap}
 use Rattle.exports.specs.declared.run.ConfigRecord.{ConfigRecord}
-use borrow.Author.Rules.{rules}
 use Rattle.exports.proofs.run.record_of.Goals as goal
 
 pub returns : goal.returns

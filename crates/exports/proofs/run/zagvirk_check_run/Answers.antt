@@ -2,7 +2,6 @@ use mathlib.Core.Path.{sym, ap, ◌∙◌}
 use Rattle.fsbm.specs.Answers.{checked_values}
 use Rattle.fsbm.specs.declared.answer.Checked.{Checked}
 use Rattle.exports.specs.Run.{checked_record}
-use borrow.Author.Rules.{rules}
 use Rattle.exports.proofs.run.zagvirk_check_run.Goals as goal
 
 pub returns-in-Refused : goal.returns-in-Refused

@@ -3,7 +3,6 @@ use Rattle.fsbm.specs.declared.config.Config.{Config}
 use Rattle.fsbm.specs.declared.answer.Stepped.{Stepped}
 use Rattle.fsbm.specs.Answers.{stepped_values, step_values}
 use Rattle.exports.specs.Run.{stepped_record}
-use borrow.Author.Rules.{rules}
 use Rattle.exports.proofs.run.zagvirk_step.Goals as goal
 
 pub returns-in-Refused : goal.returns-in-Refused

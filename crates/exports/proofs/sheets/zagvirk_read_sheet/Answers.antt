@@ -1,6 +1,5 @@
 use mathlib.Core.Path.{ap}
 use Rattle.exports.specs.SheetAnswers.{read_record}
-use borrow.Author.Rules.{rules}
 use Rattle.exports.proofs.sheets.zagvirk_read_sheet.Goals as goal
 
 pub returns : goal.returns

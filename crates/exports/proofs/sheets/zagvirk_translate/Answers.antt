@@ -2,7 +2,6 @@ use mathlib.Core.Path.{ap, sym, ◌∙◌}
 use Rattle.spelling.specs.Spelling.{translated_values}
 use Rattle.spelling.specs.declared.Translated.{Translated}
 use Rattle.exports.specs.SheetAnswers.{translation_record}
-use borrow.Author.Rules.{rules}
 use Rattle.exports.proofs.sheets.zagvirk_translate.Goals as goal
 
 pub returns-in-Refused : goal.returns-in-Refused

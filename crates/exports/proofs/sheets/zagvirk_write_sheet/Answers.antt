@@ -2,7 +2,6 @@ use mathlib.Core.Path.{ap, sym, ◌∙◌}
 use Rattle.sheet.specs.Writing.{written_values}
 use Rattle.sheet.specs.declared.answers.Written.{Written}
 use Rattle.exports.specs.SheetAnswers.{written_record}
-use borrow.Author.Rules.{rules}
 use Rattle.exports.proofs.sheets.zagvirk_write_sheet.Goals as goal
 
 pub returns-in-Refused : goal.returns-in-Refused

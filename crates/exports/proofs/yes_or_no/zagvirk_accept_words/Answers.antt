@@ -2,7 +2,6 @@ use mathlib.Core.Path.{ap, sym, ◌∙◌}
 use Rattle.accepts.specs.Words.{answered_values}
 use Rattle.accepts.specs.declared.words.Answered.{Answered}
 use Rattle.exports.specs.YesOrNo.{words_answered_record}
-use borrow.Author.Rules.{rules}
 use Rattle.exports.proofs.yes_or_no.zagvirk_accept_words.Goals as goal
 
 pub returns-in-Refused : goal.returns-in-Refused

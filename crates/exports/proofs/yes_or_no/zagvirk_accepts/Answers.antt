@@ -2,7 +2,6 @@ use mathlib.Core.Path.{ap, sym, ◌∙◌}
 use Rattle.accepts.specs.Decision.{decided_values}
 use Rattle.accepts.specs.declared.prepared.Decided.{Decided}
 use Rattle.exports.specs.YesOrNo.{decided_record}
-use borrow.Author.Rules.{rules}
 use Rattle.exports.proofs.yes_or_no.zagvirk_accepts.Goals as goal
 
 pub returns-in-Refused : goal.returns-in-Refused

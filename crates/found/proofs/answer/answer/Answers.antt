@@ -3,7 +3,6 @@ use native.Mathlib.Omega.{arith}
 use mathlib.Core.Path.{sym}
 use lib.Seq.{length-take-le}
 use Rattle.found.proofs.AnswerCases.{says_none, says_word, says_first, says_second, says_found, length_fits, entries_fit, writable}
-use borrow.Author.Rules.{rules}
 use Rattle.found.proofs.answer.answer.Goals as goal
 
 pub returns-then-c-ge-NOTHING : goal.returns-then-c-ge-NOTHING

@@ -1,9 +1,5 @@
 use Prim.Native.Nat.{◌-◌, ◌≤◌}
-use native.Mathlib.Omega.{arith}
-use mathlib.Core.Path.{subst}
 use Rattle.found.specs.Best.{Best}
-use Rattle.found.specs.Best.Laws.{best_none}
-use Prim.Native.Nat.{ℕ}
 use Rattle.found.proofs.best.best.Given as goal
 
 abbrev pub invariant-loop-q : goal.invariant-loop-q

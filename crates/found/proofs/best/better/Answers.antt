@@ -1,8 +1,6 @@
 use mathlib.Core.Path.{sym, ◌∙◌}
-use borrow.Author.Tests.{not-true, not-false}
 use native.Mathlib.Omega.{arith}
 use Rattle.found.specs.Best.Laws.{best_passes, best_keeps, best_takes, best_top}
-use borrow.Author.Rules.{rules}
 use Rattle.found.proofs.best.better.Goals as goal
 
 pub returns-then-not-is_final : goal.returns-then-not-is_final

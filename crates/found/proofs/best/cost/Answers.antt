@@ -1,7 +1,6 @@
 use mathlib.Core.Path.{sym}
 use Rattle.found.specs.Best.Laws.{cost_past, cost_at}
 use native.Mathlib.Omega.{arith}
-use borrow.Author.Rules.{rules}
 use Rattle.found.proofs.best.cost.Goals as goal
 
 pub returns-then-q-ge-MOST_STATES : goal.returns-then-q-ge-MOST_STATES

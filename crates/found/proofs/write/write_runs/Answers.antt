@@ -2,7 +2,6 @@ use native.Mathlib.Omega.{arith}
 use mathlib.Core.Path.{sym}
 use Rattle.fsbm.specs.Rules.{rules as rules_of}
 use Rattle.found.proofs.FoundCases.{to_split, split_runs}
-use borrow.Author.Rules.{rules}
 use Rattle.found.proofs.write.write_runs.Goals as goal
 
 pub ends-middles-requires : goal.ends-middles-requires

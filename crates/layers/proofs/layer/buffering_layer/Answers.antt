@@ -1,6 +1,4 @@
-use borrow.Author.Tests.{not-true}
 use Rattle.layers.proofs.LayerCases.{buffering_made, buffering_none, lives}
-use borrow.Author.Rules.{rules}
 use Rattle.layers.proofs.layer.buffering_layer.Goals as goal
 
 pub read-passed-requires : goal.read-passed-requires

@@ -1,5 +1,4 @@
 use Rattle.layers.proofs.LayerCases.{closed_buffering}
-use borrow.Author.Rules.{rules}
 use Rattle.layers.proofs.layer.close_buffering.Goals as goal
 
 pub close-requires : goal.close-requires

@@ -1,7 +1,3 @@
-use borrow.Author.Tests.{not-true, not-false}
-use Prim.Native.Nat.{◌+◌}
-use Rattle.layers.specs.Layers.{LowerPlace}
-use Rattle.layers.specs.Rows.{weight}
 use Rattle.layers.proofs.LayerCases.{lower_here, lower_then, closed_after, shut_position}
 use Rattle.layers.proofs.layer.close_position.Goals as goal
 

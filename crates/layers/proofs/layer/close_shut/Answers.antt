@@ -1,5 +1,4 @@
 use Rattle.layers.proofs.LayerCases.{shut_made}
-use borrow.Author.Rules.{rules}
 use Rattle.layers.proofs.layer.close_shut.Goals as goal
 
 pub close-requires : goal.close-requires

@@ -1,4 +1,3 @@
-use borrow.Author.Tests.{not-true}
 use Rattle.layers.proofs.LayerCases.{emptying_made, emptying_none, lives, matching_inside}
 use Rattle.layers.proofs.layer.emptying_layer.Goals as goal
 

@@ -1,5 +1,4 @@
 use Rattle.layers.proofs.LayerCases.{first_last, first_not}
-use borrow.Author.Rules.{rules}
 use Rattle.layers.proofs.layer.first_row.Goals as goal
 
 pub returns-then-last : goal.returns-then-last

@@ -1,7 +1,6 @@
 use borrow.Author.Tests.{not-false}
 use Rattle.fsbm.specs.Rules.{rules as rules_of}
 use Rattle.layers.proofs.LayerCases.{position_made}
-use borrow.Author.Rules.{rules}
 use Rattle.layers.proofs.layer.position_layer.Goals as goal
 
 pub first_row-normal-requires : goal.first_row-normal-requires

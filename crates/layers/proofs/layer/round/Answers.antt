@@ -2,7 +2,6 @@ use mathlib.Core.Bool.{false≢true}
 use mathlib.Core.Logic.{inl, inr}
 use mathlib.Core.Path.{sym}
 use Rattle.layers.proofs.LayerCases.{round_made}
-use borrow.Author.Rules.{rules}
 use Rattle.layers.proofs.layer.round.Goals as goal
 
 pub close-requires : goal.close-requires

@@ -1,7 +1,4 @@
-use Prim.Native.Nat.{◌≤◌, ◌-◌}
 use native.Mathlib.Omega.{arith}
-use borrow.Author.Rules.{rules}
-use Rattle.layers.specs.Layers.{Seeded}
 use Rattle.layers.proofs.LayerCases.{seed_start, seed_joined, seed_end}
 use Rattle.layers.proofs.layer.seeds.Goals as goal
 use Rattle.layers.proofs.layer.seeds.Goals.{then-is_final, else-is_final}

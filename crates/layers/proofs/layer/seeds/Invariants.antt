@@ -1,9 +1,5 @@
 use Prim.Native.Nat.{◌≤◌, ◌-◌}
-use mathlib.Core.Logic.{⊎_elim}
-use native.Mathlib.Omega.{arith}
-use borrow.Author.Rules.{rules}
 use Rattle.layers.specs.Layers.{Seeded}
-use Rattle.layers.proofs.LayerCases.{seed_start, seed_joined, seed_end}
 use Rattle.layers.proofs.layer.seeds.Given as goal
 
 abbrev pub invariant-loop-q : goal.invariant-loop-q

@@ -1,5 +1,4 @@
 use Rattle.layers.proofs.LayerCases.{none_storing, all_storing}
-use borrow.Author.Rules.{rules}
 use Rattle.layers.proofs.layer.storing_states.Goals as goal
 
 pub returns-then-starts-eq0 : goal.returns-then-starts-eq0

@@ -1,5 +1,4 @@
 use Rattle.layers.proofs.RowCases.{apart_both, apart_one}
-use borrow.Author.Rules.{rules}
 use Rattle.layers.proofs.row.apart.Goals as goal
 
 pub returns-then-member : goal.returns-then-member

@@ -1,5 +1,4 @@
 use Rattle.layers.proofs.RowCases.{buffering_open}
-use borrow.Author.Rules.{rules}
 use Rattle.layers.proofs.row.buffering_cut.Goals as goal
 
 pub returns : goal.returns

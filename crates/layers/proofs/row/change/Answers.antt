@@ -1,11 +1,8 @@
-use borrow.Author.Rules.{rules}
 use native.Mathlib.Omega.{arith}
 use mathlib.Core.Path.{refl}
-use lib.Count.{ones}
 use Rattle.stateset.specs.Set.{width}
 use Rattle.stateset.specs.Set.Laws.{in_lt, drop_lowest, lowest_removed}
-use Rattle.layers.specs.Rows.{Beside}
-use Rattle.layers.specs.Rows.Laws.{Sweeping, sweep_start, sweep_falls, sweep_stays, sweep_end, beside_one}
+use Rattle.layers.specs.Rows.Laws.{sweep_start, sweep_falls, sweep_stays, sweep_end, beside_one}
 use Rattle.layers.proofs.row.change.Goals as goal
 
 pub loop-rest-init : goal.loop-rest-init

@@ -1,5 +1,4 @@
 use Rattle.layers.proofs.RowCases.{cut_as}
-use borrow.Author.Rules.{rules}
 use Rattle.layers.proofs.row.cut.Goals as goal
 
 pub returns-in-Normal : goal.returns-in-Normal

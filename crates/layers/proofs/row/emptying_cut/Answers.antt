@@ -1,5 +1,4 @@
 use Rattle.layers.proofs.RowCases.{emptying_open, emptying_shut}
-use borrow.Author.Rules.{rules}
 use Rattle.layers.proofs.row.emptying_cut.Goals as goal
 
 pub returns-then-member : goal.returns-then-member

@@ -1,8 +1,6 @@
 use native.Mathlib.Omega.{arith}
 use mathlib.Core.Path.{refl}
-use Prim.Native.Nat.{◌-◌}
-use Rattle.layers.proofs.RowCases.{Glancing, glancing_start, glancing_turn, glance_end}
-use borrow.Author.Rules.{rules}
+use Rattle.layers.proofs.RowCases.{glancing_start, glancing_turn, glance_end}
 use Rattle.layers.proofs.row.glance.Goals as goal
 
 pub least_below-least-requires : goal.least_below-least-requires

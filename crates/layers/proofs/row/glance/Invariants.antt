@@ -1,8 +1,5 @@
-use native.Mathlib.Omega.{arith}
-use mathlib.Core.Path.{refl}
 use Prim.Native.Nat.{◌-◌}
-use Rattle.layers.proofs.RowCases.{Glancing, glancing_start, glancing_turn, glance_end}
-use borrow.Author.Rules.{rules}
+use Rattle.layers.proofs.RowCases.{Glancing}
 use Rattle.layers.proofs.row.glance.Given as goal
 
 abbrev pub invariant-loop-q : goal.invariant-loop-q

@@ -1,5 +1,4 @@
 use Rattle.layers.proofs.RowCases.{blank_said}
-use borrow.Author.Rules.{rules}
 use Rattle.layers.proofs.row.is_blank.Goals as goal
 
 pub returns : goal.returns

@@ -1,9 +1,7 @@
 use native.Mathlib.Omega.{arith}
 use mathlib.Core.Path.{refl}
-use Prim.Native.Nat.{ℕ, ◌≤◌, ◌<◌, ◌-◌}
-use Rattle.layers.specs.Costs.{at}
+use Prim.Native.Nat.{◌<◌}
 use Rattle.layers.proofs.RowCases.{below_turn}
-use borrow.Author.Rules.{rules}
 use Rattle.layers.proofs.row.least_below.Goals as goal
 
 pub loop-q-init : goal.loop-q-init

@@ -1,9 +1,5 @@
-use native.Mathlib.Omega.{arith}
-use mathlib.Core.Path.{refl}
 use Prim.Native.Nat.{ℕ, ◌≤◌, ◌<◌, ◌-◌}
 use Rattle.layers.specs.Costs.{at}
-use Rattle.layers.proofs.RowCases.{below_turn}
-use borrow.Author.Rules.{rules}
 use Rattle.layers.proofs.row.least_below.Given as goal
 
 abbrev pub invariant-loop-q : goal.invariant-loop-q

@@ -1,5 +1,4 @@
 use Rattle.layers.proofs.RowCases.{least_low}
-use borrow.Author.Rules.{rules}
 use Rattle.layers.proofs.row.least_in.Goals as goal
 
 pub returns-then-intersection-ne0 : goal.returns-then-intersection-ne0

@@ -1,9 +1,7 @@
-use borrow.Author.Rules.{rules}
 use native.Mathlib.Omega.{arith}
-use lib.Count.{ones}
 use Rattle.stateset.specs.Set.{width}
 use Rattle.stateset.specs.Set.Laws.{in_lt, drop_lowest, lowest_removed}
-use Rattle.layers.proofs.RowCases.{Least, least_start, least_turn, least_end}
+use Rattle.layers.proofs.RowCases.{least_start, least_turn, least_end}
 use Rattle.layers.proofs.row.least_of.Goals as goal
 
 pub loop-rest-init : goal.loop-rest-init

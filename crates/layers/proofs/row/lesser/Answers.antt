@@ -1,6 +1,5 @@
 use native.Mathlib.Omega.{arith}
 use Rattle.layers.proofs.RowCases.{lesser_is, lesser_not}
-use borrow.Author.Rules.{rules}
 use Rattle.layers.proofs.row.lesser.Goals as goal
 
 pub returns-then-d-v : goal.returns-then-d-v

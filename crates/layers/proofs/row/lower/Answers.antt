@@ -1,5 +1,4 @@
 use Rattle.layers.proofs.RowCases.{lower_not, lower_is}
-use borrow.Author.Rules.{rules}
 use Rattle.layers.proofs.row.lower.Goals as goal
 
 pub returns-then-e-d : goal.returns-then-e-d

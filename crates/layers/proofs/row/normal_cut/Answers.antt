@@ -1,5 +1,4 @@
 use Rattle.layers.proofs.RowCases.{normal_shut, normal_open}
-use borrow.Author.Rules.{rules}
 use Rattle.layers.proofs.row.normal_cut.Goals as goal
 
 pub returns-then-member : goal.returns-then-member

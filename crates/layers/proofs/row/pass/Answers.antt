@@ -1,11 +1,8 @@
-use borrow.Author.Rules.{rules}
 use native.Mathlib.Omega.{arith}
 use mathlib.Core.Path.{refl}
-use lib.Count.{ones}
 use Rattle.stateset.specs.Set.Laws.{drop_lowest, lowest_removed}
 use Rattle.fsbm.specs.Rules.{rules as rules_of}
-use Rattle.layers.specs.Rows.{Through}
-use Rattle.layers.specs.Rows.Laws.{Sweeping, sweep_start, sweep_falls, sweep_stays, sweep_end}
+use Rattle.layers.specs.Rows.Laws.{sweep_start, sweep_falls, sweep_stays, sweep_end}
 use Rattle.layers.proofs.row.pass.Goals as goal
 
 pub glance-s-requires : goal.glance-s-requires

@@ -1,6 +1,5 @@
 use native.Mathlib.Omega.{arith}
 use Rattle.layers.specs.Rows.Laws.{reads_none, through_reads}
-use Rattle.layers.proofs.row.read.Reads as reads
 use Rattle.layers.proofs.row.read.Goals as goal
 
 pub returns-then-x-eq0 : goal.returns-then-x-eq0

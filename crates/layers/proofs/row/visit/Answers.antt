@@ -1,7 +1,6 @@
 use native.Mathlib.Omega.{arith}
 use Rattle.fsbm.specs.Rules.{rules as rules_of}
 use Rattle.layers.proofs.RowCases.{visit_seen, visit_live, visit_none}
-use borrow.Author.Rules.{rules}
 use Rattle.layers.proofs.row.visit.Goals as goal
 
 pub lower-requires : goal.lower-requires

@@ -1,6 +1,5 @@
 use mathlib.Core.Path.{sym, ◌∙◌}
 use Rattle.least.specs.Falls.Laws.{enterable_held, enterable_all}
-use borrow.Author.Rules.{rules}
 use Rattle.least.proofs.fall.enterable.Goals as goal
 
 pub returns-then-member : goal.returns-then-member

@@ -1,6 +1,5 @@
 use native.Mathlib.Omega.{arith}
 use Rattle.least.specs.Falls.Laws.{fall_not, fall_is}
-use borrow.Author.Rules.{rules}
 use Rattle.least.proofs.fall.fall.Goals as goal
 
 pub returns-then-d-q : goal.returns-then-d-q

@@ -3,7 +3,6 @@ use native.Mathlib.Omega.{arith}
 use mathlib.Core.Path.{sym, ◌∙◌}
 use Rattle.pieces.specs.Blocks.Laws.{cost_inside}
 use Rattle.least.specs.Falls.Laws.{normal_none, normal_buffers, normal_past, normal_steps}
-use borrow.Author.Rules.{rules}
 use Rattle.least.proofs.fall.normal.Goals as goal
 
 pub returns-then-m-q : goal.returns-then-m-q

@@ -1,12 +1,10 @@
 use native.Mathlib.Omega.{arith}
 use Prim.Native.Nat.{◌+◌, ◌*◌}
 use mathlib.Core.Path.{refl, sym, ◌∙◌}
-use borrow.Author.Tests.{not-true, not-false}
 use Rattle.stateset.specs.Set.{width}
 use Rattle.stateset.specs.Set.Laws.{in_lt, has_in}
 use Rattle.least.specs.Falls.Laws.{step_not, step_is}
 use lib.ListN.{get_or}
-use borrow.Author.Rules.{rules}
 use Rattle.least.proofs.fall.step.Goals as goal
 
 pub overflow_cast-to : goal.overflow_cast-to

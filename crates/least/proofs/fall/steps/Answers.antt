@@ -1,8 +1,6 @@
 use native.Mathlib.Omega.{arith}
-use Prim.Native.Nat.{◌≤◌, ◌-◌}
-use mathlib.Core.Path.{◌≡◌, refl, ◌∙◌}
-use mathlib.Core.Logic.{◌⊎◌, inl, inr}
-use Rattle.least.specs.Falls.{Falls, Steps}
+use mathlib.Core.Path.{refl, ◌∙◌}
+use mathlib.Core.Logic.{inl, inr}
 use Rattle.least.specs.Falls.Laws.{steps_start, steps_more, steps_past}
 use Rattle.least.proofs.fall.steps.Goals as goal
 

@@ -1,9 +1,7 @@
-use native.Mathlib.Omega.{arith}
 use Prim.Native.Nat.{◌≤◌, ◌-◌}
-use mathlib.Core.Path.{◌≡◌, refl, ◌∙◌}
-use mathlib.Core.Logic.{◌⊎◌, inl, inr}
+use mathlib.Core.Path.{◌≡◌}
+use mathlib.Core.Logic.{◌⊎◌}
 use Rattle.least.specs.Falls.{Falls, Steps}
-use Rattle.least.specs.Falls.Laws.{steps_start, steps_more, steps_past}
 use Rattle.least.proofs.fall.steps.Given as goal
 
 abbrev pub invariant-loop-k : goal.invariant-loop-k

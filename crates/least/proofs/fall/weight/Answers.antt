@@ -1,6 +1,5 @@
 use native.Mathlib.Omega.{arith}
 use Rattle.least.specs.Falls.Laws.{weigh_letter}
-use borrow.Author.Rules.{rules}
 use Rattle.least.proofs.fall.weight.Goals as goal
 
 pub returns : goal.returns

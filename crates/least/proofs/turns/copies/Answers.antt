@@ -1,13 +1,6 @@
-use Prim.Native.Nat.{◌≤◌}
 use native.Mathlib.Omega.{arith}
-use mathlib.Core.Path.{◌≡◌, ◌∙◌}
-use borrow.Author.Rules.{rules}
-use lib.ListN.{length}
-use lib.Count.{ones}
-use Rattle.blocks.specs.Numbers.Laws.{Left, Rest, rest_start, rest_more, lowest_inside, taken}
-use Rattle.blocks.specs.Settling.{Past}
-use Rattle.least.specs.Falls.{Falls}
-use Rattle.least.specs.Turns.{Made, Bound, Limit}
+use mathlib.Core.Path.{◌∙◌}
+use Rattle.blocks.specs.Numbers.Laws.{rest_start, rest_more, lowest_inside, taken}
 use Rattle.least.specs.Turns.Laws.{copies_start, copies_more, copies_end, copies_under, limit_falls}
 use Rattle.least.proofs.turns.copies.Goals as goal
 

@@ -1,5 +1,4 @@
 use Rattle.fsbm.specs.Rules.{rules as rules_of}
-use borrow.Author.Rules.{rules}
 use Rattle.least.proofs.turns.costs.Goals as goal
 
 pub ends-storing-requires : goal.ends-storing-requires

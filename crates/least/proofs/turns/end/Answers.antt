@@ -1,6 +1,5 @@
 use native.Mathlib.Omega.{arith}
 use Rattle.least.specs.Falls.Laws.{end_not, end_is}
-use borrow.Author.Rules.{rules}
 use Rattle.least.proofs.turns.end.Goals as goal
 
 pub returns-then-top-v : goal.returns-then-top-v

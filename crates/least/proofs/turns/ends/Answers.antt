@@ -1,7 +1,4 @@
 use native.Mathlib.Omega.{arith}
-use Prim.Native.Nat.{◌-◌}
-use borrow.Author.Rules.{rules}
-use Rattle.least.specs.Turns.{EnteredBelow}
 use Rattle.least.specs.Turns.Laws.{below_start, below_more, below_end}
 use Rattle.least.proofs.turns.ends.Goals as goal
 

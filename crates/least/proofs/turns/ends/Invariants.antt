@@ -1,8 +1,5 @@
-use native.Mathlib.Omega.{arith}
 use Prim.Native.Nat.{◌-◌}
-use borrow.Author.Rules.{rules}
 use Rattle.least.specs.Turns.{EnteredBelow}
-use Rattle.least.specs.Turns.Laws.{below_start, below_more, below_end}
 use Rattle.least.proofs.turns.ends.Given as goal
 
 abbrev pub invariant-loop-k : goal.invariant-loop-k

@@ -1,6 +1,5 @@
 use mathlib.Core.Path.{sym, ◌∙◌}
 use Rattle.least.specs.Turns.Laws.{first_yes, first_no}
-use borrow.Author.Rules.{rules}
 use Rattle.least.proofs.turns.first.Goals as goal
 
 pub returns-then-member : goal.returns-then-member

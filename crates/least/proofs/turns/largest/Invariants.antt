@@ -1,11 +1,7 @@
-use native.Mathlib.Omega.{arith}
 use Prim.Native.Nat.{ℕ, ◌≤◌}
-use borrow.Author.Rules.{rules}
 use lib.Count.{ones}
 use Rattle.pieces.specs.Blocks.{cost_of}
-use Rattle.pieces.specs.Blocks.Laws.{cost_inside}
-use Rattle.blocks.specs.Numbers.Laws.{Left, Rest, rest_start, rest_more, lowest_inside, taken}
-use Rattle.least.specs.Turns.Laws.{most_start, most_more, most_over, most_end}
+use Rattle.blocks.specs.Numbers.Laws.{Left, Rest}
 use Rattle.least.proofs.turns.largest.Given as goal
 
 abbrev pub invariant-loop-rest : goal.invariant-loop-rest

@@ -1,8 +1,6 @@
 use mathlib.Core.Path.{sym, ◌∙◌, refl}
 use native.Mathlib.Omega.{arith}
-use borrow.Author.Tests.{not-false}
 use Rattle.least.specs.Turns.Laws.{lowered_same, lowered_to}
-use borrow.Author.Rules.{rules}
 use Rattle.least.proofs.turns.lower_limit.Goals as goal
 
 pub returns-then-not-is_final : goal.returns-then-not-is_final

@@ -1,6 +1,4 @@
-use Prim.Native.Nat.{◌-◌, ◌≤◌}
 use native.Mathlib.Omega.{arith}
-use Rattle.least.specs.Turns.{Lowered}
 use Rattle.least.specs.Turns.Laws.{lowered_same, lowered_then}
 use Rattle.least.proofs.turns.lowered.Goals as goal
 

@@ -1,7 +1,5 @@
 use Prim.Native.Nat.{◌-◌, ◌≤◌}
-use native.Mathlib.Omega.{arith}
 use Rattle.least.specs.Turns.{Lowered}
-use Rattle.least.specs.Turns.Laws.{lowered_same, lowered_then}
 use Rattle.least.proofs.turns.lowered.Given as goal
 
 abbrev pub invariant-loop-f : goal.invariant-loop-f

@@ -1,11 +1,6 @@
 use native.Mathlib.Omega.{arith}
-use Prim.Native.Nat.{◌+◌, ◌*◌}
 use mathlib.Core.Path.{◌∙◌}
-use borrow.Author.Rules.{rules}
-use lib.Count.{ones}
-use Rattle.blocks.specs.Numbers.{total}
 use Rattle.blocks.specs.Numbers.Laws.{lowest_inside, taken}
-use Rattle.least.specs.Turns.{NormalSo}
 use Rattle.least.specs.Turns.Laws.{so_start, so_more, so_end}
 use Rattle.least.proofs.turns.normal_turn.Goals as goal
 

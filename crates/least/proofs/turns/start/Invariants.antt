@@ -1,11 +1,8 @@
-use native.Mathlib.Omega.{arith}
 use Prim.Native.Nat.{ℕ, ◌≤◌, ◌<◌, ◌-◌}
-use mathlib.Core.Path.{◌≡◌, ◌∙◌}
-use borrow.Author.Rules.{rules}
-use lib.ListN.{length, get_or, length-set}
+use mathlib.Core.Path.{◌≡◌}
+use lib.ListN.{length, get_or}
 use Rattle.stateset.specs.Set.{has}
 use Rattle.least.specs.Turns.{first_of}
-use Rattle.least.specs.Turns.Laws.{first_more, first_end}
 use Rattle.least.proofs.turns.start.Given as goal
 
 abbrev pub invariant-loop-q : goal.invariant-loop-q

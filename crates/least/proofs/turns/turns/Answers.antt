@@ -1,12 +1,4 @@
-use Prim.Native.Nat.{◌+◌, ◌*◌}
-use mathlib.Core.Path.{◌≡◌, ◌∙◌}
-use borrow.Author.Rules.{rules}
-use lib.ListN.{length}
-use lib.Count.{ones}
-use Rattle.stateset.specs.Set.{In}
-use Rattle.blocks.specs.Numbers.{total}
-use Rattle.blocks.specs.Settling.{Past}
-use Rattle.least.specs.Turns.{RoundsOf, Limit}
+use mathlib.Core.Path.{◌∙◌}
 use Rattle.least.specs.Turns.Laws.{first_rounds, initial_is, turns_part, turns_buffer, turns_end, turns_less, rounds_under, limit_falls, limit_none}
 use Rattle.least.proofs.turns.turns.Goals as goal
 

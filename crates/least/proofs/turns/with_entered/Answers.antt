@@ -1,12 +1,10 @@
 use native.Mathlib.Omega.{arith}
 use Prim.Native.Nat.{◌+◌, ◌*◌}
 use mathlib.Core.Path.{sym, ◌∙◌}
-use borrow.Author.Tests.{not-true, not-false}
 use Rattle.stateset.specs.Set.{width}
 use Rattle.stateset.specs.Set.Laws.{in_lt, has_in}
 use lib.ListN.{get_or}
 use Rattle.least.specs.Turns.Laws.{entered_other, entered_inside, entered_is}
-use borrow.Author.Rules.{rules}
 use Rattle.least.proofs.turns.with_entered.Goals as goal
 
 pub overflow_cast-to : goal.overflow_cast-to

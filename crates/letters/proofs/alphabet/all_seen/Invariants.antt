@@ -1,15 +1,9 @@
 use Prim.Native.Nat.{◌≤◌, ◌-◌}
 use mathlib.Core.Path.{◌≡◌}
 use mathlib.Core.Bool.{not}
-use native.Mathlib.Omega.{arith}
-use borrow.Author.Rules.{rules}
 use lib.Dec.{eqb}
 use Rattle.basics.specs.Search.{all_below}
 use Rattle.letters.specs.Seen.{noted}
-use Rattle.letters.proofs.AlphabetCases.{seen_start, seen_more, seen_all}
-use Rattle.letters.proofs.alphabet.all_seen.Reads as reads
-use Rattle.letters.proofs.alphabet.all_seen.Lts as lts
-use Rattle.letters.proofs.alphabet.smaller.Reads as smaller-reads
 use Rattle.letters.proofs.alphabet.all_seen.Given as goal
 
 abbrev pub invariant-loop-k : goal.invariant-loop-k

@@ -2,9 +2,6 @@ use Rattle.basics.specs.Search.Loops.{first, second}
 use borrow.Author.Tests.{eq-eqb, ne_eqb}
 use native.Mathlib.Numerals.{add-one}
 use mathlib.Core.Path.{refl}
-use borrow.Author.Rules.{rules}
-use Rattle.letters.proofs.alphabet.counted.Reads as reads
-use Rattle.letters.proofs.alphabet.counted.Lts as lts
 use Rattle.letters.proofs.alphabet.counted.Goals as goal
 
 -- src/alphabet.rt:56:9

@@ -1,11 +1,4 @@
-use borrow.Author.Rules.{rules}
-use native.Mathlib.Omega.{arith}
 use Rattle.letters.proofs.AlphabetCases.{good_many, good_count, good_rest}
-use Rattle.letters.proofs.alphabet.is_good.Reads as reads
-use Rattle.letters.proofs.alphabet.is_good.Lts as lts
-use Rattle.letters.proofs.alphabet.is_gapless.Reads as is-gapless-reads
-use Rattle.letters.proofs.alphabet.largest.Reads as largest-reads
-use Rattle.letters.proofs.alphabet.with_letters.Reads as with-letters-reads
 use Rattle.letters.proofs.alphabet.is_good.Goals as goal
 
 -- src/alphabet.rt:133:9

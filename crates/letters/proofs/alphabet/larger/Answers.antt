@@ -1,8 +1,6 @@
 use Rattle.basics.specs.Search.Loops.{first, second}
 use borrow.Author.Tests.{le-leb, lt-leb}
 use mathlib.Core.Path.{refl}
-use Rattle.letters.proofs.alphabet.larger.Reads as reads
-use Rattle.letters.proofs.alphabet.larger.Lts as lts
 use Rattle.letters.proofs.alphabet.larger.Goals as goal
 
 -- src/alphabet.rt:32:9

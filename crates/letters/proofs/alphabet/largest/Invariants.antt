@@ -1,12 +1,6 @@
 use Prim.Native.Nat.{◌≤◌, ◌-◌}
-use mathlib.Core.Path.{◌≡◌, refl, sym, ap, ◌∙◌}
-use native.Mathlib.Omega.{arith}
-use borrow.Author.Rules.{rules}
+use mathlib.Core.Path.{◌≡◌}
 use Rattle.letters.specs.Alphabet.{letter_in, largest_of}
-use Rattle.letters.proofs.AlphabetCases.{largest_none, largest_next, largest_end}
-use Rattle.letters.proofs.alphabet.largest.Reads as reads
-use Rattle.letters.proofs.alphabet.largest.Lts as lts
-use Rattle.letters.proofs.alphabet.larger.Reads as larger-reads
 use Rattle.letters.proofs.alphabet.largest.Given as goal
 
 abbrev pub invariant-loop-v : goal.invariant-loop-v

@@ -1,8 +1,6 @@
 use Rattle.basics.specs.Search.Loops.{first, second}
 use borrow.Author.Tests.{le-leb, lt-leb}
 use mathlib.Core.Path.{refl}
-use Rattle.letters.proofs.alphabet.smaller.Reads as reads
-use Rattle.letters.proofs.alphabet.smaller.Lts as lts
 use Rattle.letters.proofs.alphabet.smaller.Goals as goal
 
 -- src/alphabet.rt:99:9

@@ -1,7 +1,4 @@
 use Rattle.letters.proofs.LoadingCases.{kept_nought, kept_large, kept_small}
-use borrow.Author.Rules.{rules}
-use Rattle.letters.proofs.loading.keep.Reads as reads
-use Rattle.letters.proofs.loading.keep.Lts as lts
 use Rattle.letters.proofs.loading.keep.Goals as goal
 
 -- src/loading.rt:88:9

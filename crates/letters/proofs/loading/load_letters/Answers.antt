@@ -1,15 +1,5 @@
-use native.Mathlib.Omega.{arith}
-use mathlib.Core.Path.{◌∙◌, sym, subst}
-use borrow.Author.Tests.{not-true, not-false}
-use Rattle.letters.specs.Lines.{LinesRead}
+use mathlib.Core.Path.{◌∙◌, sym}
 use Rattle.letters.proofs.LoadingCases.{load_fault_lem, load_large, load_gap, load_good, lines_zero}
-use borrow.Author.Rules.{rules}
-use Rattle.letters.proofs.loading.load_letters.Reads as reads
-use Rattle.letters.proofs.loading.load_letters.Lts as lts
-use Rattle.letters.proofs.alphabet.is_gapless.Reads as is-gapless-reads
-use Rattle.letters.proofs.alphabet.largest.Reads as largest-reads
-use Rattle.letters.proofs.loading.read_lines.Reads as read-lines-reads
-use Rattle.letters.proofs.loading.refused.Reads as refused-reads
 use Rattle.letters.proofs.loading.load_letters.Goals as goal
 
 -- src/loading.rt:151:9

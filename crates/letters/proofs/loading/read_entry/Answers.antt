@@ -1,11 +1,6 @@
 use mathlib.Core.Path.{◌≡◌}
 use native.Mathlib.Omega.{arith}
 use Rattle.letters.proofs.LoadingCases.{entry_bad, entry_short, entry_first, entry_second, entry_end, entry_good}
-use borrow.Author.Rules.{rules}
-use Rattle.letters.proofs.loading.read_entry.Reads as reads
-use Rattle.letters.proofs.loading.read_entry.Lts as lts
-use Rattle.letters.proofs.loading.bad_entry.Reads as bad-entry-reads
-use Rattle.letters.proofs.loading.column.Reads as column-reads
 use Rattle.letters.proofs.loading.read_entry.Goals as goal
 
 -- src/loading.rt:63:9

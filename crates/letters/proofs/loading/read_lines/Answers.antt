@@ -1,12 +1,5 @@
-use Prim.Native.Nat.{◌-◌}
 use native.Mathlib.Omega.{arith}
-use borrow.Author.Rules.{rules}
-use lib.ListN.{length}
-use Rattle.letters.proofs.LoadingCases.{LinesTo, lines_none, lines_end, line_broken, line_many, line_byte, line_twice, line_next}
-use Rattle.letters.proofs.loading.read_lines.Reads as reads
-use Rattle.letters.proofs.loading.read_lines.Lts as lts
-use Rattle.letters.proofs.loading.keep.Reads as keep-reads
-use Rattle.letters.proofs.loading.read_entry.Reads as read-entry-reads
+use Rattle.letters.proofs.LoadingCases.{lines_none, lines_end, line_broken, line_many, line_byte, line_twice, line_next}
 use Rattle.letters.proofs.loading.read_lines.Goals as goal
 
 -- src/loading.rt:104:5

@@ -1,9 +1,6 @@
 use mathlib.Core.Path.{sym}
 use native.Mathlib.Omega.{arith}
 use Rattle.letters.specs.Alphabet.Laws.{letter_in_lem}
-use borrow.Author.Rules.{rules}
-use Rattle.letters.proofs.translation.letter.Reads as reads
-use Rattle.letters.proofs.translation.letter.Lts as lts
 use Rattle.letters.proofs.translation.letter.Goals as goal
 
 -- src/translation.rt:25:1

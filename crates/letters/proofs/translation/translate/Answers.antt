@@ -1,11 +1,4 @@
-use borrow.Author.Rules.{rules}
-use borrow.Author.Tests.{not-true, not-false}
 use Rattle.letters.proofs.TranslationCases.{translate_broken, translate_long, translate_unknown, translate_short, translate_done, translate_says}
-use Rattle.letters.proofs.translation.translate.Reads as reads
-use Rattle.letters.proofs.translation.translate.Lts as lts
-use Rattle.letters.proofs.alphabet.is_good.Reads as is-good-reads
-use Rattle.letters.proofs.translation.have_letters.Reads as have-letters-reads
-use Rattle.letters.proofs.translation.write_letters.Reads as write-letters-reads
 use Rattle.letters.proofs.translation.translate.Goals as goal
 
 -- src/translation.rt:65:9

@@ -1,14 +1,8 @@
-use Prim.Native.Nat.{◌≤◌, ◌-◌}
-use mathlib.Core.Path.{◌≡◌, refl, ◌∙◌}
-use mathlib.Core.List.{◌++◌, map}
+use mathlib.Core.Path.{refl, ◌∙◌}
 use native.Mathlib.Omega.{arith}
-use lib.ListN.{length, take, drop, length-set}
-use borrow.Author.Rules.{rules}
+use lib.ListN.{length-set}
 use Rattle.letters.specs.Alphabet.{letter_in}
 use Rattle.letters.proofs.TranslationCases.{letters_more, letters_done}
-use Rattle.letters.proofs.translation.write_letters.Reads as reads
-use Rattle.letters.proofs.translation.write_letters.Lts as lts
-use Rattle.letters.proofs.translation.letter.Reads as letter-reads
 use Rattle.letters.proofs.translation.write_letters.Goals as goal
 
 -- src/translation.rt:51:5

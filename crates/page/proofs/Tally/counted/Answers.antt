@@ -1,5 +1,4 @@
 use Rattle.page.proofs.PageCases.{counted_normal, counted_buffering, counted_emptying}
-use borrow.Author.Rules.{rules}
 use Rattle.page.proofs.Tally.counted.Goals as goal
 
 pub returns-then-number-eq-NORMAL : goal.returns-then-number-eq-NORMAL

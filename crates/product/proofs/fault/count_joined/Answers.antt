@@ -1,10 +1,9 @@
-use Prim.Native.Nat.{◌≤◌, ◌-◌}
+use Prim.Native.Nat.{◌≤◌}
 use native.Mathlib.Omega.{arith}
 use native.Mathlib.Nat.{mul-le-mul}
 use lib.ListN.{get_or}
 use Rattle.fsbm.specs.Rules.{rules as rules_of}
 use Rattle.product.proofs.FaultCases.{letter_few, count_is}
-use borrow.Author.Rules.{rules}
 use Rattle.product.proofs.fault.count_joined.Goals as goal
 
 pub tally-a-requires : goal.tally-a-requires

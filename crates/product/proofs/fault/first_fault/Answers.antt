@@ -3,11 +3,10 @@ use Prim.Native.Nat.{ℕ}
 use mathlib.Core.Path.{◌≡◌, refl, sym, ◌∙◌}
 use native.Mathlib.Omega.{arith}
 use native.Mathlib.Nat.{mul-le-mul}
-use borrow.Author.Tests.{not-true, not-false, eq-eqb, ne_eqb, le-leb, lt-leb}
+use borrow.Author.Tests.{eq-eqb, ne_eqb, le-leb, lt-leb}
 use Rattle.fsbm.specs.Rules.{rules as rules_of}
 use Rattle.basics.specs.Search.Loops.{first, second}
 use Rattle.product.specs.Product.{joined_count, join_fault}
-use borrow.Author.Rules.{rules}
 use Rattle.product.proofs.fault.first_fault.Goals as goal
 
 pub returns-then-not-is_well_formed : goal.returns-then-not-is_well_formed

@@ -1,8 +1,6 @@
 use mathlib.Core.Path.{sym, ◌∙◌}
-use borrow.Author.Tests.{not-true, not-false}
 use Rattle.basics.specs.Search.Loops.{pass, stop}
 use Rattle.product.specs.Product.{plain}
-use borrow.Author.Rules.{rules}
 use Rattle.product.proofs.fault.is_plain.Goals as goal
 
 pub returns-then-not-plain_states : goal.returns-then-not-plain_states

@@ -1,7 +1,6 @@
 use mathlib.Core.Path.{sym, ap, ◌∙◌}
 use mathlib.Core.Bool.{not}
 use Rattle.basics.specs.Search.Loops.{pass, stop}
-use borrow.Author.Rules.{rules}
 use Rattle.product.proofs.fault.plain_state.Goals as goal
 
 pub returns-then-is_buffering : goal.returns-then-is_buffering

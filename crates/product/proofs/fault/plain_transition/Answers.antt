@@ -2,7 +2,6 @@ use mathlib.Core.Path.{ap}
 use mathlib.Core.Bool.{not}
 use lib.Dec.{eqb}
 use Rattle.fsbm.specs.declared.machine.Transition.{Transition}
-use borrow.Author.Rules.{rules}
 use Rattle.product.proofs.fault.plain_transition.Goals as goal
 
 pub returns : goal.returns

@@ -1,9 +1,5 @@
-use mathlib.Core.Path.{◌≡◌, refl}
-use native.Mathlib.Omega.{arith}
-use borrow.Author.Rules.{rules}
-use borrow.Author.Tests.{not-true, not-false}
+use mathlib.Core.Path.{◌≡◌}
 use Rattle.basics.specs.Search.{all_below}
-use Rattle.basics.specs.Search.Loops.{all_fails, all_goes_on, all_done}
 use Rattle.product.specs.Product.{plain_transition}
 use Rattle.product.proofs.fault.plain_transitions.Given as goal
 

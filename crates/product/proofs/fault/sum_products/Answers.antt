@@ -1,8 +1,6 @@
-use Prim.Native.Nat.{suc, ◌≤◌, ◌-◌, ◌+◌, ◌*◌}
-use mathlib.Core.Path.{◌≡◌}
+use Prim.Native.Nat.{◌*◌}
 use native.Mathlib.Omega.{arith}
 use lib.ListN.{get_or}
-use Rattle.product.specs.Each.{sum_over}
 use Rattle.product.proofs.FaultCases.{product_small, products_start, products_next, products_end}
 use Rattle.product.proofs.fault.sum_products.Goals as goal
 

@@ -1,9 +1,7 @@
 use Prim.Native.Nat.{suc, ◌≤◌, ◌-◌, ◌+◌, ◌*◌}
 use mathlib.Core.Path.{◌≡◌}
-use native.Mathlib.Omega.{arith}
 use lib.ListN.{get_or}
 use Rattle.product.specs.Each.{sum_over}
-use Rattle.product.proofs.FaultCases.{product_small, products_start, products_next, products_end}
 use Rattle.product.proofs.fault.sum_products.Given as goal
 
 abbrev pub invariant-loop-x : goal.invariant-loop-x

@@ -1,8 +1,6 @@
-use Prim.Native.Nat.{ℕ, ◌≤◌, ◌<◌, ◌-◌}
+use Prim.Native.Nat.{ℕ}
 use mathlib.Core.Path.{◌≡◌, ap, ◌∙◌}
 use native.Mathlib.Omega.{arith}
-use lib.ListN.{length, get_or}
-use borrow.Author.Rules.{rules}
 use Rattle.fsbm.specs.declared.machine.Transition.{Transition}
 use Rattle.product.specs.Product.{letter_count}
 use Rattle.product.proofs.FaultCases.{letter_few, tally_start, tally_next}

@@ -1,11 +1,7 @@
 use Prim.Native.Nat.{ℕ, ◌≤◌, ◌<◌, ◌-◌}
-use mathlib.Core.Path.{◌≡◌, ap, ◌∙◌}
-use native.Mathlib.Omega.{arith}
+use mathlib.Core.Path.{◌≡◌}
 use lib.ListN.{length, get_or}
-use borrow.Author.Rules.{rules}
-use Rattle.fsbm.specs.declared.machine.Transition.{Transition}
 use Rattle.product.specs.Product.{letter_count}
-use Rattle.product.proofs.FaultCases.{letter_few, tally_start, tally_next}
 use Rattle.product.proofs.fault.tally.Given as goal
 
 abbrev pub invariant-loop-k : goal.invariant-loop-k

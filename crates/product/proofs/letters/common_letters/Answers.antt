@@ -1,5 +1,4 @@
 use Rattle.product.proofs.LettersCases.{four_words_lem}
-use borrow.Author.Rules.{rules}
 use Rattle.product.proofs.letters.common_letters.Goals as goal
 
 pub returns : goal.returns

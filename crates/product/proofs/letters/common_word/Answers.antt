@@ -1,6 +1,5 @@
 use Rattle.product.proofs.LettersCases.{word_of_letters, word_of_epsilon}
 use mathlib.Core.Path.{refl}
-use borrow.Author.Rules.{rules}
 use Rattle.product.proofs.letters.common_word.Goals as goal
 
 pub returns-then-w-eq0 : goal.returns-then-w-eq0

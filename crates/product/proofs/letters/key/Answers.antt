@@ -1,7 +1,6 @@
 use Prim.Native.Nat.{◌+◌, ◌*◌}
 use mathlib.Core.Path.{ap}
 use Rattle.fsbm.specs.declared.machine.Transition.{Transition}
-use borrow.Author.Rules.{rules}
 use Rattle.product.proofs.letters.key.Goals as goal
 
 pub returns : goal.returns

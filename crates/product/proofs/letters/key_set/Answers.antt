@@ -1,10 +1,8 @@
 use Rattle.product.proofs.LettersCases.{keying_start, keying_next}
 use Rattle.product.specs.Letters.{KeySet}
-use lib.ListN.{length}
 use native.Mathlib.Omega.{arith}
 use mathlib.Core.Path.{◌≡◌, subst}
-use Prim.Native.Nat.{ℕ, ◌≤◌, ◌-◌}
-use borrow.Author.Rules.{rules}
+use Prim.Native.Nat.{ℕ}
 use Rattle.product.proofs.letters.key_set.Goals as goal
 
 pub loop-k-init : goal.loop-k-init

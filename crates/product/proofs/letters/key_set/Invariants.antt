@@ -1,10 +1,7 @@
-use Rattle.product.proofs.LettersCases.{keying_start, keying_next}
 use Rattle.product.specs.Letters.{KeySet}
 use lib.ListN.{length}
-use native.Mathlib.Omega.{arith}
-use mathlib.Core.Path.{◌≡◌, subst}
-use Prim.Native.Nat.{ℕ, ◌≤◌, ◌-◌}
-use borrow.Author.Rules.{rules}
+use mathlib.Core.Path.{◌≡◌}
+use Prim.Native.Nat.{◌≤◌, ◌-◌}
 use Rattle.product.proofs.letters.key_set.Given as goal
 
 abbrev pub invariant-loop-k : goal.invariant-loop-k

@@ -1,6 +1,5 @@
 use Rattle.product.proofs.LettersCases.{least_none, least_some}
 use native.Mathlib.Omega.{arith}
-use borrow.Author.Rules.{rules}
 use Rattle.product.proofs.letters.least_from.Goals as goal
 
 pub returns-then-rest-eq0 : goal.returns-then-rest-eq0

@@ -1,7 +1,6 @@
-use Rattle.product.proofs.LettersCases.{Looking, letter_start, letter_on, letter_found, letter_end}
+use Rattle.product.proofs.LettersCases.{letter_start, letter_on, letter_found, letter_end}
 use native.Mathlib.Omega.{arith}
 use mathlib.Core.Path.{refl}
-use Prim.Native.Nat.{◌-◌}
 use Rattle.product.proofs.letters.next_letter.Goals as goal
 
 pub loop-b-init : goal.loop-b-init

@@ -1,6 +1,4 @@
-use Rattle.product.proofs.LettersCases.{Looking, letter_start, letter_on, letter_found, letter_end}
-use native.Mathlib.Omega.{arith}
-use mathlib.Core.Path.{refl}
+use Rattle.product.proofs.LettersCases.{Looking}
 use Prim.Native.Nat.{◌-◌}
 use Rattle.product.proofs.letters.next_letter.Given as goal
 

@@ -1,8 +1,7 @@
-use Rattle.product.proofs.LettersCases.{Starting, starting_start, starting_next, starting_end}
+use Rattle.product.proofs.LettersCases.{starting_start, starting_next, starting_end}
 use native.Mathlib.Omega.{arith}
 use mathlib.Core.Path.{refl}
 use Prim.Native.Nat.{◌-◌}
-use borrow.Author.Rules.{rules}
 use Rattle.product.proofs.letters.note_starts.Goals as goal
 
 pub loop-k-init : goal.loop-k-init

@@ -1,8 +1,4 @@
-use Rattle.product.proofs.LettersCases.{Starting, starting_start, starting_next, starting_end}
-use native.Mathlib.Omega.{arith}
-use mathlib.Core.Path.{refl}
-use Prim.Native.Nat.{◌-◌}
-use borrow.Author.Rules.{rules}
+use Rattle.product.proofs.LettersCases.{Starting}
 use Rattle.product.proofs.letters.note_starts.Given as goal
 
 abbrev pub invariant-loop-k : goal.invariant-loop-k

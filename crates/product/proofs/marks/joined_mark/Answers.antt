@@ -2,7 +2,6 @@ use mathlib.Core.Path.{refl}
 use borrow.Author.Tests.{le-ltb, lt-ltb}
 use Rattle.basics.specs.Search.Loops.{first, second}
 use Rattle.product.specs.Product.{joined_mark}
-use borrow.Author.Rules.{rules}
 use Rattle.product.proofs.marks.joined_mark.Goals as goal
 
 pub returns-then-first-second : goal.returns-then-first-second

@@ -1,9 +1,7 @@
-use Prim.Native.Nat.{ℕ, ◌<◌, ◌-◌}
-use mathlib.Core.Path.{◌≡◌, ap, ◌∙◌}
+use Prim.Native.Nat.{ℕ, ◌<◌}
+use mathlib.Core.Path.{ap, ◌∙◌}
 use native.Mathlib.Omega.{arith}
-use lib.ListN.{length, get_or}
-use borrow.Author.Rules.{rules}
-use Rattle.product.specs.Product.{joined_mark}
+use lib.ListN.{length}
 use Rattle.product.proofs.FaultCases.{zeros_length, marks_next, marks_end}
 use Rattle.product.proofs.marks.joined_marks.Goals as goal
 

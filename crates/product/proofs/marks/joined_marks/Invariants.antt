@@ -1,10 +1,7 @@
 use Prim.Native.Nat.{ℕ, ◌<◌, ◌-◌}
-use mathlib.Core.Path.{◌≡◌, ap, ◌∙◌}
-use native.Mathlib.Omega.{arith}
+use mathlib.Core.Path.{◌≡◌}
 use lib.ListN.{length, get_or}
-use borrow.Author.Rules.{rules}
 use Rattle.product.specs.Product.{joined_mark}
-use Rattle.product.proofs.FaultCases.{zeros_length, marks_next, marks_end}
 use Rattle.product.proofs.marks.joined_marks.Given as goal
 
 abbrev pub invariant-loop-q : goal.invariant-loop-q

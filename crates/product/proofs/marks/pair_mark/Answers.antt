@@ -2,7 +2,6 @@ use Prim.Native.Nat.{ℕ}
 use mathlib.Core.Path.{ap, ◌∙◌}
 use mathlib.Core.Bool.{Bool, cond, ◌&&◌}
 use Rattle.product.proofs.FaultCases.{pair_mark_is}
-use borrow.Author.Rules.{rules}
 use Rattle.product.proofs.marks.pair_mark.Goals as goal
 
 pub returns : goal.returns

@@ -2,7 +2,6 @@ use Rattle.product.proofs.WriteCases.{next_none, next_here, next_end, next_jump}
 use Rattle.fsbm.specs.declared.machine.Transition.{Transition}
 use mathlib.Core.Path.{ap}
 use native.Mathlib.Omega.{arith}
-use borrow.Author.Rules.{rules}
 use Rattle.product.proofs.write.next_move.Goals as goal
 
 pub returns-then-hi-i : goal.returns-then-hi-i

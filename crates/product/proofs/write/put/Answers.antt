@@ -3,7 +3,6 @@ use lib.ListN.{set}
 use lib.Seq.{lt-length-set}
 use Prim.Native.Nat.{◌+◌}
 use Rattle.basics.specs.Lists.Laws.{put_three}
-use borrow.Author.Rules.{rules}
 use Rattle.product.proofs.write.put.Goals as goal
 
 pub bounds-list-k-2 : goal.bounds-list-k-2

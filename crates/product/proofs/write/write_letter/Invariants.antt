@@ -1,10 +1,5 @@
 use Prim.Native.Nat.{◌-◌}
-use mathlib.Core.Path.{ap}
-use native.Mathlib.Omega.{arith}
-use lib.ListN.{length}
-use borrow.Author.Rules.{rules}
-use Rattle.fsbm.specs.declared.machine.Transition.{Transition}
-use Rattle.product.proofs.WriteCases.{Lettering, letter_start, letter_room, letter_next, letter_end}
+use Rattle.product.proofs.WriteCases.{Lettering}
 use Rattle.product.proofs.write.write_letter.Given as goal
 
 abbrev pub invariant-loop-u : goal.invariant-loop-u

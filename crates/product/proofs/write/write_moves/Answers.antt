@@ -2,7 +2,6 @@ use Rattle.product.proofs.WriteCases.{epsilon_is, epsilon_writes, letters_length
 use lib.ListN.{length}
 use native.Mathlib.Omega.{arith}
 use mathlib.Core.Path.{ap}
-use borrow.Author.Rules.{rules}
 use Rattle.product.proofs.write.write_moves.Goals as goal
 
 pub pair-from-requires : goal.pair-from-requires

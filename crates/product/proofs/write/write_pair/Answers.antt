@@ -1,12 +1,7 @@
-use borrow.Author.Rules.{rules}
-use Rattle.product.proofs.WriteCases.{Meeting, meeting_searching, Pairing, pairing_start, pairing_moving, pairing_room, pairing_next, pairing_end}
-use Rattle.product.specs.Tables.{Joinable, joinable}
-use Rattle.product.specs.Product.{flat, joined_from}
-use Rattle.product.specs.Letters.{NextMove}
-use Rattle.fsbm.specs.declared.machine.Machine.{Machine}
-use lib.ListN.{length}
+use Rattle.product.proofs.WriteCases.{Meeting, meeting_searching, pairing_start, pairing_moving, pairing_room, pairing_next, pairing_end}
+use Rattle.product.specs.Tables.{joinable}
 use native.Mathlib.Omega.{arith}
-use Prim.Native.Nat.{ℕ, ◌≤◌, ◌-◌, ◌+◌}
+use Prim.Native.Nat.{◌+◌}
 use Rattle.product.proofs.write.write_pair.Goals as goal
 
 pub overflow_cast-n : goal.overflow_cast-n

@@ -1,11 +1,9 @@
 use Rattle.product.proofs.FaultCases.{zeros_length}
 use lib.ListN.{length}
 use mathlib.Core.Path.{ap, ◌∙◌}
-use Rattle.product.proofs.WriteCases.{table_key, Writing, writing_start, writing_block, writing_room, writing_next, writing_end}
-use Rattle.product.specs.Tables.{Joinable, joinable}
+use Rattle.product.proofs.WriteCases.{table_key, writing_start, writing_block, writing_room, writing_next, writing_end}
+use Rattle.product.specs.Tables.{joinable}
 use native.Mathlib.Omega.{arith}
-use Prim.Native.Nat.{◌-◌}
-use borrow.Author.Rules.{rules}
 use Rattle.product.proofs.write.write_product.Goals as goal
 
 pub note_starts-requires : goal.note_starts-requires

@@ -1,11 +1,6 @@
-use Rattle.product.proofs.FaultCases.{zeros_length}
-use lib.ListN.{length}
-use mathlib.Core.Path.{ap, ◌∙◌}
-use Rattle.product.proofs.WriteCases.{table_key, Writing, writing_start, writing_block, writing_room, writing_next, writing_end}
-use Rattle.product.specs.Tables.{Joinable, joinable}
-use native.Mathlib.Omega.{arith}
+use Rattle.product.proofs.WriteCases.{Writing}
+use Rattle.product.specs.Tables.{Joinable}
 use Prim.Native.Nat.{◌-◌}
-use borrow.Author.Rules.{rules}
 use Rattle.product.proofs.write.write_product.Given as goal
 
 abbrev pub invariant-loop-p : goal.invariant-loop-p

@@ -1,7 +1,6 @@
-use Rattle.product.proofs.WriteCases.{Rowing, rowing_start, rowing_room, rowing_next, rowing_end}
-use Rattle.product.specs.Tables.{Joinable, joinable}
+use Rattle.product.proofs.WriteCases.{rowing_start, rowing_room, rowing_next, rowing_end}
+use Rattle.product.specs.Tables.{joinable}
 use native.Mathlib.Omega.{arith}
-use Prim.Native.Nat.{◌-◌}
 use Rattle.product.proofs.write.write_row.Goals as goal
 
 pub loop-r-init : goal.loop-r-init

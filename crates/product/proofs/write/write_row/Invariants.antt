@@ -1,6 +1,5 @@
-use Rattle.product.proofs.WriteCases.{Rowing, rowing_start, rowing_room, rowing_next, rowing_end}
-use Rattle.product.specs.Tables.{Joinable, joinable}
-use native.Mathlib.Omega.{arith}
+use Rattle.product.proofs.WriteCases.{Rowing}
+use Rattle.product.specs.Tables.{Joinable}
 use Prim.Native.Nat.{◌-◌}
 use Rattle.product.proofs.write.write_row.Given as goal
 

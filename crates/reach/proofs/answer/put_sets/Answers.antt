@@ -2,15 +2,11 @@ use lib.ListN.{set, length-set}
 use lib.ListN.{length-set}
 use Rattle.basics.specs.Each.Laws.{each_done}
 use Rattle.reach.proofs.SetsCases.{sets_turn}
-use Prim.Native.Nat.{ℕ, ◌+◌, ◌-◌, ◌≤◌}
-use mathlib.Core.Path.{◌≡◌, refl, ◌∙◌}
-use mathlib.Core.List.{[], ◌∷◌}
+use Prim.Native.Nat.{ℕ, ◌+◌}
+use mathlib.Core.Path.{refl, ◌∙◌}
 use native.Mathlib.Omega.{arith}
-use lib.ListN.{length, get_or}
-use Rattle.basics.specs.Each.{each_below}
+use lib.ListN.{get_or}
 use Rattle.basics.specs.Each.Laws.{each_none}
-use Rattle.basics.specs.Lists.{put}
-use Rattle.reach.specs.Reaching.{sets_before}
 use Rattle.reach.proofs.answer.put_sets.Goals as goal
 
 -- src/answer.rt:62:5

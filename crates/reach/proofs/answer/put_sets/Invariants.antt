@@ -1,14 +1,8 @@
-use lib.ListN.{set, length-set}
-use lib.ListN.{length-set}
-use Rattle.basics.specs.Each.Laws.{each_done}
-use Rattle.reach.proofs.SetsCases.{sets_turn}
-use Prim.Native.Nat.{ℕ, ◌+◌, ◌-◌, ◌≤◌}
-use mathlib.Core.Path.{◌≡◌, refl, ◌∙◌}
+use Prim.Native.Nat.{◌+◌, ◌-◌, ◌≤◌}
+use mathlib.Core.Path.{◌≡◌}
 use mathlib.Core.List.{[], ◌∷◌}
-use native.Mathlib.Omega.{arith}
 use lib.ListN.{length, get_or}
 use Rattle.basics.specs.Each.{each_below}
-use Rattle.basics.specs.Each.Laws.{each_none}
 use Rattle.basics.specs.Lists.{put}
 use Rattle.reach.specs.Reaching.{sets_before}
 use Rattle.reach.proofs.answer.put_sets.Given as goal

@@ -2,7 +2,6 @@ use mathlib.Core.Path.{sym, ◌∙◌}
 use native.Mathlib.Omega.{arith}
 use Rattle.fsbm.proofs.AnswerCases.{table_good}
 use Rattle.reach.proofs.AnswerCases.{refused_input, refused_slice, written}
-use borrow.Author.Rules.{rules}
 use Rattle.reach.proofs.answer.reach.Goals as goal
 
 -- src/answer.rt:149:9

@@ -3,7 +3,6 @@ use Rattle.basics.specs.Lists.Laws.{zeros_at}
 use Rattle.fsbm.proofs.AnswerCases.{table_good}
 use Rattle.fsbm.specs.Rules.{rules as rules_of}
 use Rattle.targets.specs.Prepared.Laws.{product_small}
-use borrow.Author.Rules.{rules}
 use Rattle.reach.proofs.answer.reach_all.Goals as goal
 
 -- src/answer.rt:128:9

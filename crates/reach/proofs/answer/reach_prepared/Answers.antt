@@ -7,7 +7,6 @@ use Rattle.fsbm.proofs.AnswerCases.{table_good}
 use Rattle.fsbm.specs.Rules.{rules as rules_of}
 use Rattle.images.specs.Graph.{graph}
 use Rattle.subsets.specs.Rows.Laws.{kept_start}
-use borrow.Author.Rules.{rules}
 use Rattle.reach.proofs.answer.reach_prepared.Goals as goal
 
 -- src/answer.rt:119:5

@@ -13,7 +13,6 @@ use Rattle.decide.specs.Reach.{Rooms, Stage}
 use Rattle.decide.proofs.Tables.{good_table, rooms}
 use Rattle.reach.specs.Copies.{Added, SomeStore, SomeMatch}
 use Rattle.reach.proofs.SetsCases.{sets_are}
-use borrow.Author.Rules.{rules}
 use Rattle.reach.proofs.answer.reach_with.Goals as goal
 
 -- src/answer.rt:86:9

@@ -1,11 +1,8 @@
-use Prim.Native.Nat.{◌+◌, ◌-◌, ◌≤◌}
-use mathlib.Core.Path.{◌≡◌, refl, ◌∙◌}
+use Prim.Native.Nat.{◌+◌}
+use mathlib.Core.Path.{refl, ◌∙◌}
 use native.Mathlib.Omega.{arith}
 use lib.ListN.{length}
-use Rattle.images.specs.Graph.{graph, Good}
-use Rattle.subsets.specs.Rows.{Kept}
-use Rattle.decide.specs.Reach.{Rooms}
-use Rattle.reach.specs.Copies.{Added, SomeStore, SomeMatch}
+use Rattle.images.specs.Graph.{graph}
 use Rattle.reach.proofs.StoreCases.{copies_start, copies_again, copies_end}
 use Rattle.reach.proofs.copies.copies.Goals as goal
 

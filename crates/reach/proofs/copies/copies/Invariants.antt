@@ -1,12 +1,10 @@
 use Prim.Native.Nat.{◌+◌, ◌-◌, ◌≤◌}
-use mathlib.Core.Path.{◌≡◌, refl, ◌∙◌}
-use native.Mathlib.Omega.{arith}
+use mathlib.Core.Path.{◌≡◌}
 use lib.ListN.{length}
 use Rattle.images.specs.Graph.{graph, Good}
 use Rattle.subsets.specs.Rows.{Kept}
 use Rattle.decide.specs.Reach.{Rooms}
 use Rattle.reach.specs.Copies.{Added, SomeStore, SomeMatch}
-use Rattle.reach.proofs.StoreCases.{copies_start, copies_again, copies_end}
 use Rattle.reach.proofs.copies.copies.Given as goal
 
 abbrev pub invariant-loop-i : goal.invariant-loop-i

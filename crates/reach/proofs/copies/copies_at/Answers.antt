@@ -1,15 +1,9 @@
-use Prim.Native.Nat.{ℕ, ◌-◌, ◌≤◌}
-use mathlib.Core.Path.{◌≡◌, refl, ◌∙◌}
+use mathlib.Core.Path.{refl, ◌∙◌}
 use native.Mathlib.Omega.{arith}
-use lib.ListN.{length}
-use Rattle.fsbm.specs.declared.config.Mode.TheVariants.{Buffering}
-use Rattle.images.specs.Graph.{Members, From, graph, Good, Fitting}
+use Rattle.images.specs.Graph.{graph}
 use Rattle.images.proofs.SetCases.{members_is}
-use Rattle.subsets.specs.Rows.{Kept, Begun}
-use Rattle.decide.specs.Reach.{Rooms}
 use Rattle.decide.proofs.StageCases.{fitting_set}
-use Rattle.reach.proofs.StoreCases.{Copying, copying_start, copying_dead, copying_over, copying_again}
-use borrow.Author.Rules.{rules}
+use Rattle.reach.proofs.StoreCases.{copying_start, copying_dead, copying_over, copying_again}
 use Rattle.reach.proofs.copies.copies_at.Goals as goal
 
 -- src/copies.rt:75:9

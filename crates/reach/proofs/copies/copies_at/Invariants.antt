@@ -1,15 +1,11 @@
 use Prim.Native.Nat.{ℕ, ◌-◌, ◌≤◌}
-use mathlib.Core.Path.{◌≡◌, refl, ◌∙◌}
-use native.Mathlib.Omega.{arith}
+use mathlib.Core.Path.{◌≡◌}
 use lib.ListN.{length}
 use Rattle.fsbm.specs.declared.config.Mode.TheVariants.{Buffering}
 use Rattle.images.specs.Graph.{Members, From, graph, Good, Fitting}
-use Rattle.images.proofs.SetCases.{members_is}
 use Rattle.subsets.specs.Rows.{Kept, Begun}
 use Rattle.decide.specs.Reach.{Rooms}
-use Rattle.decide.proofs.StageCases.{fitting_set}
-use Rattle.reach.proofs.StoreCases.{Copying, copying_start, copying_dead, copying_over, copying_again}
-use borrow.Author.Rules.{rules}
+use Rattle.reach.proofs.StoreCases.{Copying}
 use Rattle.reach.proofs.copies.copies_at.Given as goal
 
 abbrev pub invariant-loop-s : goal.invariant-loop-s

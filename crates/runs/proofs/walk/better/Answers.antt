@@ -1,7 +1,5 @@
 use native.Mathlib.Omega.{arith}
-use borrow.Author.Tests.{not-true, not-false}
 use Rattle.runs.proofs.WalkCases.{start_skip, start_takes, start_keeps}
-use borrow.Author.Rules.{rules}
 use Rattle.runs.proofs.walk.better.Goals as goal
 
 pub returns-then-not-is_initial : goal.returns-then-not-is_initial

@@ -2,7 +2,6 @@ use native.Mathlib.Omega.{arith}
 use Rattle.fsbm.specs.Rules.{placed}
 use Rattle.runs.specs.Walk.Laws.{best_normal, best_begun, best_past, best_buffering, best_emptying}
 use Rattle.runs.proofs.WalkCases.{best_at}
-use borrow.Author.Rules.{rules}
 use Rattle.runs.proofs.walk.cost.Goals as goal
 
 pub overflow_mul-p : goal.overflow_mul-p

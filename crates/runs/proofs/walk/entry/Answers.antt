@@ -1,7 +1,6 @@
 use Rattle.runs.proofs.WalkCases.{entry_found, entry_change}
 use Rattle.fsbm.specs.Rules.{rules as rules_of}
 use native.Mathlib.Omega.{arith}
-use borrow.Author.Rules.{rules}
 use Rattle.runs.proofs.walk.entry.Goals as goal
 
 pub overflow_cast-result : goal.overflow_cast-result

@@ -3,7 +3,6 @@ use native.Mathlib.Omega.{arith}
 use borrow.Author.Tests.{not-true, not-false}
 use Rattle.fsbm.specs.Rules.{rules as rules_of}
 use Rattle.runs.proofs.WalkCases.{leads_next, leads_not, leads_said, leads_elsewhere}
-use borrow.Author.Rules.{rules}
 use Rattle.runs.proofs.walk.leads.Goals as goal
 
 pub returns-then-s-q : goal.returns-then-s-q

@@ -1,9 +1,8 @@
 use Rattle.runs.proofs.WalkCases.{Passed, scan_start, scan_found, scan_more, scan_none}
 use Rattle.fsbm.specs.Rules.{rules as rules_of, placed}
-use borrow.Author.Rules.{rules}
 use native.Mathlib.Omega.{arith}
 use mathlib.Core.Path.{sym, subst}
-use Prim.Native.Nat.{◌≤◌, ◌-◌, ◌+◌}
+use Prim.Native.Nat.{◌+◌}
 use Rattle.runs.proofs.walk.scan.Goals as goal
 
 pub overflow_add-q : goal.overflow_add-q

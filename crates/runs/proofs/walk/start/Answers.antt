@@ -1,6 +1,4 @@
-use Prim.Native.Nat.{◌≤◌, ◌-◌}
 use native.Mathlib.Omega.{arith}
-use Rattle.runs.specs.Walk.{Started}
 use Rattle.runs.proofs.WalkCases.{start_begin, start_end}
 use Rattle.runs.proofs.walk.start.Goals as goal
 

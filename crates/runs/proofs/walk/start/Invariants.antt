@@ -1,7 +1,5 @@
 use Prim.Native.Nat.{◌≤◌, ◌-◌}
-use native.Mathlib.Omega.{arith}
 use Rattle.runs.specs.Walk.{Started}
-use Rattle.runs.proofs.WalkCases.{start_begin, start_end}
 use Rattle.runs.proofs.walk.start.Given as goal
 
 abbrev pub invariant-loop-q : goal.invariant-loop-q

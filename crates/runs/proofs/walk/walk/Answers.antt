@@ -1,12 +1,10 @@
 use Rattle.runs.proofs.WalkCases.{walk_entry, walk_refresh}
-use Rattle.runs.specs.Walk.Laws.{Walking, walk_start, walk_next, walk_end}
+use Rattle.runs.specs.Walk.Laws.{walk_start, walk_next, walk_end}
 use Rattle.fsbm.specs.Rules.{rules as rules_of}
 use Rattle.fsbm.specs.declared.config.Move.{Move}
-use lib.ListN.{length, length-set}
-use borrow.Author.Rules.{rules}
+use lib.ListN.{length-set}
 use native.Mathlib.Omega.{arith}
-use mathlib.Core.Path.{◌≡◌, refl, ap, ◌∙◌}
-use Prim.Native.Nat.{◌-◌}
+use mathlib.Core.Path.{refl, ap, ◌∙◌}
 use Rattle.runs.proofs.walk.walk.Goals as goal
 
 pub overflow_cast-run : goal.overflow_cast-run

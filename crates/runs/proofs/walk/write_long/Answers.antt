@@ -1,5 +1,4 @@
 use native.Mathlib.Omega.{arith}
-use borrow.Author.Rules.{rules}
 use Rattle.runs.proofs.walk.write_long.Goals as goal
 
 pub write_with-requires : goal.write_with-requires

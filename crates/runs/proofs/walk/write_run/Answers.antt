@@ -1,5 +1,4 @@
 use Rattle.runs.proofs.WalkCases.{known}
-use borrow.Author.Rules.{rules}
 use Rattle.runs.proofs.walk.write_run.Goals as goal
 
 pub write_sized-requires : goal.write_sized-requires

@@ -1,8 +1,6 @@
 use Rattle.runs.specs.Walk.Laws.{begun}
 use Rattle.fsbm.specs.Rules.{rules as rules_of}
-use lib.ListN.{length}
 use native.Mathlib.Omega.{arith}
-use borrow.Author.Rules.{rules}
 use Rattle.runs.proofs.walk.write_with.Goals as goal
 
 pub start-q-requires : goal.start-q-requires

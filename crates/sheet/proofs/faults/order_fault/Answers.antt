@@ -1,8 +1,6 @@
 use Rattle.sheet.proofs.FaultCases.{order_falls}
-use borrow.Author.Tests.{not-true, not-false}
 use Rattle.sheet.specs.Reading.{as_transition}
 use Rattle.sheet.proofs.FaultCases.{order_unnamed, order_first, order_rises}
-use borrow.Author.Rules.{rules}
 use Rattle.sheet.proofs.faults.order_fault.Goals as goal
 
 pub returns-then-not-named : goal.returns-then-not-named

@@ -1,5 +1,4 @@
 use Rattle.sheet.specs.Reading.{column_at}
-use borrow.Author.Rules.{rules}
 use Rattle.sheet.proofs.parts.column.Goals as goal
 
 pub returns : goal.returns

@@ -1,9 +1,7 @@
-use Prim.Native.Nat.{◌≤◌, ◌-◌}
 use mathlib.Core.Path.{◌≡◌, refl, sym, ◌∙◌}
 use native.Mathlib.Omega.{arith}
-use lib.ListN.{length, set, length-set}
-use borrow.Author.Rules.{rules}
-use Rattle.sheet.proofs.PartCases.{ColumnsRead, columns_none, columns_next, line_short, line_column, line_end, line_good, StatesTo, states_none, states_done, state_line_lem, state_mark, mark_small, state_next}
+use lib.ListN.{length-set}
+use Rattle.sheet.proofs.PartCases.{columns_none, columns_next, line_short, line_column, line_end, line_good, states_none, states_done, state_line_lem, state_mark, mark_small, state_next}
 use Rattle.sheet.proofs.parts.read_states.Goals as goal
 
 pub sheet-init : goal.sheet-init

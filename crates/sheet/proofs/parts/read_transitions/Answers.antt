@@ -1,9 +1,7 @@
-use Prim.Native.Nat.{◌≤◌, ◌-◌}
 use mathlib.Core.Path.{◌≡◌, refl, sym, ◌∙◌}
 use native.Mathlib.Omega.{arith}
-use lib.ListN.{length, set, length-set}
-use borrow.Author.Rules.{rules}
-use Rattle.sheet.proofs.PartCases.{ColumnsRead, columns_none, columns_next, line_short, line_column, line_end, line_good, TransitionsTo, transitions_none, transitions_done, transition_line_lem, transition_order, numbers_small, transition_next}
+use lib.ListN.{length-set}
+use Rattle.sheet.proofs.PartCases.{columns_none, columns_next, line_short, line_column, line_end, line_good, transitions_none, transitions_done, transition_line_lem, transition_order, numbers_small, transition_next}
 use Rattle.sheet.proofs.parts.read_transitions.Goals as goal
 
 pub overflow_mul-at : goal.overflow_mul-at

@@ -1,9 +1,7 @@
 use Prim.Native.Nat.{◌≤◌, ◌-◌}
-use mathlib.Core.Path.{◌≡◌, refl, sym, ◌∙◌}
-use native.Mathlib.Omega.{arith}
-use lib.ListN.{length, set, length-set}
-use borrow.Author.Rules.{rules}
-use Rattle.sheet.proofs.PartCases.{ColumnsRead, columns_none, columns_next, line_short, line_column, line_end, line_good, TransitionsTo, transitions_none, transitions_done, transition_line_lem, transition_order, numbers_small, transition_next}
+use mathlib.Core.Path.{◌≡◌}
+use lib.ListN.{length}
+use Rattle.sheet.proofs.PartCases.{ColumnsRead, TransitionsTo}
 use Rattle.sheet.proofs.parts.read_transitions.Given as goal
 
 abbrev pub invariant-loop-c : goal.invariant-loop-c

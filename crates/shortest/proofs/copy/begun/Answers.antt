@@ -1,11 +1,10 @@
 use Prim.Native.Nat.{ℕ, ◌+◌}
 use mathlib.Core.Path.{sym, ap, ◌∙◌}
 use lib.Dec.{eqb}
-use borrow.Author.Tests.{eq-eqb, ne_eqb, not-true, not-false}
+use borrow.Author.Tests.{eq-eqb, ne_eqb}
 use Rattle.basics.specs.Search.Loops.{pass, stop}
 use Rattle.pieces.specs.Blocks.{cost_of}
 use Rattle.shortest.proofs.CopyCases.{begun_is}
-use borrow.Author.Rules.{rules}
 use Rattle.shortest.proofs.copy.begun.Goals as goal
 
 pub returns-then-t-h : goal.returns-then-t-h

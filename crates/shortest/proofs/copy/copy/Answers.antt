@@ -2,7 +2,6 @@ use native.Mathlib.Omega.{arith}
 use Prim.Native.Nat.{◌-◌}
 use lib.ListN.{length-set}
 use Rattle.shortest.specs.Copy.Whole.{copy_going, copy_first, copy_finished, copy_done}
-use borrow.Author.Rules.{rules}
 use Rattle.shortest.proofs.copy.copy.Goals as goal
 
 pub overflow_sub-run : goal.overflow_sub-run

@@ -2,7 +2,6 @@ use mathlib.Core.Path.{refl}
 use mathlib.Core.Logic.{inl}
 use native.Mathlib.Omega.{arith}
 use Rattle.shortest.proofs.CopyCases.{stored_is}
-use borrow.Author.Rules.{rules}
 use Rattle.shortest.proofs.copy.stored.Goals as goal
 
 pub returns-then-n-k : goal.returns-then-n-k

@@ -1,7 +1,4 @@
 use mathlib.Core.Path.{sym, ◌∙◌}
-use borrow.Author.Tests.{not-true, not-false}
-use Rattle.pieces.specs.Blocks.{cell}
-use Rattle.shortest.specs.Copy.{Walking}
 use Rattle.shortest.specs.Copy.Laws.{walk_start, walk_states, matched_ready, stored_ready, walk_turn, walk_end}
 use Rattle.shortest.proofs.copy.walk_back.Goals as goal
 

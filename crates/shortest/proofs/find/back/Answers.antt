@@ -3,7 +3,6 @@ use native.Mathlib.Omega.{arith}
 use Rattle.fsbm.specs.Rules.{rules as rules_of}
 use Rattle.fsbm.specs.declared.machine.Transition.{Transition}
 use Rattle.shortest.proofs.FindCases.{back_storing, back_matching, back_none, back_both}
-use borrow.Author.Rules.{rules}
 use Rattle.shortest.proofs.find.back.Goals as goal
 
 pub returns-then-k-n : goal.returns-then-k-n

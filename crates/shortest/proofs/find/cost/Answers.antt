@@ -1,6 +1,5 @@
 use mathlib.Core.Path.{sym}
 use Rattle.pieces.specs.Blocks.Laws.{cost_inside}
-use borrow.Author.Rules.{rules}
 use Rattle.shortest.proofs.find.cost.Goals as goal
 
 pub returns : goal.returns

@@ -1,7 +1,6 @@
-use Prim.Native.Nat.{ℕ, ◌-◌}
+use Prim.Native.Nat.{ℕ}
 use mathlib.Core.Path.{sym, subst}
 use native.Mathlib.Omega.{arith}
-use borrow.Author.Rules.{rules}
 use Rattle.fsbm.specs.Rules.{rules as rules_of}
 use Rattle.shortest.specs.Find.{LetterStep}
 use Rattle.shortest.specs.Find.Laws.{Finding, finding_start, finding_next, finding_found, finding_none}

@@ -1,10 +1,6 @@
-use Prim.Native.Nat.{ℕ, ◌-◌}
-use mathlib.Core.Path.{sym, subst}
-use native.Mathlib.Omega.{arith}
-use borrow.Author.Rules.{rules}
-use Rattle.fsbm.specs.Rules.{rules as rules_of}
+use Prim.Native.Nat.{◌-◌}
 use Rattle.shortest.specs.Find.{LetterStep}
-use Rattle.shortest.specs.Find.Laws.{Finding, finding_start, finding_next, finding_found, finding_none}
+use Rattle.shortest.specs.Find.Laws.{Finding}
 use Rattle.shortest.proofs.find.find_letter.Given as goal
 
 abbrev pub invariant-loop-k : goal.invariant-loop-k

@@ -1,13 +1,9 @@
-use Prim.Native.Nat.{ℕ, ◌-◌}
-use mathlib.Core.Path.{◌≡◌, sym, ap, ◌∙◌, subst}
+use Prim.Native.Nat.{◌-◌}
+use mathlib.Core.Path.{◌≡◌}
 use mathlib.Core.Bool.{true}
-use native.Mathlib.Omega.{arith}
-use borrow.Author.Rules.{rules}
-use Rattle.fsbm.specs.Rules.{rules as rules_of}
-use Rattle.basics.specs.Search.Laws.{not_both}
 use Rattle.pieces.specs.Blocks.{cost_of}
 use Rattle.shortest.specs.Find.{normal_test}
-use Rattle.shortest.specs.Find.Laws.{Finding, finding_start, finding_next, finding_found, finding_none}
+use Rattle.shortest.specs.Find.Laws.{Finding}
 use Rattle.shortest.proofs.find.find_normal.Given as goal
 
 abbrev pub invariant-loop-k : goal.invariant-loop-k

@@ -3,7 +3,6 @@ use native.Mathlib.Omega.{arith}
 use Rattle.fsbm.specs.Rules.{rules as rules_of}
 use Rattle.fsbm.specs.declared.machine.Transition.{Transition}
 use Rattle.shortest.proofs.FindCases.{letter_none, letter_matching, letter_buffering, letter_alone, letter_both}
-use borrow.Author.Rules.{rules}
 use Rattle.shortest.proofs.find.letter_fits.Goals as goal
 
 pub returns-then-u-eq0 : goal.returns-then-u-eq0

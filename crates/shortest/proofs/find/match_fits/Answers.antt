@@ -2,11 +2,10 @@ use Prim.Native.Nat.{ℕ, ◌+◌}
 use mathlib.Core.Path.{sym, ap, ◌∙◌}
 use native.Mathlib.Omega.{arith}
 use lib.Dec.{eqb}
-use borrow.Author.Tests.{eq-eqb, ne_eqb, not-true, not-false}
+use borrow.Author.Tests.{eq-eqb, ne_eqb}
 use Rattle.basics.specs.Search.Loops.{pass, stop}
 use Rattle.fsbm.specs.declared.machine.Transition.{Transition}
 use Rattle.shortest.proofs.FindCases.{match_is}
-use borrow.Author.Rules.{rules}
 use Rattle.shortest.proofs.find.match_fits.Goals as goal
 
 pub returns-then-not-both_matching : goal.returns-then-not-both_matching

@@ -7,7 +7,6 @@ use lib.Dec.{eqb}
 use Rattle.basics.specs.Search.Loops.{pass, stop}
 use Rattle.fsbm.specs.declared.machine.Transition.{Transition}
 use Rattle.shortest.proofs.FindCases.{normal_is}
-use borrow.Author.Rules.{rules}
 use Rattle.shortest.proofs.find.normal_fits.Goals as goal
 
 pub returns-then-both_matching : goal.returns-then-both_matching

@@ -7,7 +7,6 @@ use borrow.Author.Tests.{eq-eqb, ne_eqb}
 use Rattle.basics.specs.Search.Loops.{pass, stop}
 use Rattle.fsbm.specs.declared.machine.Transition.{Transition}
 use Rattle.shortest.proofs.FindCases.{store_is}
-use borrow.Author.Rules.{rules}
 use Rattle.shortest.proofs.find.store_fits.Goals as goal
 
 pub returns-then-both_matching : goal.returns-then-both_matching

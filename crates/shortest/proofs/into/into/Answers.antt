@@ -1,7 +1,6 @@
 use mathlib.Core.Path.{sym, ap, subst}
-use Prim.Native.Nat.{ℕ, ◌+◌, ◌-◌, ◌≤◌}
+use Prim.Native.Nat.{ℕ, ◌+◌, ◌-◌}
 use native.Mathlib.Omega.{arith}
-use borrow.Author.Rules.{rules}
 use lib.ListN.{get_or, set}
 use Rattle.fsbm.specs.Rules.{rules as rules_of}
 use Rattle.fsbm.specs.declared.machine.Transition.{Transition}

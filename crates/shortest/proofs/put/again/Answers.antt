@@ -1,5 +1,5 @@
 use native.Mathlib.Omega.{arith}
-use Rattle.shortest.specs.Put.Laws.{Repeating, repeat_start, repeat_turn, repeat_end}
+use Rattle.shortest.specs.Put.Laws.{repeat_start, repeat_turn, repeat_end}
 use Rattle.shortest.proofs.put.again.Goals as goal
 
 pub loop-k-init : goal.loop-k-init

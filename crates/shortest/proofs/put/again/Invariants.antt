@@ -1,5 +1,4 @@
-use native.Mathlib.Omega.{arith}
-use Rattle.shortest.specs.Put.Laws.{Repeating, repeat_start, repeat_turn, repeat_end}
+use Rattle.shortest.specs.Put.Laws.{Repeating}
 use Rattle.shortest.proofs.put.again.Given as goal
 
 abbrev pub invariant-loop-k : goal.invariant-loop-k

@@ -2,7 +2,6 @@ use mathlib.Core.Path.{ap, ◌∙◌}
 use native.Mathlib.Omega.{arith}
 use Rattle.fsbm.specs.declared.machine.Transition.{Transition}
 use Rattle.shortest.specs.Put.Laws.{put_epsilon, put_letter}
-use borrow.Author.Rules.{rules}
 use Rattle.shortest.proofs.put.put.Goals as goal
 
 pub returns-then-t-eq0 : goal.returns-then-t-eq0

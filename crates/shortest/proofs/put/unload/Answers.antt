@@ -1,6 +1,5 @@
 use native.Mathlib.Omega.{arith}
-use Prim.Native.Nat.{◌-◌}
-use Rattle.shortest.specs.Put.Laws.{Unloading, unload_start, unload_turn, unload_end}
+use Rattle.shortest.specs.Put.Laws.{unload_start, unload_turn, unload_end}
 use Rattle.shortest.proofs.put.unload.Goals as goal
 
 pub loop-k-init : goal.loop-k-init

@@ -1,6 +1,5 @@
-use native.Mathlib.Omega.{arith}
 use Prim.Native.Nat.{◌-◌}
-use Rattle.shortest.specs.Put.Laws.{Unloading, unload_start, unload_turn, unload_end}
+use Rattle.shortest.specs.Put.Laws.{Unloading}
 use Rattle.shortest.proofs.put.unload.Given as goal
 
 abbrev pub invariant-loop-k : goal.invariant-loop-k

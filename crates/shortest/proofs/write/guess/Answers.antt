@@ -1,6 +1,4 @@
-use Prim.Native.Nat.{◌-◌}
 use native.Mathlib.Omega.{arith}
-use Rattle.shortest.specs.Write.{Guessing}
 use Rattle.shortest.specs.Write.Laws.{guess_start, guess_next, guess_found, guess_end}
 use Rattle.shortest.proofs.write.guess.Goals as goal
 

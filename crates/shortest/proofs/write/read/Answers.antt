@@ -1,6 +1,5 @@
 use mathlib.Core.Path.{refl, ap}
 use Rattle.fsbm.specs.declared.machine.Transition.{Transition}
-use borrow.Author.Rules.{rules}
 use Rattle.shortest.proofs.write.read.Goals as goal
 
 pub returns : goal.returns

@@ -1,7 +1,6 @@
 use native.Mathlib.Omega.{arith}
 use Rattle.fsbm.specs.Rules.{rules as rules_of}
 use Rattle.shortest.specs.Write.Laws.{number_below, read_ready, read_steps, copy_there, copy_ready}
-use borrow.Author.Rules.{rules}
 use Rattle.shortest.proofs.write.step.Goals as goal
 
 pub find_normal-k-requires : goal.find_normal-k-requires

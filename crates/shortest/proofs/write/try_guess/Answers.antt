@@ -1,11 +1,10 @@
 use Prim.Native.Nat.{ℕ, ◌+◌}
 use mathlib.Core.Path.{sym, ap, ◌∙◌}
 use lib.Dec.{eqb}
-use borrow.Author.Tests.{not-true, not-false, eq-eqb, eqb-true}
+use borrow.Author.Tests.{eq-eqb, eqb-true}
 use Rattle.basics.specs.Search.Laws.{not_both}
 use Rattle.pieces.specs.Blocks.{cell}
 use Rattle.shortest.specs.Write.Laws.{number_below, tried_not, tried_block}
-use borrow.Author.Rules.{rules}
 use Rattle.shortest.proofs.write.try_guess.Goals as goal
 
 pub returns-then-not-member : goal.returns-then-not-member

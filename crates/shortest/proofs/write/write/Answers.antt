@@ -1,9 +1,6 @@
-use mathlib.Core.Path.{◌≡◌, ◌∙◌}
+use mathlib.Core.Path.{◌∙◌}
 use native.Mathlib.Omega.{arith}
-use lib.ListN.{length, length-set}
-use Rattle.pieces.specs.Blocks.{cost_of}
-use Rattle.blocks.specs.Settling.{Past}
-use Rattle.shortest.specs.Write.{Writing}
+use lib.ListN.{length-set}
 use Rattle.shortest.specs.Write.Laws.{number_below, write_start, write_low, write_turn, write_end, step_ready}
 use Rattle.shortest.proofs.write.write.Goals as goal
 

@@ -1,10 +1,8 @@
-use mathlib.Core.Path.{◌≡◌, ◌∙◌}
-use native.Mathlib.Omega.{arith}
-use lib.ListN.{length, length-set}
+use mathlib.Core.Path.{◌≡◌}
+use lib.ListN.{length}
 use Rattle.pieces.specs.Blocks.{cost_of}
 use Rattle.blocks.specs.Settling.{Past}
 use Rattle.shortest.specs.Write.{Writing}
-use Rattle.shortest.specs.Write.Laws.{number_below, write_start, write_low, write_turn, write_end, step_ready}
 use Rattle.shortest.proofs.write.write.Given as goal
 
 abbrev pub invariant-loop-m : goal.invariant-loop-m

@@ -1,7 +1,6 @@
 use mathlib.Core.Path.{ap, ◌∙◌}
 use Rattle.fsbm.specs.declared.machine.Transition.{Transition}
 use Rattle.product.specs.Tables.{order}
-use borrow.Author.Rules.{rules}
 use Rattle.split.proofs.lookup.key_at.Goals as goal
 
 pub returns : goal.returns

@@ -1,9 +1,5 @@
-use Prim.Native.Nat.{◌-◌}
-use mathlib.Core.Path.{◌≡◌}
 use native.Mathlib.Omega.{arith}
-use borrow.Author.Rules.{rules}
 use Rattle.fsbm.specs.Rules.{rules as rules_of}
-use Rattle.split.specs.Lookup.{key_of, Between}
 use Rattle.split.specs.Lookup.Laws.{between_start, between_below, between_above, between_end}
 use Rattle.split.proofs.lookup.lookup.Goals as goal
 

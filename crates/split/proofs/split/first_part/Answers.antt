@@ -4,7 +4,6 @@ use Prim.Native.Nat.{◌/◌}
 use Rattle.fsbm.specs.Published.{Listed}
 use Rattle.fsbm.specs.declared.machine.Transition.{Transition}
 use Rattle.pieces.specs.Written.{Takes}
-use borrow.Author.Rules.{rules}
 use Rattle.split.proofs.split.first_part.Goals as goal
 
 pub lookup-requires : goal.lookup-requires

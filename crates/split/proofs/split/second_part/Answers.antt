@@ -6,7 +6,6 @@ use Rattle.fsbm.specs.Published.{Listed}
 use Rattle.fsbm.specs.declared.machine.Transition.{Transition}
 use Rattle.pieces.specs.Written.{Takes}
 use Rattle.split.specs.Split.Laws.{still_change, still_epsilon, is_letter_lem}
-use borrow.Author.Rules.{rules}
 use Rattle.split.proofs.split.second_part.Goals as goal
 
 pub returns-then-e-ge-BEGIN_BUFFERING : goal.returns-then-e-ge-BEGIN_BUFFERING

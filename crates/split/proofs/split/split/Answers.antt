@@ -1,7 +1,6 @@
-use mathlib.Core.Path.{◌≡◌, refl, ◌∙◌}
+use mathlib.Core.Path.{refl, ◌∙◌}
 use native.Mathlib.Omega.{arith}
 use lib.ListN.{length-set}
-use Rattle.split.specs.Split.{Splitting}
 use Rattle.split.specs.Split.Laws.{tables, split_start, first_ready, second_ready, split_turn, split_done}
 use Rattle.split.proofs.split.split.Goals as goal
 

@@ -1,8 +1,5 @@
-use mathlib.Core.Path.{◌≡◌, refl, ◌∙◌}
-use native.Mathlib.Omega.{arith}
-use lib.ListN.{length-set}
+use mathlib.Core.Path.{◌≡◌}
 use Rattle.split.specs.Split.{Splitting}
-use Rattle.split.specs.Split.Laws.{tables, split_start, first_ready, second_ready, split_turn, split_done}
 use Rattle.split.proofs.split.split.Given as goal
 
 abbrev pub invariant-loop-k : goal.invariant-loop-k

@@ -1,10 +1,8 @@
-use Rattle.tables.proofs.CopyCases.{Buffered, buffer_rows_start, buffer_rows_next, buffer_rows_end}
+use Rattle.tables.proofs.CopyCases.{buffer_rows_start, buffer_rows_next, buffer_rows_end}
 use Rattle.fsbm.specs.Rules.{rules as rules_of}
-use lib.ListN.{length}
 use native.Mathlib.Omega.{arith}
 use mathlib.Core.Path.{refl}
-use Prim.Native.Nat.{◌-◌, ◌+◌}
-use borrow.Author.Rules.{rules}
+use Prim.Native.Nat.{◌+◌}
 use Rattle.tables.proofs.copy.buffering_rows.Goals as goal
 
 pub overflow_sub-d : goal.overflow_sub-d

@@ -2,7 +2,6 @@ use Rattle.tables.proofs.CopyCases.{change_unmatched, change_ended}
 use Rattle.fsbm.specs.Rules.{rules as rules_of}
 use Prim.Native.Nat.{◌+◌}
 use native.Mathlib.Omega.{arith}
-use borrow.Author.Rules.{rules}
 use Rattle.tables.proofs.copy.change_row.Goals as goal
 
 pub returns-then-wide-d : goal.returns-then-wide-d

@@ -1,9 +1,8 @@
 use lib.ListN.{length, length-set}
-use Rattle.tables.proofs.CopyCases.{Emptied, empty_rows_start, empty_rows_next, empty_rows_end}
+use Rattle.tables.proofs.CopyCases.{empty_rows_start, empty_rows_next, empty_rows_end}
 use native.Mathlib.Omega.{arith}
 use mathlib.Core.Path.{refl, ap}
 use Prim.Native.Nat.{◌-◌, ◌+◌}
-use borrow.Author.Rules.{rules}
 use Rattle.tables.proofs.copy.emptying_rows.Goals as goal
 
 pub save-requires : goal.save-requires

@@ -3,7 +3,6 @@ use Rattle.tables.specs.Tables.Laws.{empty_start}
 use Rattle.tables.specs.Tables.{EmptyRow}
 use native.Mathlib.Omega.{arith}
 use mathlib.Core.Path.{sym, subst}
-use borrow.Author.Rules.{rules}
 use Rattle.tables.proofs.copy.ended_row.Goals as goal
 
 pub overflow_cast-k : goal.overflow_cast-k

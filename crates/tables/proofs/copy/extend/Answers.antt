@@ -1,10 +1,8 @@
-use Rattle.tables.proofs.CopyCases.{Winding, extended_next, extended_dead, extended_whole}
+use Rattle.tables.proofs.CopyCases.{extended_next, extended_dead, extended_whole}
 use Rattle.fsbm.specs.Rules.{rules as rules_of}
-use borrow.Author.Tests.{not-true}
 use Prim.Native.Nat.{◌+◌, ◌-◌}
 use native.Mathlib.Omega.{arith}
 use mathlib.Core.Path.{refl}
-use borrow.Author.Rules.{rules}
 use Rattle.tables.proofs.copy.extend.Goals as goal
 
 pub loop-k-init : goal.loop-k-init

@@ -1,10 +1,5 @@
-use Rattle.tables.proofs.CopyCases.{Winding, extended_next, extended_dead, extended_whole}
-use Rattle.fsbm.specs.Rules.{rules as rules_of}
-use borrow.Author.Tests.{not-true}
-use Prim.Native.Nat.{◌+◌, ◌-◌}
-use native.Mathlib.Omega.{arith}
-use mathlib.Core.Path.{refl}
-use borrow.Author.Rules.{rules}
+use Rattle.tables.proofs.CopyCases.{Winding}
+use Prim.Native.Nat.{◌-◌}
 use Rattle.tables.proofs.copy.extend.Given as goal
 
 abbrev pub invariant-loop-k : goal.invariant-loop-k

@@ -2,11 +2,9 @@ use Rattle.tables.proofs.CopyCases.{change_dead, change_extended, change_blank}
 use Rattle.tables.specs.Tables.Laws.{empty_start}
 use Rattle.tables.specs.Tables.{EmptyRow}
 use Rattle.fsbm.specs.Rules.{rules as rules_of}
-use borrow.Author.Tests.{not-true, not-false}
 use Prim.Native.Nat.{◌+◌}
 use native.Mathlib.Omega.{arith}
 use mathlib.Core.Path.{refl, sym, subst}
-use borrow.Author.Rules.{rules}
 use Rattle.tables.proofs.copy.fresh_change.Goals as goal
 
 pub returns-then-not-halves_match : goal.returns-then-not-halves_match

@@ -2,7 +2,6 @@ use Rattle.tables.proofs.CopyCases.{fruitless_unequal, fruitless_blank}
 use Prim.Native.Nat.{◌+◌}
 use native.Mathlib.Omega.{arith}
 use mathlib.Core.Bool.{false≢true}
-use borrow.Author.Rules.{rules}
 use Rattle.tables.proofs.copy.is_fruitless.Goals as goal
 
 pub returns-then-wide-k : goal.returns-then-wide-k

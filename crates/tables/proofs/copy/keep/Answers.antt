@@ -1,6 +1,5 @@
 use mathlib.Core.Path.{refl}
 use Rattle.tables.proofs.CopyCases.{keep_live, keep_dead}
-use borrow.Author.Rules.{rules}
 use Rattle.tables.proofs.copy.keep.Goals as goal
 
 pub returns-then-tail : goal.returns-then-tail

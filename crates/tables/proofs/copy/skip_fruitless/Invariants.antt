@@ -1,11 +1,8 @@
-use Rattle.tables.proofs.CopyCases.{skip_start, skip_more}
 use Rattle.tables.specs.Tables.{Skipped}
 use Rattle.tables.specs.Halves.{SharedFrom}
-use borrow.Author.Tests.{not-false}
 use lib.ListN.{length}
-use native.Mathlib.Omega.{arith}
 use mathlib.Core.List.{List}
-use Prim.Native.Nat.{ℕ, ◌≤◌, ◌-◌, ◌+◌}
+use Prim.Native.Nat.{ℕ, ◌≤◌, ◌+◌}
 use Rattle.tables.proofs.copy.skip_fruitless.Given as goal
 
 abbrev pub invariant-loop-k : goal.invariant-loop-k

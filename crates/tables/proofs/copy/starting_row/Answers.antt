@@ -1,4 +1,3 @@
-use borrow.Author.Rules.{rules}
 use Rattle.tables.proofs.CopyCases.{starting_none, starting_some}
 use Rattle.tables.proofs.copy.starting_row.Goals as goal
 

@@ -1,4 +1,3 @@
-use borrow.Author.Tests.{not-true}
 use Rattle.fsbm.specs.Rules.{rules as rules_of}
 use Rattle.tables.proofs.CopyCases.{stored_both, stored_none}
 use Rattle.tables.proofs.copy.stored_row.Goals as goal

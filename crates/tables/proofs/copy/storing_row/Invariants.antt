@@ -1,11 +1,6 @@
-use Rattle.tables.proofs.CopyCases.{Storing, storing_start, storing_skip, storing_next, storing_end}
-use Rattle.fsbm.specs.Rules.{rules as rules_of}
-use borrow.Author.Tests.{not-true}
+use Rattle.tables.proofs.CopyCases.{Storing}
 use lib.ListN.{length}
-use native.Mathlib.Omega.{arith}
-use mathlib.Core.Path.{◌≡◌, refl, ◌∙◌}
-use Prim.Native.Nat.{◌-◌, ◌+◌}
-use borrow.Author.Rules.{rules}
+use mathlib.Core.Path.{◌≡◌}
 use Rattle.tables.proofs.copy.storing_row.Given as goal
 
 abbrev pub invariant-loop-d : goal.invariant-loop-d

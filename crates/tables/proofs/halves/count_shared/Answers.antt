@@ -1,8 +1,6 @@
-use borrow.Author.Rules.{rules}
-use Rattle.tables.proofs.HalvesCases.{Counted, counted_start, counted_next, counted_room, counted_end}
+use Rattle.tables.proofs.HalvesCases.{counted_start, counted_next, counted_room, counted_end}
 use native.Mathlib.Omega.{arith}
 use mathlib.Core.Path.{refl}
-use Prim.Native.Nat.{◌-◌}
 use Rattle.tables.proofs.halves.count_shared.Goals as goal
 
 pub loop-d-init : goal.loop-d-init

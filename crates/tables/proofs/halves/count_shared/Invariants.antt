@@ -1,7 +1,4 @@
-use borrow.Author.Rules.{rules}
-use Rattle.tables.proofs.HalvesCases.{Counted, counted_start, counted_next, counted_room, counted_end}
-use native.Mathlib.Omega.{arith}
-use mathlib.Core.Path.{refl}
+use Rattle.tables.proofs.HalvesCases.{Counted}
 use Prim.Native.Nat.{◌-◌}
 use Rattle.tables.proofs.halves.count_shared.Given as goal
 

@@ -1,7 +1,4 @@
-use Prim.Native.Nat.{ℕ, ◌<◌, ◌-◌, ◌+◌}
-use mathlib.Core.Path.{◌≡◌}
 use native.Mathlib.Omega.{arith}
-use lib.ListN.{get_or}
 use Rattle.tables.proofs.HalvesCases.{halves_differ, halves_more, halves_end}
 use Rattle.tables.proofs.halves.halves_match.Goals as goal
 

@@ -1,6 +1,5 @@
 use Rattle.tables.specs.Halves.Laws.{shared_more, shared_none}
 use native.Mathlib.Omega.{arith}
-use borrow.Author.Rules.{rules}
 use Rattle.tables.proofs.halves.longer.Goals as goal
 
 pub returns-then-word-i : goal.returns-then-word-i

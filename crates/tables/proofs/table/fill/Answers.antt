@@ -1,10 +1,7 @@
 use Rattle.tables.proofs.FillCases.{filling_before, filled_end, zero_at}
 use Rattle.tables.specs.Halves.Laws.{shared_end}
-use Rattle.tables.specs.Tables.{Filling}
-use lib.ListN.{length}
 use native.Mathlib.Omega.{arith}
-use mathlib.Core.Path.{◌≡◌, refl, ◌∙◌}
-use Prim.Native.Nat.{◌-◌, ◌≤◌}
+use mathlib.Core.Path.{refl, ◌∙◌}
 use Rattle.tables.proofs.table.fill.Goals as goal
 
 pub fill_end-requires : goal.fill_end-requires

@@ -1,10 +1,7 @@
-use Rattle.tables.proofs.FillCases.{filling_before, filled_end, zero_at}
-use Rattle.tables.specs.Halves.Laws.{shared_end}
 use Rattle.tables.specs.Tables.{Filling}
 use lib.ListN.{length}
-use native.Mathlib.Omega.{arith}
-use mathlib.Core.Path.{◌≡◌, refl, ◌∙◌}
-use Prim.Native.Nat.{◌-◌, ◌≤◌}
+use mathlib.Core.Path.{◌≡◌}
+use Prim.Native.Nat.{◌≤◌}
 use Rattle.tables.proofs.table.fill.Given as goal
 
 abbrev pub invariant-loop-p : goal.invariant-loop-p

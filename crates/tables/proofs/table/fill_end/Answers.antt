@@ -5,7 +5,6 @@ use lib.ListN.{length}
 use Prim.Native.Nat.{ℕ, ◌+◌, ◌≤◌}
 use native.Mathlib.Omega.{arith}
 use mathlib.Core.Path.{refl}
-use borrow.Author.Rules.{rules}
 use Rattle.tables.proofs.table.fill_end.Goals as goal
 
 pub near_at-near-requires : goal.near_at-near-requires
