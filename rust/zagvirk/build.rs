@@ -16,7 +16,7 @@ fn main() {
     println!("cargo:rerun-if-changed={}", archive.display());
     if !archive.is_file() {
         panic!(
-            "{} is not there: make it with `rt staticlib exports`, or set ZAGVIRK_LIB_DIR to its folder",
+            "{} is not there: make it with `tools/built library`, or set ZAGVIRK_LIB_DIR to its folder",
             archive.display()
         );
     }

@@ -108,9 +108,9 @@ module _ (m : Machine) (list letters ends before : List ℕ) where
       × (answered_values r ≡ words_values m list letters ends (length before))
       × (after ≡ words_after m list letters ends before)
 
-  refused_by_lem : (f : Refusal) → f ≡ words_refusal m list letters ends (length before) → eqb f.number 0 ≡ false → Right before (Refused f)
+  refused_by : (f : Refusal) → f ≡ words_refusal m list letters ends (length before) → eqb f.number 0 ≡ false → Right before (Refused f)
   unfolding words_answer words_after words_values
-  refused_by_lem f at_f some =
+  refused_by f at_f some =
       let t : eqb (words_refusal m list letters ends (length before)).number 0 ≡ false = ap (λ (z : Refusal). eqb z.number 0) (sym at_f) ∙ some in (
         second _ t (ap Refused at_f),
         ap (λ (z : Refusal). record { refusal = z.number; needed = z.needed; words = 0 }) at_f
@@ -120,17 +120,17 @@ module _ (m : Machine) (list letters ends before : List ℕ) where
 
   pub refused_table : well_formed m list ≡ false → Right before (Refused (refusal 16))
   unfolding words_refusal
-  refused_table h = refused_by_lem (refusal 16) (second _ h refl) refl
+  refused_table h = refused_by (refusal 16) (second _ h refl) refl
 
   module _ (obeys : well_formed m list ≡ true) where
     pub refused_ends : good_ends (length letters) 0 ends ≡ false → Right before (Refused (refusal 34))
     unfolding words_refusal
-    refused_ends h = refused_by_lem (refusal 34) (first _ obeys (second _ h refl)) refl
+    refused_ends h = refused_by (refusal 34) (first _ obeys (second _ h refl)) refl
 
     module _ (good : good_ends (length letters) 0 ends ≡ true) where
       pub refused_slice : length before < length ends → Right before (Refused (record { number = 35; needed = length ends }))
       unfolding words_refusal
-      refused_slice h = refused_by_lem (record { number = 35; needed = length ends }) (first _ obeys (first _ good (second _ (lt-leb _ _ h) refl))) refl
+      refused_slice h = refused_by (record { number = 35; needed = length ends }) (first _ obeys (first _ good (second _ (lt-leb _ _ h) refl))) refl
 
       pub answered : length ends ≤ length before → (after : List ℕ) → after ≡ put 0 before (answers_from m list letters 0 ends) → Right after (Words (length ends))
       unfolding words_refusal words_answer words_after words_values

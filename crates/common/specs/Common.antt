@@ -22,18 +22,17 @@ use Rattle.pieces.specs.Bound.{word_bound}
 use Rattle.common.specs.declared.Lengths.{Lengths}
 use Rattle.common.specs.declared.Common.{Common}
 use Rattle.common.specs.declared.Common.TheVariants.{Refused, NoCommonWord, Found}
-pub mod Laws
 
 module _ (m₁ : Machine) (l₁ : List ℕ) (m₂ : Machine) (l₂ : List ℕ) where
   unfoldable pub is_common : List ℕ → Bool
   is_common w = accepted m₁ l₁ w && accepted m₂ l₂ w
 
-  -- Shut, and never computed: a search through all words of n letters, letter numbers as they may stand in a table.
-  pub has_common : ℕ → Bool
+  -- Opened by its laws alone, and never computed: a search through all words of n letters, letter numbers as they may stand in a table.
+  unfoldable pub has_common : ℕ → Bool
   has_common n = exists_list (suc max_letters) n (λ w. eqb (length w) n && is_common w)
 
-  -- Shut, and never computed. That no longer word need be searched is a law.
-  pub least_common : ℕ
+  -- Opened by its laws alone, and never computed. That no longer word need be searched is a law.
+  unfoldable pub least_common : ℕ
   least_common = least_below (suc word_bound) has_common
 
   -- 16, 10 to 13 as for joining; no common word; 18 and 17 for the first slice that is too short, with the length it needs

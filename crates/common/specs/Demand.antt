@@ -16,7 +16,6 @@ use Rattle.fsbm.specs.declared.machine.Machine.{Machine}
 use Rattle.common.specs.declared.Lengths.{Lengths}
 use Rattle.common.specs.declared.Common.{Common}
 use Rattle.common.specs.declared.Common.TheVariants.{Refused, NoCommonWord, Found}
-pub mod Laws
 
 abbrev pub BothAccept : Machine → List ℕ → Machine → List ℕ → List ℕ → Type 0
 BothAccept m₁ l₁ m₂ l₂ w = ((run : List ℕ) × (accepting m₁ l₁ w run ≡ true)) × ((run : List ℕ) × (accepting m₂ l₂ w run ≡ true))

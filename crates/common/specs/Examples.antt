@@ -25,7 +25,6 @@ use Rattle.product.specs.Examples.{odd, odd_list, odd_joined, joins}
 use Rattle.pieces.specs.Spots.{no_copy_word}
 use Rattle.common.specs.declared.Common.TheVariants.{Refused, NoCommonWord, Found}
 use Rattle.common.specs.Common.{is_common, common_answer}
-pub mod Laws
 
 abbrev pub some : Machine
 some = machine 2 4 (1 ∷ 2 ∷ [])

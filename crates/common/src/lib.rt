@@ -1,4 +1,4 @@
-// A shortest common word of a machine and a plain machine, with a run of each: the answer, its definitions and laws, in specs/.
+// A shortest common word of a machine and a plain machine, with a run of each: the answer, its definitions and laws, in specs/ and proofs/.
 
 #![tactic(auto)]
 

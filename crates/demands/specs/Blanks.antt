@@ -42,9 +42,9 @@ use Rattle.sheet.specs.declared.answers.Sheet.{Sheet}
 use Rattle.sheet.specs.declared.answers.Written.{Written}
 use Rattle.sheet.specs.declared.answers.Written.TheVariants.{Bytes}
 use Rattle.sheet_laws.specs.Filled.{filled, has_blank}
-use Rattle.sheet_laws.specs.RoundTrip.{Table, written_filled}
-use Rattle.sheet_laws.specs.Calls as calls
-use Rattle.sheet_laws.specs.Calls.{Wrote, Read}
+use Rattle.sheet_laws.proofs.RoundTrip.{Table, written_filled}
+use Rattle.sheet_laws.proofs.Calls as calls
+use Rattle.sheet_laws.proofs.Calls.{Wrote, Read}
 use Rattle.lines.specs.Line.{letter_column, letter_at, word_of, holds_letter, line_refusal, line_answer}
 use Rattle.lines.specs.Line.Laws.{line_refused}
 use Rattle.lines.specs.Steps.{columns_fault}

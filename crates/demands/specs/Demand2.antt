@@ -39,7 +39,7 @@ use Rattle.sheet.specs.declared.answers.Sheet.{Sheet}
 use Rattle.sheet.specs.declared.answers.Written.{Written}
 use Rattle.sheet.specs.declared.answers.Written.TheVariants.{Bytes}
 use Rattle.sheet_laws.specs.Filled.{filled, has_blank}
-use Rattle.sheet_laws.specs.Calls.{Wrote, Read, written_read, read_written, read_same}
+use Rattle.sheet_laws.proofs.Calls.{Wrote, Read, written_read, read_written, read_same}
 use Rattle.recognize.specs.Recognition.{recognition, recognized_values, Recognition}
 use Rattle.recognize.specs.declared.Recognized.{Recognized}
 use Rattle.recognize.specs.declared.Recognized.TheVariants.{No, Yes}

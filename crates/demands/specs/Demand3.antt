@@ -14,7 +14,7 @@ use Rattle.common.specs.declared.Common.{Common}
 use Rattle.common.specs.declared.Common.TheVariants.{Found}
 use Rattle.common.specs.Common.{CommonWord}
 use Rattle.common.specs.Demand.{BothAccept, BothPublished, Demand}
-use Rattle.common.specs.Demand.Laws.{demand_runs, demand_published, unchanged}
+use Rattle.common.proofs.DemandLaws.{demand_runs, demand_published, unchanged}
 
 module _ (m₁ : Machine) (l₁ : List ℕ) (m₂ : Machine) (l₂ : List ℕ) (word word' first first' second second' : List ℕ) (r : Common)
     (contract : CommonWord m₁ l₁ m₂ l₂ word word' first first' second second' r) where

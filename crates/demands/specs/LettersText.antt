@@ -28,7 +28,7 @@ use Rattle.sheet.specs.Series.Laws.{or_zero, first_zero}
 use Rattle.sheet.specs.Reading.{unless, column_at, line_fault}
 use Rattle.sheet.specs.Reading.Laws.{unless_zero, line_none}
 use Rattle.sheet_laws.specs.Filled.{filled}
-use Rattle.sheet_laws.specs.Lines.{line_kept, line_number, line_good}
+use Rattle.sheet_laws.proofs.Lines.{line_kept, line_number, line_good}
 use Rattle.letters.specs.Alphabet.{byte_values, max_lines, letter_in, largest_of, gapless, lettered, good_alphabet}
 use Rattle.letters.specs.Alphabet.Laws.{letter_in_lem, letters_at_lem, letters_list, largest_bound, largest_same, lettered_same, gapless_same, gapless_true, gapless_few}
 use Rattle.letters.specs.Loading.{byte_at, letter_at, lines_begun, entry_fault, letters_run, load_fault, last_of, letter_of, alphabet_of, no_alphabet, load_answer}

@@ -5,7 +5,7 @@
 -- yes_iff_published   == the answer is yes, if and only if the word is in the published language
 -- no_iff_published    == the answer is no, if and only if it is not
 -- refused_iff         == the word is refused, if and only if the table or the word fails a test
--- refused_by_lem          == a refusal is 16, 9 or 8; so of accepts and recognize only recognize meets 17
+-- refused_by          == a refusal is 16, 9 or 8; so of accepts and recognize only recognize meets 17
 --
 -- 2. With a run slice that is long enough accepts and recognize agree on every word that passes the tests before the slices:
 -- both_yes            == recognize says yes, if and only if accepts does
@@ -92,9 +92,9 @@ module _ (m : Machine) (list w : List ℕ) (d : Decided) (contract : d ≡ decis
   pub refused_iff : ((f : Refusal) × (d ≡ Refused f)) ↔ (table_and_word longest_recognized m list w ≡ 0 → ⊥)
   refused_iff = (λ s. some_refusal s.0 s.1, λ h. (refusal (table_and_word longest_recognized m list w), refused_as h))
 
-  pub refused_by_lem : (f : Refusal) → d ≡ Refused f → (f ≡ refusal 16) ⊎ (f ≡ refusal 9) ⊎ (f ≡ refusal 8)
+  pub refused_by : (f : Refusal) → d ≡ Refused f → (f ≡ refusal 16) ⊎ (f ≡ refusal 9) ⊎ (f ≡ refusal 8)
   unfolding table_and_word
-  refused_by_lem f e =
+  refused_by f e =
       at (well_formed m list) (leb (length w) longest_recognized) (good_letters m.letters w) (some_refusal f e)
       (let e' = refused_as (some_refusal f e) in cc)
     where

@@ -26,7 +26,7 @@ use Rattle.pieces.specs.Bound.{word_bound}
 use Rattle.pieces.specs.Blocks.{nothing, cost_of}
 use Rattle.pieces.specs.Written.{StoresBy, stored, store, MatchesBy, matched, match, LeadsBy, ended, read, copy}
 use Rattle.common.specs.Common.{least_common}
-use Rattle.common.specs.Search.{found, none, fewest}
+use Rattle.common.proofs.Search.{found, none, fewest}
 use Rattle.common.specs.Split.{Splits}
 use Rattle.common.specs.Split.Laws.{leads_letters, split_accepts}
 use Rattle.split.specs.Split as split

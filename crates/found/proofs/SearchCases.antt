@@ -26,8 +26,8 @@ use Rattle.product.specs.declared.Product.{Product}
 use Rattle.pieces.specs.Bound.{word_bound}
 use Rattle.common.specs.declared.Common.TheVariants.{Refused, NoCommonWord, Found}
 use Rattle.common.specs.Common.{least_common, common_answer, Front, CommonWord}
-use Rattle.common.specs.Contract.{contract_unchanged, contract_found}
-use Rattle.common.specs.Common.Laws.{answer_fault, answer_none, answer_word, answer_first, answer_second}
+use Rattle.common.proofs.Contract.{contract_unchanged, contract_found}
+use Rattle.common.proofs.CommonLaws.{answer_fault, answer_none, answer_word, answer_first, answer_second}
 use Rattle.found.specs.Joined.{joined_room, Joined}
 
 -- Joining into a list that has room for every product
@@ -49,17 +49,17 @@ module _ (m₁ : Machine) (l₁ : List ℕ) (m₂ : Machine) (l₂ : List ℕ) (
       at (no e) = sym (second _ (ne_eqb (join_fault m₁ l₁ m₂ l₂) 0 e) refl)
 
   module _ (p : Product) (after : List ℕ) (answer : p ≡ join_answer m₁ l₁ m₂ l₂ (length list)) (left : after ≡ join_after m₁ l₁ m₂ l₂ list) where
-    refused_by_lem : p.refusal ≡ refusal (join_fault m₁ l₁ m₂ l₂)
+    refused_by : p.refusal ≡ refusal (join_fault m₁ l₁ m₂ l₂)
     unfolding join_answer
-    refused_by_lem = ap (λ (x : Product). x.refusal) answer ∙ joins
+    refused_by = ap (λ (x : Product). x.refusal) answer ∙ joins
 
     pub join_refuses : (p.refusal.number ≡ 0 → ⊥) → (p.refusal ≡ refusal (join_fault m₁ l₁ m₂ l₂)) × (join_fault m₁ l₁ m₂ l₂ ≡ 0 → ⊥)
-    join_refuses h = (refused_by_lem, λ e. h (ap (λ (f : Refusal). f.number) refused_by_lem ∙ e))
+    join_refuses h = (refused_by, λ e. h (ap (λ (f : Refusal). f.number) refused_by ∙ e))
 
     pub join_gives : p.refusal.number ≡ 0 → Joined m₁ l₁ m₂ l₂ p.machine after
     unfolding join_answer join_after
     join_gives h =
-        let fine : join_fault m₁ l₁ m₂ l₂ ≡ 0 = ap (λ (f : Refusal). f.number) (sym refused_by_lem) ∙ h in
+        let fine : join_fault m₁ l₁ m₂ l₂ ≡ 0 = ap (λ (f : Refusal). f.number) (sym refused_by) ∙ h in
         let none : eqb (join_refusal m₁ l₁ m₂ l₂ (length list)).number 0 ≡ true = eq-eqb _ 0 (ap (λ (f : Refusal). f.number) joins ∙ fine) in
         record {
           fine = fine;

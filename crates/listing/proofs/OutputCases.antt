@@ -25,7 +25,7 @@ use Rattle.basics.specs.Lists.Laws.{put_zero, put_length}
 use Rattle.fsbm.specs.Machine.{well_formed}
 use Rattle.fsbm.specs.declared.machine.Machine.{Machine}
 use Rattle.sheet.specs.Reading.{first_fault, machine_of, transitions_of, read_answer, read_list}
-use Rattle.sheet_laws.specs.Obeys.{read_obeys}
+use Rattle.sheet_laws.proofs.Obeys.{read_obeys}
 use Rattle.stream.specs.Listing.{most_words}
 use Rattle.stream.specs.Pieces.{Pending, most_kept, nothing_yet, after_piece, piece_prints, end_prints, opening}
 use Rattle.stream.specs.Pieces.Laws.{after_cut, prints_length, end_length, opening_length}

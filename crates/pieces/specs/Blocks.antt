@@ -16,7 +16,6 @@ use Rattle.stateset.specs.Set.{In}
 use Rattle.fsbm.specs.Published.{FSBM, fsbm_of}
 use Rattle.fsbm.specs.declared.machine.Machine.{Machine}
 use Rattle.pieces.specs.Pairs.{Pair, both, PairMove}
-pub mod Laws
 
 abbrev pub most_states : ℕ
 most_states = 64

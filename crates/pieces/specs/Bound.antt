@@ -5,7 +5,6 @@
 use Rattle.std.specs.Prelude.{ℕ, ◌*◌, ◌-◌}
 use Rattle.pieces.specs.Pairs.{halves}
 use Rattle.pieces.specs.Blocks.{most_states}
-pub mod Laws
 
 abbrev pub word_bound : ℕ
 word_bound = (most_states - 1) * (most_states * most_states - 1) * halves

@@ -4,5 +4,4 @@ pub mod Pairs
 pub mod Pieces
 pub mod Rounds
 pub mod Spots
-pub mod Tight
 pub mod Written

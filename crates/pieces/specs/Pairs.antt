@@ -12,7 +12,6 @@
 use Rattle.std.specs.Prelude.{ℕ, zero, suc, ◌+◌, ◌*◌}
 use Rattle.graphs.specs.Cost.{Route}
 use Rattle.fsbm.specs.Published.{FSBM}
-pub mod Laws
 
 abbrev pub unit : ℕ
 unit = 4294967296

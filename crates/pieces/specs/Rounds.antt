@@ -9,7 +9,6 @@ use Rattle.graphs.specs.Cost.{Route, Realised}
 use Rattle.graphs.specs.Back.{Back}
 use Rattle.fsbm.specs.Published.{FSBM}
 use Rattle.pieces.specs.Pairs.{Pair, both, PairMove, NormalMove, Piece}
-pub mod Laws
 
 pub record Rounds (M : FSBM) (top : ℕ) (Fresh Started : ℕ → Type 0) (D : ℕ → ℕ) : Type 0 where
   pub at_start : (q : ℕ) → M.I q → D q ≡ 0

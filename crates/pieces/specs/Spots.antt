@@ -18,7 +18,6 @@ use Rattle.fsbm.specs.Machine.{initial, final, buffering, matching, both_matchin
 use Rattle.fsbm.specs.declared.machine.Machine.{Machine}
 use Rattle.fsbm.specs.declared.machine.Transition.{Transition}
 use Rattle.language.specs.Chosen.{numbers, chosen}
-pub mod Laws
 
 pub data Spot : Type 0 where
   normally : ℕ → Spot

@@ -1,3 +1,3 @@
-// Definitions and laws only: see specs/.
+// Definitions and laws only: see specs/ and proofs/.
 
 #![tactic(auto)]

@@ -23,9 +23,9 @@ module _ (m : Machine) (list w before : List ℕ) where
   abbrev Right : List ℕ → Reaching → Type 0
   Right after r = (r ≡ reach_answer m list w (length before)) × (reaching_values r ≡ reach_values m list w (length before)) × (after ≡ reach_after m list w before)
 
-  refused_by_lem : (f : Refusal) → f ≡ reach_refusal m list w (length before) → eqb f.number 0 ≡ false → Right before (Refused f)
+  refused_by : (f : Refusal) → f ≡ reach_refusal m list w (length before) → eqb f.number 0 ≡ false → Right before (Refused f)
   unfolding reach_answer reach_after reach_values
-  refused_by_lem f at_f some =
+  refused_by f at_f some =
       let t : eqb (reach_refusal m list w (length before)).number 0 ≡ false = ap (λ (z : Refusal). eqb z.number 0) (sym at_f) ∙ some in (
         second _ t (ap Refused at_f),
         ap (λ (z : Refusal). record { refusal = z.number; needed = z.needed; sets = 0 }) at_f
@@ -37,14 +37,14 @@ module _ (m : Machine) (list w before : List ℕ) where
   unfolding reach_refusal
   refused_input number e some =
       let t : eqb (table_and_word longest_recognized m list w) 0 ≡ false = ap (λ (n : ℕ). eqb n 0) (sym e) ∙ ne_eqb number 0 some in
-      refused_by_lem (record { number = number; needed = 0 }) (second _ t (ap refusal e)) (ne_eqb number 0 some)
+      refused_by (record { number = number; needed = 0 }) (second _ t (ap refusal e)) (ne_eqb number 0 some)
 
   module _ (good : table_and_word longest_recognized m list w ≡ 0) where
     pub refused_slice : (needed : ℕ) → needed ≡ sets_needed w → length before < needed → Right before (Refused (record { number = 36; needed = needed }))
     unfolding reach_refusal
     refused_slice needed e h =
         let t : leb (sets_needed w) (length before) ≡ false = ap (λ (n : ℕ). leb n (length before)) (sym e) ∙ lt-leb needed (length before) h in
-        refused_by_lem (record { number = 36; needed = needed }) (first _ (eq-eqb (table_and_word longest_recognized m list w) 0 good) (second _ t (ap (λ (n : ℕ). record { number = 36; needed = n }) e))) refl
+        refused_by (record { number = 36; needed = needed }) (first _ (eq-eqb (table_and_word longest_recognized m list w) 0 good) (second _ t (ap (λ (n : ℕ). record { number = 36; needed = n }) e))) refl
 
     pub written : (needed : ℕ) → needed ≡ sets_needed w → needed ≤ length before → (after : List ℕ) → after ≡ put 0 before (reached_sets m list w) → Right after (Sets needed)
     unfolding reach_refusal reach_answer reach_after reach_values

@@ -11,7 +11,7 @@ use Rattle.fsbm.specs.declared.machine.Machine.{Machine}
 use Rattle.language.specs.Bound.{accepted_not_published}
 use Rattle.pieces.specs.Bound.{word_bound}
 use Rattle.common.specs.Common.{least_common}
-use Rattle.common.specs.Common.Laws.{common_joined, none_common}
+use Rattle.common.proofs.CommonLaws.{common_joined, none_common}
 use Rattle.found.specs.Joined.{Joined}
 use Rattle.found.proofs.SearchCases.{joined_good}
 

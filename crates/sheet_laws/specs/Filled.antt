@@ -5,7 +5,6 @@
 -- has_blank s  == whether some column of s is blank
 use Rattle.std.specs.Prelude.{ℕ, List, [], ◌∷◌, ◌++◌, Bool, false, cond, ◌||◌, eqb}
 use Rattle.columns.specs.Column.{is_blank, filled_column}
-pub mod Laws
 
 unfoldable pub filled : List ℕ → List ℕ
 filled [] = []

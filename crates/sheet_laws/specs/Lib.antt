@@ -1,5 +1,1 @@
 pub mod Filled
-pub mod Lines
-pub mod RoundTrip
-pub mod Obeys
-pub mod Calls

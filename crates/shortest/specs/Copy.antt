@@ -20,7 +20,7 @@ use Rattle.fsbm.specs.Published.{fsbm_of}
 use Rattle.fsbm.specs.declared.machine.Machine.{Machine}
 use Rattle.pieces.specs.Pieces.{Stores, Matches, Leads}
 use Rattle.pieces.specs.Pairs.{unit}
-use Rattle.pieces.specs.Pairs.Laws.{pair_weight}
+use Rattle.pieces.proofs.PairsLaws.{pair_weight}
 use Rattle.pieces.specs.Blocks.{nothing, cost_of, cell, Settles}
 use Rattle.pieces.specs.Written.{StoresBy, MatchesBy, LeadsBy}
 use Rattle.shortest.specs.Into.{Into}

@@ -21,7 +21,7 @@ use Rattle.fsbm.specs.declared.machine.Machine.{Machine}
 use Rattle.pieces.specs.Pieces.{Leads}
 use Rattle.pieces.specs.Pairs.{unit, Piece}
 use Rattle.pieces.specs.Blocks.{nothing, cost_of, cell}
-use Rattle.pieces.specs.Tight.{TightCopy}
+use Rattle.pieces.proofs.Tight.{TightCopy}
 use Rattle.pieces.specs.Written.{LeadsBy}
 use Rattle.blocks.specs.Works.{Ready, Kind}
 use Rattle.blocks.specs.Settling.{Past, Block}

@@ -122,7 +122,7 @@ fn enough(place: &Place, words: &[Vec<u8>], empty: (f64, f64)) -> usize {
 pub fn section() {
     let Some(program) = program() else {
         println!("The listing: not measured, since the proved program is not there. Build it in the repository's");
-        println!("folder by: rt check listing");
+        println!("folder by: tools/built program");
         return;
     };
     println!(

@@ -21,7 +21,7 @@ use Rattle.std.proofs.lemmas.Bool.{eqb-false}
 use Rattle.stateset.specs.Set.{width, In, has, digit, added, removed, lowest_of, SetIs, Lowest}
 use Rattle.stateset.specs.Set.Laws.{in?, has_in, in_lt, lowest_removed, drop_lowest, ones_add, add_member, added_state, empty_in}
 use Rattle.pieces.specs.Blocks.{cell}
-use Rattle.pieces.specs.Blocks.Laws.{cell_inside, cell_past}
+use Rattle.pieces.proofs.BlocksLaws.{cell_inside, cell_past}
 use Rattle.blocks.specs.Numbers.{total, marked, HasMark, Sized, Steps, Lowers, One, Put, Enter, Spread}
 
 -- two pairs of states with one number are one

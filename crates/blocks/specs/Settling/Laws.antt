@@ -28,7 +28,7 @@ use Rattle.fsbm.specs.Published.{Listed, fsbm_of}
 use Rattle.fsbm.specs.declared.machine.Machine.{Machine}
 use Rattle.pieces.specs.Pairs.{Pair, both, PairMove, stores_none, matches_none, letter}
 use Rattle.pieces.specs.Blocks.{nothing, cell, cost_of, Node, outside, inside, BlockEdge, begins, goes_on, block_of}
-use Rattle.pieces.specs.Blocks.Laws.{cell_inside, cell_past, inside_not}
+use Rattle.pieces.proofs.BlocksLaws.{cell_inside, cell_past, inside_not}
 use Rattle.blocks.specs.Numbers.{HasMark, Steps, Lowers, One, total, marked}
 use Rattle.blocks.specs.Numbers.Laws.{Left, Rest, Taken, left_start, left_more, left_end, lowers_none, lowers_then, lowers_as, marked_set}
 use Rattle.blocks.specs.Works.{Kind, Works, Waiting, Busy, RowDone}

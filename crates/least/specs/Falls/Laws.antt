@@ -23,7 +23,7 @@ use Rattle.fsbm.specs.Rules.{rules}
 use Rattle.fsbm.specs.declared.machine.Machine.{Machine}
 use Rattle.pieces.specs.Pairs.{unit, weigh, NormalMove, moves}
 use Rattle.pieces.specs.Blocks.{nothing, cell, cost_of}
-use Rattle.pieces.specs.Blocks.Laws.{cost_inside, cost_past}
+use Rattle.pieces.proofs.BlocksLaws.{cost_inside, cost_past}
 use Rattle.blocks.specs.Numbers.Laws.{total_set, added_more, Left, Rest, Taken, left_start, left_more, left_end}
 use Rattle.blocks.specs.Stretches.Laws.{row_stretch}
 use Rattle.blocks.specs.Works.{Kind, Ready}

@@ -32,8 +32,8 @@ use Rattle.images.specs.Graph.{KindsOf}
 use Rattle.images.specs.declared.Kinds.{Kinds}
 use Rattle.pieces.specs.Pairs.{Pair, both, PairMove, NormalMove, Piece, moved}
 use Rattle.pieces.specs.Blocks.{nothing, cell, cost_of}
-use Rattle.pieces.specs.Blocks.Laws.{cost_inside, cost_past, block_copies}
-use Rattle.pieces.specs.Rounds.Laws.{NormalDone, CopiesDone, rounds_start, rounds_turn, rounds_looked, rounds_copied, rounds_end, stores_enters, copy_origin}
+use Rattle.pieces.proofs.BlocksLaws.{cost_inside, cost_past, block_copies}
+use Rattle.pieces.proofs.RoundsLaws.{NormalDone, CopiesDone, rounds_start, rounds_turn, rounds_looked, rounds_copied, rounds_end, stores_enters, copy_origin}
 use Rattle.blocks.specs.Numbers.{total}
 use Rattle.blocks.specs.Numbers.Laws.{added_more, Left, Rest, Taken, left_start, left_more, left_end}
 use Rattle.blocks.specs.Works.{Kind}

@@ -19,9 +19,9 @@ use Rattle.fsbm.specs.Rules.{Rules, rules}
 use Rattle.fsbm.specs.declared.machine.Machine.{Machine}
 use Rattle.stateset.specs.Set.{In}
 use Rattle.pieces.specs.Pairs.{Pair, both, PairMove}
-use Rattle.pieces.specs.Pairs.Laws.{pair_weight}
+use Rattle.pieces.proofs.PairsLaws.{pair_weight}
 use Rattle.pieces.specs.Blocks.{nothing, cost_of, cell, block_of}
-use Rattle.pieces.specs.Blocks.Laws.{cell_inside, cell_past, block_back}
+use Rattle.pieces.proofs.BlocksLaws.{cell_inside, cell_past, block_back}
 use Rattle.pieces.specs.Written.{Takes, StoresBy, stored, store, MatchesBy, matched, match}
 use Rattle.pieces.specs.Written.Laws.{stores_counted, matches_counted}
 use Rattle.shortest.specs.Find.{pair_unit, StoreFits, MatchFits, Storing, Backs, by_storing, by_matching, by_both, by_none}

@@ -15,9 +15,9 @@ use Rattle.fsbm.specs.declared.machine.Machine.{Machine}
 use Rattle.pieces.specs.Pieces.{stored, matched, ended, copy}
 use Rattle.pieces.specs.Pieces.Laws.{stores_append, matches_append}
 use Rattle.pieces.specs.Pairs.{both}
-use Rattle.pieces.specs.Pairs.Laws.{apart}
+use Rattle.pieces.proofs.PairsLaws.{apart}
 use Rattle.pieces.specs.Blocks.{cell, block_of}
-use Rattle.pieces.specs.Blocks.Laws.{block_realised}
+use Rattle.pieces.proofs.BlocksLaws.{block_realised}
 use Rattle.pieces.specs.Written.{MatchesBy}
 use Rattle.pieces.specs.Written as by
 use Rattle.pieces.specs.Written.Laws.{stores_counted, matches_counted}

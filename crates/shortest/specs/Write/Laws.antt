@@ -22,11 +22,11 @@ use Rattle.fsbm.specs.Rules.{Rules, rules, matching_below, one_kind}
 use Rattle.fsbm.specs.declared.machine.Machine.{Machine}
 use Rattle.pieces.specs.Pieces.Laws.{leads_append}
 use Rattle.pieces.specs.Pairs.{unit}
-use Rattle.pieces.specs.Pairs.Laws.{weigh_symbol}
+use Rattle.pieces.proofs.PairsLaws.{weigh_symbol}
 use Rattle.pieces.specs.Blocks.{nothing, cost_of, cell, block_of}
-use Rattle.pieces.specs.Blocks.Laws.{cost_past}
-use Rattle.pieces.specs.Tight.{TightMove, TightCopy, settled_back, settled_start, settled_leads, block_tight}
-use Rattle.pieces.specs.Rounds.Laws.{stores_enters}
+use Rattle.pieces.proofs.BlocksLaws.{cost_past}
+use Rattle.pieces.proofs.Tight.{TightMove, TightCopy, settled_back, settled_start, settled_leads, block_tight}
+use Rattle.pieces.proofs.RoundsLaws.{stores_enters}
 use Rattle.pieces.specs.Written.{Takes, LeadsBy, ended, read}
 use Rattle.pieces.specs.Written.Laws.{leads_counted, by_append}
 use Rattle.blocks.specs.Settling.{Past, Block}

@@ -1,6 +1,6 @@
 use native.Mathlib.Omega.{arith}
 use mathlib.Core.Path.{sym}
-use Rattle.pieces.specs.Blocks.Laws.{cost_inside}
+use Rattle.pieces.proofs.BlocksLaws.{cost_inside}
 use Rattle.blocks.specs.Numbers.Laws.{rest_start, rest_more, lowest_inside, taken, sized_after}
 use Rattle.blocks.specs.Settling.Laws.{begins_start, begins_more, begins_end}
 use Rattle.blocks.proofs.block.begin_all.Goals as goal

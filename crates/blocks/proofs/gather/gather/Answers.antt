@@ -1,6 +1,6 @@
 use native.Mathlib.Omega.{arith}
 use mathlib.Core.Path.{refl, sym, ◌∙◌}
-use Rattle.pieces.specs.Blocks.Laws.{cell_inside}
+use Rattle.pieces.proofs.BlocksLaws.{cell_inside}
 use Rattle.blocks.specs.Gathered.Laws.{from_start, from_more, from_end}
 use Rattle.blocks.specs.Numbers.Laws.{rest_start, rest_more, lowest_inside, taken}
 use Rattle.blocks.specs.Stretches.Laws.{key_fits}

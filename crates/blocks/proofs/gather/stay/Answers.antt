@@ -1,6 +1,6 @@
 use native.Mathlib.Omega.{arith}
 use mathlib.Core.Path.{sym, ◌∙◌}
-use Rattle.pieces.specs.Blocks.Laws.{cell_inside}
+use Rattle.pieces.proofs.BlocksLaws.{cell_inside}
 use Rattle.blocks.specs.Gathered.Laws.{stay_start, stay_more, stay_end}
 use Rattle.blocks.specs.Numbers.Laws.{rest_start, rest_more, lowest_inside, taken}
 use Rattle.blocks.proofs.gather.stay.Goals as goal

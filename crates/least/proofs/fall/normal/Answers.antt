@@ -1,7 +1,7 @@
 use Rattle.blocks.specs.Works.Laws.{ready_stride, ready_end, row_fits}
 use native.Mathlib.Omega.{arith}
 use mathlib.Core.Path.{sym, ◌∙◌}
-use Rattle.pieces.specs.Blocks.Laws.{cost_inside}
+use Rattle.pieces.proofs.BlocksLaws.{cost_inside}
 use Rattle.least.specs.Falls.Laws.{normal_none, normal_buffers, normal_past, normal_steps}
 use Rattle.least.proofs.fall.normal.Goals as goal
 

@@ -1,5 +1,5 @@
 use native.Mathlib.Omega.{arith}
-use Rattle.pieces.specs.Blocks.Laws.{cost_inside}
+use Rattle.pieces.proofs.BlocksLaws.{cost_inside}
 use Rattle.blocks.specs.Numbers.Laws.{rest_start, rest_more, lowest_inside, taken}
 use Rattle.least.specs.Turns.Laws.{most_start, most_more, most_over, most_end}
 use Rattle.least.proofs.turns.largest.Goals as goal

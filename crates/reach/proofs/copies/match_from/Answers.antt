@@ -1,5 +1,6 @@
 use mathlib.Core.Path.{refl, ◌∙◌}
 use native.Mathlib.Omega.{arith}
+use borrow.Author.Rules.{rules}
 use Rattle.images.specs.Graph.{graph}
 use Rattle.images.proofs.SetCases.{members_is}
 use Rattle.decide.proofs.StageCases.{fitting_set}
@@ -92,7 +93,7 @@ loop-near-smaller c = omega (arith, c.if-j-k.false)
 
 -- src/copies.rt:38:5
 pub loop-near-preserved : goal.loop-near-preserved
-loop-near-preserved c = (c.loop-near.invariant.0, c.loop-near.invariant.1, omega (arith, c.if-j-k.false), omega (arith, c.if-word-p.false), omega (arith, c.loop-near.invariant.4), omega (arith, c.loop-near.invariant.5), c.loop-near.invariant.6, c.loop-near.invariant.7, fitting_set c.loop-near.matching _ _ c.loop-near.invariant.8 (omega (arith, c.loop-near.invariant.3, c.loop-near.invariant.6)) (members_is c.union.ensures).fits, (λ states m. matching_again (graph c.args.targets.now c.args.t.states c.args.t.g c.args.t.h) c.args.word.now c.args.i c.args.j states c.args.matching.now _ _ _ _ (c.loop-near.invariant.9 states m) _ c.loop-near.invariant.6 (members_is c.union.ensures) _ (omega (arith, c.if-j-k.false)) (omega (arith, c.if-word-p.false)) c.if-word-p-2.false c.read-near.ensures.0), c.read-near.ensures.1, c.rows-in-loop-near-1.given ∙ c.loop-near.invariant.11, c.steps-in-loop-near-1.given ∙ c.loop-near.invariant.12)
+loop-near-preserved c = (c.loop-near.invariant.0, c.loop-near.invariant.1, omega (arith, c.if-j-k.false), omega (arith, c.if-word-p.false), omega (arith, c.loop-near.invariant.4), omega (arith, c.loop-near.invariant.5), c.loop-near.invariant.6, c.loop-near.invariant.7, fitting_set c.loop-near.matching _ _ c.loop-near.invariant.8 (omega (arith, c.loop-near.invariant.3, c.loop-near.invariant.6)) (members_is c.union.ensures).fits, (λ states m. matching_again (graph c.args.targets.now c.args.t.states c.args.t.g c.args.t.h) c.args.word.now c.args.i c.args.j states c.args.matching.now _ _ _ _ (c.loop-near.invariant.9 states m) _ c.loop-near.invariant.6 (members_is c.union.ensures) _ (omega (arith, c.if-j-k.false)) (omega (arith, c.if-word-p.false)) (search rules) c.read-near.ensures.0), c.read-near.ensures.1, c.rows-in-loop-near-1.given ∙ c.loop-near.invariant.11, c.steps-in-loop-near-1.given ∙ c.loop-near.invariant.12)
 
 -- src/copies.rt:19:1
 pub shape_of-rows : goal.shape_of-rows

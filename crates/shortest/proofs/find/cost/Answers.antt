@@ -1,5 +1,5 @@
 use mathlib.Core.Path.{sym}
-use Rattle.pieces.specs.Blocks.Laws.{cost_inside}
+use Rattle.pieces.proofs.BlocksLaws.{cost_inside}
 use Rattle.shortest.proofs.find.cost.Goals as goal
 
 pub returns : goal.returns

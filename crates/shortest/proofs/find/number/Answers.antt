@@ -1,5 +1,5 @@
 use mathlib.Core.Path.{sym}
-use Rattle.pieces.specs.Blocks.Laws.{cell_inside}
+use Rattle.pieces.proofs.BlocksLaws.{cell_inside}
 use Rattle.shortest.proofs.find.number.Goals as goal
 
 pub returns : goal.returns

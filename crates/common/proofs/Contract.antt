@@ -13,7 +13,7 @@ use Rattle.common.specs.declared.Lengths.{Lengths}
 use Rattle.common.specs.declared.Common.{Common}
 use Rattle.common.specs.declared.Common.TheVariants.{Refused, NoCommonWord, Found}
 use Rattle.common.specs.Common.{least_common, common_answer, common_values, Front, CommonWord}
-use Rattle.common.specs.Common.Laws.{answer_found}
+use Rattle.common.proofs.CommonLaws.{answer_found}
 
 front_same : (l : List ℕ) → Front 0 l l
 front_same l = record { fits = omega arith; size = refl; rest = refl }

@@ -21,7 +21,7 @@ use Rattle.common.specs.declared.Lengths.{Lengths}
 use Rattle.common.specs.declared.Common.{Common}
 use Rattle.common.specs.declared.Common.TheVariants.{Refused, NoCommonWord, Found}
 use Rattle.common.specs.Common.{is_common, least_common, common_answer, common_values, Front, CommonWord}
-use Rattle.common.specs.Common.Laws.{common_runs, common_published, least_common_lem, no_shorter, any_common, none_common}
+use Rattle.common.proofs.CommonLaws.{common_runs, common_published, least_common_lem, no_shorter, any_common, none_common}
 use Rattle.common.specs.Demand.{BothAccept, BothPublished, Shortest, Refuses, WrittenWord, Demand}
 
 -- The cases of the answer, by its tests

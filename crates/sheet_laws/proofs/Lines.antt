@@ -22,7 +22,7 @@ use Rattle.columns.specs.Line.{line_of}
 use Rattle.sheet.specs.Reading.{column_at}
 use Rattle.sheet.specs.Reading.Laws.{GoodLine}
 use Rattle.sheet_laws.specs.Filled.{filled}
-use Rattle.sheet_laws.specs.Filled.Laws.{filled_end, filled_part, column_left, end_left}
+use Rattle.sheet_laws.proofs.FilledLaws.{filled_end, filled_part, column_left, end_left}
 
 -- From what is filled to what is read
 

@@ -43,8 +43,8 @@ use Rattle.sheet.specs.Reading.{read_refusal, read_answer, read_list}
 use Rattle.sheet.specs.Reading.Laws.{GoodLine, GoodState, GoodTransition, Sound, state_none, transition_none, no_fault, good_flags}
 use Rattle.sheet.specs.Writing.{write_refusal, write_answer, write_sheet}
 use Rattle.sheet_laws.specs.Filled.{filled}
-use Rattle.sheet_laws.specs.Filled.Laws.{filled_size, filled_again}
-use Rattle.sheet_laws.specs.Lines.{line_number, line_end, line_good, line_filled, line_kept, each_kept, each_from, three_part, each_get_d, all_zero}
+use Rattle.sheet_laws.proofs.FilledLaws.{filled_size, filled_again}
+use Rattle.sheet_laws.proofs.Lines.{line_number, line_end, line_good, line_filled, line_kept, each_kept, each_from, three_part, each_get_d, all_zero}
 
 pub record Table (m : Machine) (list : List ℕ) : Type 0 where
   pub obeys : well_formed m list ≡ true

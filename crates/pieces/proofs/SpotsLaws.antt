@@ -29,7 +29,7 @@ use Rattle.language.specs.Bound.{accepted_iff_published}
 use Rattle.language.specs.Chosen.{numbers, numbers_of, chosen, chosen_of}
 use Rattle.pieces.specs.Pieces.Laws.{path_leads}
 use Rattle.pieces.specs.Pairs.{Pair, PairMove, stores_none, matches_none, letter, moves, Piece, moved, copied}
-use Rattle.pieces.specs.Pairs.Laws.{leads_route}
+use Rattle.pieces.proofs.PairsLaws.{leads_route}
 use Rattle.pieces.specs.Spots.{Spot, normally, copying, same_spot, may_read, may_store, may_match, read_spots, begin_spots, store_spots, match_spots, both_spots, letter_spots, end_spots, next_spots, spots, ends_at, no_copy_word}
 
 spot_to : (u v : Spot) → same_spot u v ≡ true → u ≡ v

@@ -16,10 +16,10 @@ use Rattle.graphs.specs.Back.Laws.{route_back}
 use Rattle.fsbm.specs.Published.{FSBM}
 use Rattle.pieces.specs.Pieces.{Leads}
 use Rattle.pieces.specs.Pairs.{unit, weigh, Pair, both, PairMove, moves, Piece, moved, copied}
-use Rattle.pieces.specs.Pairs.Laws.{route_leads, piece_positive}
+use Rattle.pieces.proofs.PairsLaws.{route_leads, piece_positive}
 use Rattle.pieces.specs.Blocks.{Node, outside, inside, BlockEdge}
-use Rattle.pieces.specs.Blocks.Laws.{block_copies}
-use Rattle.pieces.specs.Rounds.Laws.{copy_origin}
+use Rattle.pieces.proofs.BlocksLaws.{block_copies}
+use Rattle.pieces.proofs.RoundsLaws.{copy_origin}
 
 pub record TightMove (M : FSBM) (D : ℕ → ℕ) (q : ℕ) : Type 0 where
   pub from : ℕ

@@ -17,7 +17,7 @@ use Rattle.language.specs.Agreement.{run_path, path_run}
 use Rattle.pieces.specs.Pieces.{Leads}
 use Rattle.pieces.specs.Pieces.Laws.{path_leads, leads_path}
 use Rattle.pieces.specs.Pairs.{unit, halves, weigh, Pair, PairMove, stores_none, matches_none, letter, moves, Piece, moved, copied}
-use Rattle.pieces.specs.Pairs.Laws.{leads_route, route_leads}
+use Rattle.pieces.proofs.PairsLaws.{leads_route, route_leads}
 use Rattle.pieces.specs.Blocks.{most_states}
 use Rattle.pieces.specs.Bound.{word_bound}
 

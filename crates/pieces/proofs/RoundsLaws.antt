@@ -15,9 +15,9 @@ use Rattle.graphs.specs.Back.{Back}
 use Rattle.fsbm.specs.Published.{FSBM}
 use Rattle.pieces.specs.Pieces.{Stores, stored, store}
 use Rattle.pieces.specs.Pairs.{Pair, both, PairMove, NormalMove, Piece, moved, copied}
-use Rattle.pieces.specs.Pairs.Laws.{apart}
+use Rattle.pieces.proofs.PairsLaws.{apart}
 use Rattle.pieces.specs.Blocks.{Node, outside, inside, BlockEdge}
-use Rattle.pieces.specs.Blocks.Laws.{block_realised}
+use Rattle.pieces.proofs.BlocksLaws.{block_realised}
 use Rattle.pieces.specs.Rounds.{Rounds}
 
 abbrev pub NormalDone : FSBM → ℕ → (ℕ → ℕ) → ℕ → Type 0

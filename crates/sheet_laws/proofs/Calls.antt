@@ -32,10 +32,10 @@ use Rattle.sheet.specs.Format.{sheet_length, sheet_of}
 use Rattle.sheet.specs.Reading.{column_at, first_fault, machine_of, transitions_of, read_refusal, read_answer, read_list}
 use Rattle.sheet.specs.Writing.{write_refusal, write_answer, write_sheet}
 use Rattle.sheet_laws.specs.Filled.{filled, has_blank}
-use Rattle.sheet_laws.specs.Filled.Laws.{same_iff}
-use Rattle.sheet_laws.specs.RoundTrip.{Table, sheet_length_lem, written_filled, read_table, list_table, write_sound, sheet_sound_written}
-use Rattle.sheet_laws.specs.RoundTrip.{sound_filled, sound_table, good_iff_filled, filled_answer, filled_list}
-use Rattle.sheet_laws.specs.Obeys.{read_sound}
+use Rattle.sheet_laws.proofs.FilledLaws.{same_iff}
+use Rattle.sheet_laws.proofs.RoundTrip.{Table, sheet_length_lem, written_filled, read_table, list_table, write_sound, sheet_sound_written}
+use Rattle.sheet_laws.proofs.RoundTrip.{sound_filled, sound_table, good_iff_filled, filled_answer, filled_list}
+use Rattle.sheet_laws.proofs.Obeys.{read_sound}
 
 abbrev pub Wrote : Machine → List ℕ → List ℕ → List ℕ → Written → Type 0
 Wrote m list before after r = (r ≡ write_answer m list (length before)) × (after ≡ write_sheet m list before)

@@ -30,10 +30,10 @@ use Rattle.product.specs.Examples.{odd, odd_list, odd_joined, joins}
 use Rattle.product.specs.Examples.Laws as product-laws
 use Rattle.product.specs.Examples.Laws.{joins_means}
 use Rattle.pieces.specs.Spots.{no_copy_word}
-use Rattle.pieces.specs.Spots.Laws.{no_copy_word_lem}
+use Rattle.pieces.proofs.SpotsLaws.{no_copy_word_lem}
 use Rattle.common.specs.declared.Common.TheVariants.{Refused, Found}
 use Rattle.common.specs.Common.{is_common, least_common}
-use Rattle.common.specs.Common.Laws.{answer_none, answer_word, answer_found, common_parts, common_runs, common_joined, common_letters, least_common_lem, no_shorter, any_common, none_common}
+use Rattle.common.proofs.CommonLaws.{answer_none, answer_word, answer_found, common_parts, common_runs, common_joined, common_letters, least_common_lem, no_shorter, any_common, none_common}
 use Rattle.common.specs.Examples.{some, some_list, odd_machine, Row, before, no_common, shortest_common, Meaning, some_word, none_shorter, same_machine, has_none, has_shortest, rows}
 
 -- What the tests say

@@ -13,7 +13,7 @@ use Rattle.fsbm.specs.Machine.{well_formed}
 use Rattle.fsbm.specs.Answers.{refusal, no_machine}
 use Rattle.fsbm.specs.declared.answer.Refusal.{Refusal}
 use Rattle.sheet.specs.Reading.{column_at, first_fault, machine_of, transitions_of, read_refusal, read_answer, read_list}
-use Rattle.sheet_laws.specs.RoundTrip.{sound_table}
+use Rattle.sheet_laws.proofs.RoundTrip.{sound_table}
 
 module _ (s entry : List ℕ) (good : (read_answer s (length entry)).refusal.number ≡ 0) where
   number_zero : (read_refusal s (length entry)).number ≡ 0

@@ -25,11 +25,11 @@ use Rattle.product.specs.Common.{splits_join}
 use Rattle.pieces.specs.Pieces.{Leads}
 use Rattle.pieces.specs.Pieces.Laws.{path_leads, leads_path}
 use Rattle.pieces.specs.Pairs.{unit, Piece}
-use Rattle.pieces.specs.Pairs.Laws.{leads_route}
+use Rattle.pieces.proofs.PairsLaws.{leads_route}
 use Rattle.pieces.specs.Bound.{word_bound}
-use Rattle.pieces.specs.Tight.{settled_leads}
+use Rattle.pieces.proofs.Tight.{settled_leads}
 use Rattle.common.specs.Common.{is_common, least_common}
-use Rattle.common.specs.Common.Laws.{common_parts, common_joined, least_common_lem, no_shorter, any_common}
+use Rattle.common.proofs.CommonLaws.{common_parts, common_joined, least_common_lem, no_shorter, any_common}
 
 pub bound_small : (m : Machine) (n : ℕ) → m.states ≤ 64 → n ≤ word_bound → run_bound m n < unit
 unfolding run_bound

@@ -39,7 +39,7 @@ use Rattle.product.specs.Common.{joined_accepted}
 use Rattle.pieces.specs.Pieces.{Stores, stored, store, Leads, ended, read, copy}
 use Rattle.pieces.specs.Pieces.Laws.{path_leads}
 use Rattle.pieces.specs.Bound.{word_bound}
-use Rattle.pieces.specs.Bound.Laws.{short_word}
+use Rattle.pieces.proofs.BoundLaws.{short_word}
 use Rattle.common.specs.declared.Common.TheVariants.{Refused, NoCommonWord, Found}
 use Rattle.common.specs.Common.{is_common, has_common, least_common, common_answer}
 

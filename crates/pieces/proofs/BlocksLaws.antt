@@ -15,7 +15,7 @@ use Rattle.graphs.specs.Cost.Laws.{lower_bound, descend, zero_goal}
 use Rattle.graphs.specs.Back.Laws.{route_weight, route_snoc}
 use Rattle.fsbm.specs.Published.{FSBM}
 use Rattle.pieces.specs.Pairs.{Pair, both, PairMove}
-use Rattle.pieces.specs.Pairs.Laws.{pair_positive}
+use Rattle.pieces.proofs.PairsLaws.{pair_positive}
 use Rattle.pieces.specs.Blocks.{most_states, nothing, cost_of, Node, outside, inside, BlockEdge, begins, goes_on, cell}
 
 -- Where the numbers stand

@@ -1,0 +1,5 @@
+pub mod CommonLaws
+pub mod Contract
+pub mod DemandLaws
+pub mod ExamplesLaws
+pub mod Search

@@ -1,0 +1,6 @@
+pub mod BlocksLaws
+pub mod BoundLaws
+pub mod PairsLaws
+pub mod RoundsLaws
+pub mod SpotsLaws
+pub mod Tight

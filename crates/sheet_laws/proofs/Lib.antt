@@ -1,0 +1,5 @@
+pub mod Calls
+pub mod FilledLaws
+pub mod Lines
+pub mod Obeys
+pub mod RoundTrip
