@@ -2,7 +2,7 @@
 -- itself (document 01, "The sheet"). Everything that reads or writes columns cites these definitions and the laws in
 -- specs/Column/Laws.antt; the width is the length of the list. A column of spaces alone is 0 (document 02, change 8). Else how a column is
 -- read is defined here as it was before the code made one pass (change 4); what that pass holds stands in specs/Held.antt and is compared
--- with this by its law as-before.
+-- with this by its law as_before.
 --
 -- widest_column       == the most bytes of a column that the code reads
 -- no_number           == stands for a number where there is none

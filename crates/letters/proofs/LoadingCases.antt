@@ -1,7 +1,7 @@
 -- A text of letters as the reader meets it.
 --
 -- entry-..             == a line: too short, a bad column, a bad end, good
--- kept_above, kept-same == a letter as it is kept is above 0; one that is kept as it is
+-- kept_above, kept_same == a letter as it is kept is above 0; one that is kept as it is
 -- LinesTo text i at letters == what holds once i lines are read
 -- lines_none, line_next, lines_end == before the first line, one line more, after the last
 -- line_broken, line_many, line_byte, line_twice == a line has a fault: of its columns, the 251st, no byte value, a byte listed before

@@ -271,7 +271,7 @@ fn stored_row(
     row: &mut Row,
 ) -> bool
     requires { Given m list.now targets.now g h × Row m list.now targets.now x × (row.old ≡ blank_row) }
-    ensures { StoredRow m list.now x (record { row = next.now; live = goes }) (record { row = change.now; live = turns }) (record { row = row.exit.now; live = result }) }
+    ensures { StoredRow m list.now x (record { row = next.now; live = goes }) (record { row = change.now; live = turns }) (record { row = row.new; live = result }) }
 {
     if !turns {
         if !goes {

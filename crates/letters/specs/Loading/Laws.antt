@@ -9,9 +9,9 @@
 -- lettered_last        == at most as many bytes have letters as there are lines
 -- entry_none           == a line without fault: a good line, one of the first 250, its byte value below 256 and not listed before
 -- lines_begun_lem          == a text of n whole lines has n lines
--- GoodLines text n     == the text has n lines, at most 250, without fault; lines-none == what that says
+-- GoodLines text n     == the text has n lines, at most 250, without fault; lines_none == what that says
 -- load-iff             == a text loads exactly if its lines have no fault and its letters run from 1 without a gap
--- letter-of            == the letter of each byte in the record
+-- letter_of            == the letter of each byte in the record
 use Prim.Native.Nat.{ℕ, zero, suc, ◌*◌, ◌<◌, ◌≤◌}
 use Rattle.std.specs.Prelude.{◌≡◌, ◌⊎◌, ◌↔◌, List, Bool, true, false, ◌&&◌, length, ltb}
 use Rattle.std.proofs.Math.Path.{refl, ap}
