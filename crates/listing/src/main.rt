@@ -50,11 +50,11 @@ fn write_bytes(rt: &HostRuntime, bytes: &[u8]) -> bool {
     rt.stdout().write_all(bytes).is_ok()
 }
 
-// Reads a piece of standard input; answers how many bytes came, 0 at its end or where it cannot be read.
-fn read_piece(rt: &HostRuntime, input: &mut [u8]) -> usize
-    ensures { result ≤ length input.new }
+// Reads some bytes; answers how many came, 0 at the end or where it cannot be read.
+fn read_some<R: Read>(from: &mut R, bytes: &mut [u8]) -> usize
+    ensures { result ≤ length bytes.new }
 {
-    match rt.stdin().read(input) {
+    match from.read(bytes) {
         Ok(n) => n,
         Err(_) => 0,
     }
@@ -106,7 +106,8 @@ fn list_piece(
     ensures working { Working m targets.now kinds rows.new steps.new sets.new }
 {
     let held = t.held;
-    let count = read_piece(rt, input);
+    let mut stdin = rt.stdin();
+    let count = read_some(&mut stdin, input);
     let taken = stream::take_piece(
         m,
         list,
@@ -335,23 +336,13 @@ fn read_full(file: &mut File, table: &mut [u8]) -> usize
 {
     let mut n: usize = 0;
     while n < table.len() {
-        let got = read_more(file, &mut table[n..]);
+        let got = read_some(file, &mut table[n..]);
         if got == 0 {
             return n;
         }
         n += got;
     }
     n
-}
-
-// Reads some bytes of a file; answers how many came, 0 at its end or where it cannot be read.
-fn read_more(file: &mut File, rest: &mut [u8]) -> usize
-    ensures { result ≤ length rest.new }
-{
-    match file.read(rest) {
-        Ok(n) => n,
-        Err(_) => 0,
-    }
 }
 
 // Reads the file table.txt, as much of it as is longer than any sheet, and answers how many bytes came; 0 where it cannot be opened.

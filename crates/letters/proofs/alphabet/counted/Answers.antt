@@ -4,10 +4,8 @@ use native.Mathlib.Numerals.{add-one}
 use mathlib.Core.Path.{refl}
 use Rattle.letters.proofs.alphabet.counted.Goals as goal
 
--- src/alphabet.rt:56:9
 pub returns-then-letter-eq0 : goal.returns-then-letter-eq0
 returns-then-letter-eq0 c = first _ (eq-eqb _ _ c.if-letter-eq0.true) refl
 
--- src/alphabet.rt:51:1
 pub returns : goal.returns
 returns c = second _ (ne_eqb _ _ c.if-letter-eq0.false) (add-one _)

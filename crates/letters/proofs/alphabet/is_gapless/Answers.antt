@@ -3,6 +3,5 @@ use mathlib.Core.Path.{◌∙◌}
 use Rattle.letters.proofs.AlphabetCases.{seen_gapless}
 use Rattle.letters.proofs.alphabet.is_gapless.Goals as goal
 
--- src/alphabet.rt:102:1
 pub returns : goal.returns
 returns c = c.all_seen.ensures ∙ seen_gapless _ _ _ c.note.ensures c.requires (omega arith)

@@ -3,10 +3,8 @@ use borrow.Author.Tests.{le-leb, lt-leb}
 use mathlib.Core.Path.{refl}
 use Rattle.letters.proofs.alphabet.smaller.Goals as goal
 
--- src/alphabet.rt:99:9
 pub returns-then-a-b : goal.returns-then-a-b
 returns-then-a-b c = first _ (le-leb _ _ c.if-a-b.true) refl
 
--- src/alphabet.rt:95:1
 pub returns : goal.returns
 returns c = second _ (lt-leb _ _ c.if-a-b.false) refl

@@ -1,7 +1,6 @@
 use Rattle.sheet.specs.Reading.{column_at}
 use Rattle.letters.proofs.loading.column.Goals as goal
 
--- src/loading.rt:39:1
 pub returns : goal.returns
 unfolding column_at
 returns c = c.number.ensures

@@ -15,22 +15,17 @@ use Rattle.reach.specs.Copies.{Added, SomeStore, SomeMatch}
 use Rattle.reach.proofs.SetsCases.{sets_are}
 use Rattle.reach.proofs.answer.reach_with.Goals as goal
 
--- src/answer.rt:86:9
 pub shape_of-t-requires : goal.shape_of-t-requires
 shape_of-t-requires c = (rules_of c.args.m c.args.list.now (table_good 255 c.args.m c.args.list.now c.args.word.now c.requires.0).0).letters_fit
 
--- src/answer.rt:88:5
 pub reach_all-requires : goal.reach_all-requires
 reach_all-requires c = subst (λ (t : Shape). Good c.args.targets.now t.states t.g t.h × Rooms c.args.targets.now t.states c.args.word.now × (length c.args.word.now ≤ 255) × Fitting 256 c.start_at-normal.result.sets × Kept (graph c.args.targets.now t.states t.g t.h) t.columns c.args.rows.now c.args.steps.now) (sym c.shape_of-t.ensures) (good_table c.requires.2 (table_good 255 c.args.m c.args.list.now c.args.word.now c.requires.0).0 c.args.kinds c.requires.3, rooms c.requires.2, (table_good 255 c.args.m c.args.list.now c.args.word.now c.requires.0).1, (c.start_at-normal.ensures (graph c.args.targets.now c.args.m.states c.args.kinds.buffering c.args.kinds.matching) c.args.word.now).fitting, c.requires.4)
 
--- src/answer.rt:91:5
 pub copies-requires : goal.copies-requires
 copies-requires c = (subst (λ (t : Shape). Good c.args.targets.now t.states t.g t.h) (sym c.shape_of-t.ensures) (good_table c.requires.2 (table_good 255 c.args.m c.args.list.now c.args.word.now c.requires.0).0 c.args.kinds c.requires.3), subst (λ (t : Shape). Rooms c.args.targets.now t.states c.args.word.now) (sym c.shape_of-t.ensures) (rooms c.requires.2), (table_good 255 c.args.m c.args.list.now c.args.word.now c.requires.0).1, (subst (λ (t : Shape). Stage (graph c.args.targets.now t.states t.g t.h) c.args.word.now c.args.kinds.initial c.reach_all.new.sets (length c.args.word.now + 1)) c.shape_of-t.ensures (c.reach_all.ensures.0 c.args.kinds.initial (c.start_at-normal.ensures _ _))).fitting.size, (record { size = refl; each = λ k. omega (arith, zeros_at 256 k) }), (record { size = refl; each = λ k. omega (arith, zeros_at 256 k) }), c.reach_all.ensures.1)
 
--- src/answer.rt:101:5
 pub put_sets-requires : goal.put_sets-requires
 put_sets-requires c = ((table_good 255 c.args.m c.args.list.now c.args.word.now c.requires.0).1, c.requires.1, (subst (λ (t : Shape). Stage (graph c.args.targets.now t.states t.g t.h) c.args.word.now c.args.kinds.initial c.reach_all.new.sets (length c.args.word.now + 1)) c.shape_of-t.ensures (c.reach_all.ensures.0 c.args.kinds.initial (c.start_at-normal.ensures _ _))).fitting.size, c.copies.ensures.0.fitting.size, c.copies.ensures.1.fitting.size)
 
--- src/answer.rt:72:1
 pub returns : goal.returns
 returns c = c.put_sets.ensures ∙ ap (put 0 c.args.sets.now) (sets_are c.args.m c.args.list.now c.args.word.now c.args.targets.now (table_good 255 c.args.m c.args.list.now c.args.word.now c.requires.0).0 c.requires.2 c.args.kinds c.requires.3 c.reach_all.new.sets c.copies.new.storing c.copies.new.matching (subst (λ (t : Shape). Stage (graph c.args.targets.now t.states t.g t.h) c.args.word.now c.args.kinds.initial c.reach_all.new.sets (length c.args.word.now + 1)) c.shape_of-t.ensures (c.reach_all.ensures.0 c.args.kinds.initial (c.start_at-normal.ensures _ _))) (subst (λ (t : Shape). Added (replicate 256 0) c.copies.new.storing (SomeStore (graph c.args.targets.now t.states t.g t.h) c.args.word.now c.reach_all.new.sets (length c.args.word.now + 1))) c.shape_of-t.ensures c.copies.ensures.0) (subst (λ (t : Shape). Added (replicate 256 0) c.copies.new.matching (SomeMatch (graph c.args.targets.now t.states t.g t.h) c.args.word.now c.reach_all.new.sets (length c.args.word.now + 1))) c.shape_of-t.ensures c.copies.ensures.1))
