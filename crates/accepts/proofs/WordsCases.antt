@@ -6,28 +6,27 @@
 -- refused_table, refused_ends, refused_slice, answered == what each answer comes with
 use Prim.Native.Nat.{ℕ, ◌+◌, ◌≤◌, ◌<◌}
 use mathlib.Core.Path.{◌≡◌, refl, sym, ◌∙◌, ap}
-use mathlib.Core.Bool.{Bool, true, false, cond, ◌&&◌}
+use mathlib.Core.Bool.{Bool, true, false, ◌&&◌, cond}
 use mathlib.Core.List.{List, [], ◌∷◌}
 use native.Mathlib.Omega.{arith}
 use native.Mathlib.Numerals.{add-one}
 use lib.ListN.{length, get_or, set, drop, length-set, length-drop, drop_of_length-le}
 use lib.Seq.{drop-cons}
-use lib.Dec.{leb, eqb}
+use lib.Dec.{leb}
 use borrow.Author.Tests.{le-leb, lt-leb, leb-true}
 use Rattle.basics.specs.Search.Laws.{and_true}
 use Rattle.basics.specs.Search.Loops.{pass, stop, first, second}
 use Rattle.basics.specs.Lists.{put}
 use Rattle.basics.specs.Lists.Laws.{put_none, put_one, put_put}
 use Rattle.fsbm.specs.Machine.{well_formed}
-use Rattle.fsbm.specs.Answers.{refusal}
+use Rattle.fsbm.specs.Answers.{number_of, needed_of, by_refusal, CountValues, count_values}
 use Rattle.fsbm.specs.declared.machine.Machine.{Machine}
 use Rattle.fsbm.specs.declared.answer.Refusal.{Refusal}
 use Rattle.accepts.specs.Decision.{decision}
-use Rattle.accepts.specs.Words.{stretch, good_ends, answer_byte, answers_from, words_refusal, words_answer, words_after, answered_values, words_values}
+use Rattle.accepts.specs.Words.{stretch, good_ends, answer_byte, answers_from, words_refusal, words_answer, words_after, words_values}
 use Rattle.accepts.specs.Words.Laws.{answers_count}
-use Rattle.accepts.specs.declared.prepared.Decided.{Decided}
-use Rattle.accepts.specs.declared.words.Answered.{Answered}
-use Rattle.accepts.specs.declared.words.Answered.TheVariants.{Refused, Words}
+use Rattle.std.specs.Prelude.{Option, None, Some, Result, Ok, Err}
+use Rattle.fsbm.specs.declared.answer.Refusal.TheVariants.{BadTable, BadEnds, ShortAnswers}
 
 -- the ends from index k on, the next of which is not the last
 next_end : (ends : List ℕ) (k : ℕ) → k < length ends → drop k ends ≡ get_or ends k 0 ∷ drop (k + 1) ends
@@ -73,7 +72,7 @@ module _ (m : Machine) (list letters ends before : List ℕ) where
     pub next_good : (from ≤ get_or ends k 0) × (get_or ends k 0 ≤ length letters)
     next_good = let (a, b, c) = good_end (length letters) from ends k inside sofar.good in (a, b)
 
-    pub answering_more : (b : ℕ) (d : Decided) → d ≡ decision m list (stretch letters from (get_or ends k 0)) → b ≡ answer_byte d
+    pub answering_more : (b : ℕ) (d : Result Bool Refusal) → d ≡ decision m list (stretch letters from (get_or ends k 0)) → b ≡ answer_byte d
         → Answering m list letters ends before (set answers k b) (get_or ends k 0) (k + 1)
     unfolding answers_from
     answering_more b d at-d at_b =
@@ -102,42 +101,55 @@ module _ (m : Machine) (list letters ends before : List ℕ) where
       put_none k answers ∙ (ap (λ (l : List ℕ). put k answers (answers_from m list letters from l)) (sym (drop_of_length-le ends h)) ∙ sofar.rest)
 
   -- the ways through accept_words
-  abbrev Right : List ℕ → Answered → Type 0
+  abbrev Right : List ℕ → Result ℕ Refusal → Type 0
   Right after r =
       (r ≡ words_answer m list letters ends (length before))
-      × (answered_values r ≡ words_values m list letters ends (length before))
+      × (count_values r ≡ words_values m list letters ends (length before))
       × (after ≡ words_after m list letters ends before)
 
-  refused_by : (f : Refusal) → f ≡ words_refusal m list letters ends (length before) → eqb f.number 0 ≡ false → Right before (Refused f)
-  unfolding words_answer words_after words_values
-  refused_by f at_f some =
-      let t : eqb (words_refusal m list letters ends (length before)).number 0 ≡ false = ap (λ (z : Refusal). eqb z.number 0) (sym at_f) ∙ some in (
-        second _ t (ap Refused at_f),
-        ap (λ (z : Refusal). record { refusal = z.number; needed = z.needed; words = 0 }) at_f
-            ∙ ap (λ (z : Bool). record { refusal = (words_refusal m list letters ends (length before)).number; needed = (words_refusal m list letters ends (length before)).needed; words = cond z (length ends) 0 }) (sym t),
-        second _ t refl,
-      )
+  numbers : by_refusal (words_refusal m list letters ends (length before)) (record { refusal = 0; needed = 0; count = length ends }) (λ g. record { refusal = number_of g; needed = needed_of g; count = 0 })
+      ≡ words_values m list letters ends (length before)
+  unfolding words_refusal words_values
+  numbers = at (well_formed m list) (good_ends (length letters) 0 ends) (leb (length ends) (length before))
+    where
+      n : ℕ
+      n = length ends
 
-  pub refused_table : well_formed m list ≡ false → Right before (Refused (refusal 16))
+      at : (a b c : Bool) → ◌≡◌ {A = CountValues}
+          (by_refusal (cond a (cond b (cond c None (Some (ShortAnswers n))) (Some BadEnds)) (Some BadTable)) (record { refusal = 0; needed = 0; count = n }) (λ g. record { refusal = number_of g; needed = needed_of g; count = 0 }))
+          (cond a (cond b (cond c (record { refusal = 0; needed = 0; count = n }) (record { refusal = 35; needed = n; count = 0 })) (record { refusal = 34; needed = 0; count = 0 })) (record { refusal = 16; needed = 0; count = 0 }))
+      at false b c = refl
+      at true false c = refl
+      at true true false = refl
+      at true true true = refl
+
+  refused_by : (f : Refusal) → Some f ≡ words_refusal m list letters ends (length before) → Right before (Err f)
+  unfolding words_answer words_after words_values
+  refused_by f at_f = (
+    ap (λ (o : Option Refusal). by_refusal {A = Result ℕ Refusal} o (Ok (length ends)) (λ g. Err g)) at_f,
+    ap (λ (o : Option Refusal). by_refusal o (record { refusal = 0; needed = 0; count = length ends }) (λ g. record { refusal = number_of g; needed = needed_of g; count = 0 })) at_f ∙ numbers,
+    ap (λ (o : Option Refusal). by_refusal o (put 0 before (answers_from m list letters 0 ends)) (λ g. before)) at_f,
+  )
+
+  pub refused_table : well_formed m list ≡ false → Right before (Err BadTable)
   unfolding words_refusal
-  refused_table h = refused_by (refusal 16) (second _ h refl) refl
+  refused_table h = refused_by BadTable (second _ h refl)
 
   module _ (obeys : well_formed m list ≡ true) where
-    pub refused_ends : good_ends (length letters) 0 ends ≡ false → Right before (Refused (refusal 34))
+    pub refused_ends : good_ends (length letters) 0 ends ≡ false → Right before (Err BadEnds)
     unfolding words_refusal
-    refused_ends h = refused_by (refusal 34) (first _ obeys (second _ h refl)) refl
+    refused_ends h = refused_by BadEnds (first _ obeys (second _ h refl))
 
     module _ (good : good_ends (length letters) 0 ends ≡ true) where
-      pub refused_slice : length before < length ends → Right before (Refused (record { number = 35; needed = length ends }))
+      pub refused_slice : length before < length ends → Right before (Err (ShortAnswers (length ends)))
       unfolding words_refusal
-      refused_slice h = refused_by (record { number = 35; needed = length ends }) (first _ obeys (first _ good (second _ (lt-leb _ _ h) refl))) refl
+      refused_slice h = refused_by (ShortAnswers (length ends)) (first _ obeys (first _ good (second _ (lt-leb _ _ h) refl)))
 
-      pub answered : length ends ≤ length before → (after : List ℕ) → after ≡ put 0 before (answers_from m list letters 0 ends) → Right after (Words (length ends))
+      pub answered : length ends ≤ length before → (after : List ℕ) → after ≡ put 0 before (answers_from m list letters 0 ends) → Right after (Ok (length ends))
       unfolding words_refusal words_answer words_after words_values
       answered h after e =
-          let none : refusal 0 ≡ words_refusal m list letters ends (length before) = first _ obeys (first _ good (first _ (le-leb _ _ h) refl)) in
-          let t : eqb (words_refusal m list letters ends (length before)).number 0 ≡ true = ap (λ (z : Refusal). eqb z.number 0) (sym none) in (
-            first _ t refl,
-            ap (λ (z : Refusal). record { refusal = z.number; needed = z.needed; words = cond (eqb z.number 0) (length ends) 0 }) none,
-            first _ t e,
+          let none : None ≡ words_refusal m list letters ends (length before) = first _ obeys (first _ good (first _ (le-leb _ _ h) refl)) in (
+            ap (λ (o : Option Refusal). by_refusal {A = Result ℕ Refusal} o (Ok (length ends)) (λ g. Err g)) none,
+            ap (λ (o : Option Refusal). by_refusal o (record { refusal = 0; needed = 0; count = length ends }) (λ g. record { refusal = number_of g; needed = needed_of g; count = 0 })) none ∙ numbers,
+            e ∙ ap (λ (o : Option Refusal). by_refusal o (put 0 before (answers_from m list letters 0 ends)) (λ g. before)) none,
           )

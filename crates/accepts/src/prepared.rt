@@ -16,16 +16,9 @@ use fsbm::answer;
 use fsbm::answer::Refusal;
 use fsbm::limits::{LONGEST_WORD, POSITIONS};
 use fsbm::machine::Machine;
+use fsbm::table::Table;
 use images::Kinds;
 use stateset::StateSet;
-
-// The answer to a word: turned down, no, or yes.
-#[derive(Clone, Copy)]
-pub enum Decided {
-    Refused(Refusal),
-    No,
-    Yes,
-}
 
 // The states that runs reach, and whether the word is accepted, with a table of zeros lent that is prepared for the word.
 pub fn reach(
@@ -40,8 +33,9 @@ pub fn reach(
     ensures { (result.accepted ≡ accepted m list.now word.now) × NormalSets m list.now word.now result.sets
         × Prepared m list.now word.now targets.new }
 {
-    targets::prepare_for(m, list, word, targets);
-    positions::decide(m, list, &*targets, kinds, word)
+    let t = Table { machine: m, list };
+    targets::prepare_for(&t, word, targets);
+    positions::decide(&t, &*targets, kinds, word)
 }
 
 // Makes a table of zeros ready for every word of the machine's letters, and answers its states by kind.
@@ -51,7 +45,8 @@ pub fn prepare(m: Machine, list: &[u16], targets: &mut [StateSet]) -> Kinds
     ensures { Ready m list.now targets.new result }
 {
     let kinds = images::kinds_of(&m.marks, m.states);
-    targets::prepare(m, list, kinds, targets);
+    let t = Table { machine: m, list };
+    targets::prepare(&t, kinds, targets);
     kinds
 }
 
@@ -68,16 +63,11 @@ pub fn accepts_next(
     steps: &mut [u16],
     sets: &mut [StateSet; POSITIONS],
     word: &[u8],
-) -> Decided
+) -> Result<bool, Refusal>
     requires { Ready m list.now targets.now kinds × Working m targets.now kinds rows.old steps.old sets.old }
     ensures { (result ≡ decision m list.now word.now) × Working m targets.now kinds rows.new steps.new sets.new }
 {
-    let number = answer::word_fault(LONGEST_WORD, m.letters, word);
-    if number != 0 {
-        return Decided::Refused(Refusal { number, needed: 0 });
-    }
-    if positions::decide_next(m, list, targets, kinds, rows, steps, sets, word) {
-        return Decided::Yes;
-    }
-    Decided::No
+    answer::word_fault(LONGEST_WORD, m.letters, word)?;
+    let t = Table { machine: m, list };
+    Ok(positions::decide_next(&t, targets, kinds, rows, steps, sets, word))
 }

@@ -1,13 +1,13 @@
 // The public call accept_words: a list of words, the table tested and prepared once. The letters of all words stand one after another in
 // one slice, and the ends say where each word ends; the first begins at 0, each other where the one before it ends.
+ghost use Rattle.fsbm.specs.Answers.{count_values};
 ghost use Rattle.std.specs.Prelude.{◌≤◌, ◌≡◌, true, length};
 ghost use Rattle.basics.specs.Lists.{put};
 ghost use Rattle.fsbm.specs.Machine.{well_formed};
 ghost use Rattle.accepts.specs.Ready.{Ready, Working};
-ghost use Rattle.accepts.specs.Words.{answer_byte, answers_from, good_ends, words_answer, words_after, answered_values, words_values};
+ghost use Rattle.accepts.specs.Words.{answer_byte, answers_from, good_ends, words_answer, words_after, words_values};
 
 use crate::prepared;
-use crate::prepared::Decided;
 use fsbm::answer::Refusal;
 use fsbm::limits::POSITIONS;
 use fsbm::machine;
@@ -17,27 +17,14 @@ use stateset::StateSet;
 use subsets::{ROWS, STEPS};
 use targets::MOST_SETS;
 
-// The refusal of ends that fall or pass the letters.
-const ENDS: u8 = 34;
-
-// The refusal of a slice for answers that is too short.
-const ANSWERS: u8 = 35;
-
-// The answer of accept_words: turned down, or the number of words, each of which has its answer in the slice.
-#[derive(Clone, Copy)]
-pub enum Answered {
-    Refused(Refusal),
-    Words(usize),
-}
-
 // The byte of an answer: 1 yes, 0 no, else the refusal's number.
-fn byte_of(d: Decided) -> u8
-    ensures { result ≡ answer_byte d }
+fn byte_of(decided: Result<bool, Refusal>) -> u8
+    ensures { result ≡ answer_byte decided }
 {
-    match d {
-        Decided::Refused(refusal) => refusal.number,
-        Decided::No => 0,
-        Decided::Yes => 1,
+    match decided {
+        Ok(true) => 1,
+        Ok(false) => 0,
+        Err(refusal) => refusal.number(),
     }
 }
 
@@ -45,18 +32,15 @@ fn byte_of(d: Decided) -> u8
 fn are_good(letters: usize, ends: &[usize]) -> bool
     ensures { result ≡ good_ends letters 0 ends.now }
 {
-    let mut from: usize = 0;
-    let mut k: usize = 0;
-    while k < ends.len() {
-        let end = ends[k];
-        if end < from {
+    let mut from = 0;
+    for end in ends {
+        if *end < from {
             return false;
         }
-        if letters < end {
+        if letters < *end {
             return false;
         }
-        from = end;
-        k += 1;
+        from = *end;
     }
     true
 }
@@ -78,15 +62,12 @@ fn answer_each(
         × (good_ends (length letters.now) 0 ends.now ≡ true) × (length ends.now ≤ length answers.old) }
     ensures { answers.new ≡ put 0 answers.old (answers_from m list.now letters.now 0 ends.now) }
 {
-    let mut from: usize = 0;
-    let mut k: usize = 0;
-    while k < ends.len() {
-        let end = ends[k];
-        let word = &letters[from..end];
+    let mut from = 0;
+    for (k, end) in ends.iter().enumerate() {
+        let word = &letters[from..*end];
         let decided = prepared::accepts_next(m, list, targets, kinds, rows, steps, sets, word);
         answers[k] = byte_of(decided);
-        from = end;
-        k += 1;
+        from = *end;
     }
 }
 
@@ -135,30 +116,21 @@ pub fn accept_words(
     letters: &[u8],
     ends: &[usize],
     answers: &mut [u8],
-) -> Answered
+) -> Result<usize, Refusal>
     ensures { (result ≡ words_answer m list.now letters.now ends.now (length answers.old))
-        × (answered_values result ≡ words_values m list.now letters.now ends.now (length answers.old))
+        × (count_values result ≡ words_values m list.now letters.now ends.now (length answers.old))
         × (answers.new ≡ words_after m list.now letters.now ends.now answers.old) }
 {
     if !machine::is_well_formed(m, list) {
-        return Answered::Refused(Refusal {
-            number: 16,
-            needed: 0,
-        });
+        return Err(Refusal::BadTable);
     }
     if !are_good(letters.len(), ends) {
-        return Answered::Refused(Refusal {
-            number: ENDS,
-            needed: 0,
-        });
+        return Err(Refusal::BadEnds);
     }
     let count = ends.len();
     if answers.len() < count {
-        return Answered::Refused(Refusal {
-            number: ANSWERS,
-            needed: count,
-        });
+        return Err(Refusal::ShortAnswers(count));
     }
     answer_all(m, list, letters, ends, answers);
-    Answered::Words(count)
+    Ok(count)
 }

@@ -2,58 +2,49 @@
 // transitions of a state stand together, and in them those of a letter.
 //
 // Adjacency  where the transitions of each state begin
-// index      the index of a list, in one pass over it
-// seek       the first transition of a stretch whose from, letter or to is at least a number
-//
-// The functions ask what a public call above them has tested: they are seams between crates.
+// index      the index of a table, in one pass over its list
+// seek       the first transition of a stretch that leaves no state below a state
 
 #![tactic(auto)]
 
-ghost use Rattle.std.specs.Prelude.{◌+◌, ◌*◌, ◌≤◌, ◌<◌, ◌≡◌, true, length};
-ghost use Rattle.fsbm.specs.Machine.{well_formed};
+ghost use Rattle.std.specs.Prelude.{◌≤◌};
 ghost use Rattle.adjacency.specs.Index.{Index, Sought};
 
-use fsbm::machine::Machine;
+use fsbm::table::Table;
 
 // A number for each state of the largest machine, and one for the end.
 pub const FIRSTS: usize = 65;
 
 // first[q] is the number of transitions that leave a state below q, for each q up to the number of states: those that leave q
 // are numbered from first[q] up to, not including, first[q + 1].
-#[derive(Clone, Copy)]
+#[derive(Clone, Copy, Debug, PartialEq, Eq)]
 pub struct Adjacency {
     pub first: [u16; FIRSTS],
 }
 
-// The first transition from k on, below n, whose number in this column (0 from, 1 letter, 2 to) is at least x; n where there
-// is none.
-fn seek(list: &[u16], column: usize, k: usize, n: usize, x: u16) -> usize
-    requires { (column < 3) × (k ≤ n) × (n * 3 ≤ length list.now) }
-    ensures { Sought list.now column k n x result }
+// The first transition from k on that leaves no state below q; the number of transitions where there is none.
+fn seek(t: &Table, k: usize, q: usize) -> usize
+    requires { k ≤ t.now.machine.transitions }
+    ensures { Sought t.now.list.now 0 k t.now.machine.transitions q result }
 {
-    let mut r = k;
-    while r < n {
-        if x <= list[r * 3 + column] {
+    for r in k..t.machine.transitions {
+        if q <= usize::from(t.transition(r).from) {
             return r;
         }
-        r += 1;
     }
-    r
+    t.machine.transitions
 }
 
-// The index of a well-formed machine's list.
+// The index of a table's list.
 // Time: the states and the transitions, each once.
-pub fn index(m: Machine, list: &[u16]) -> Adjacency
-    requires { well_formed m list.now ≡ true }
-    ensures { Index m list.now result.first }
+pub fn index(t: &Table) -> Adjacency
+    ensures { Index t.now.machine t.now.list.now result.first }
 {
-    let mut first: [u16; FIRSTS] = [0; FIRSTS];
-    let mut k: usize = 0;
-    let mut q: usize = 0;
-    while q <= m.states {
-        k = seek(list, 0, k, m.transitions, q as u16);
+    let mut first = [0; FIRSTS];
+    let mut k = 0;
+    for q in 0..=t.machine.states {
+        k = seek(t, k, q);
         first[q] = k as u16;
-        q += 1;
     }
-    Adjacency { first: first }
+    Adjacency { first }
 }

@@ -1,6 +1,6 @@
 -- A block from its first numbers to its last. The laws stand in specs/Settling/Laws.antt.
 --
--- Scanned d k n r            == r is a row below n that has a mark; or r is not below n, and no row from k up to n has one
+-- Scanned d k n r            == r is a row below n that has a mark; or there is none, and no row from k up to n has one
 -- Cleared n b b'             == b' is b with `nothing` at the first n places
 -- Past m b                   == past the machine's last state the block says nothing
 -- blank_block, Blank b        == a block in which nothing stands
@@ -11,7 +11,7 @@
 -- Worked m list top b d b'   == and settled, where no pair is marked any more
 -- BlockTo m list top guess set D b == the block of a guess and of the copies that begin in a state of the set (crate pieces), settled below top
 -- Block m list guess set D b == the settled block
-use Rattle.std.specs.Prelude.{ℕ, ◌+◌, ◌≤◌, ◌<◌, ◌≡◌, List, length, get_or, replicate}
+use Rattle.std.specs.Prelude.{ℕ, ◌+◌, ◌≤◌, ◌<◌, ◌≡◌, List, length, get_or, replicate, Option, MatchOption}
 use Rattle.graphs.specs.Cost.{Settled}
 use Rattle.stateset.specs.Set.{In}
 use Rattle.fsbm.specs.Published.{fsbm_of}
@@ -21,9 +21,8 @@ use Rattle.blocks.specs.Numbers.{One}
 use Rattle.blocks.specs.Works.{Works, Waiting, Still}
 pub mod Laws
 
-pub record Scanned (d : List ℕ) (k n r : ℕ) : Type 0 where
-  pub found : r < n → get_or d r 0 ≡ 0 → ⊥
-  pub empty : n ≤ r → (q : ℕ) → k ≤ q → q < n → get_or d q 0 ≡ 0
+abbrev pub Scanned : List ℕ → ℕ → ℕ → Option ℕ → Type 0
+Scanned d k n r = MatchOption r ((q : ℕ) → k ≤ q → q < n → get_or d q 0 ≡ 0) (λ s. (s < n) × (get_or d s 0 ≡ 0 → ⊥))
 
 pub record Cleared (n : ℕ) (b b' : List ℕ) : Type 0 where
   pub size : length b' ≡ length b

@@ -4,6 +4,7 @@
 // sizes     the sizes of the search and its numbers
 // index     the transitions by state and letter
 // readers   for each letter the matching states that can read it
+// searched  a table with its index, its sets of states and its readers
 // numbers   the numbers of a block, lowered and marked
 // gather    the least numbers that the pairs of a row lead to
 // row       all moves from the pairs of a row
@@ -19,4 +20,5 @@ pub mod index;
 pub mod numbers;
 pub mod readers;
 pub mod row;
+pub mod searched;
 pub mod sizes;

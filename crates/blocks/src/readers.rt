@@ -1,40 +1,36 @@
 // The matching states that can read a letter: a set for each letter, so that other states need not be looked up.
-ghost use Rattle.std.specs.Prelude.{◌+◌, ◌*◌, ◌≤◌, ◌<◌, ◌≡◌, true, length};
-ghost use Rattle.fsbm.specs.Machine.{well_formed, transition_at, matching};
+ghost use Rattle.std.specs.Prelude.{◌<◌, ◌≡◌};
+ghost use Rattle.fsbm.specs.Machine.{matching};
 ghost use Rattle.blocks.specs.Works.{Kind};
 ghost use Rattle.blocks.specs.Readers.{Noted, Readers};
 
 use crate::sizes::MOST_READERS;
-use fsbm::machine::Machine;
+use fsbm::table::Table;
 use stateset::StateSet;
 
 // Adds the state that transition k leaves to the set of its letter, if both its ends are members of h.
-fn note(list: &[u16], k: usize, h: StateSet, sets: &mut [u64; MOST_READERS])
-    requires { (k * 3 + 3 ≤ length list.now) × ((transition_at list.now k).letter < 251) × (length sets.old ≡ 251) }
-    ensures { Noted list.now k h sets.old sets.new }
+fn note(table: &Table, k: usize, h: StateSet, sets: &mut [u64; MOST_READERS])
+    requires { k < table.now.machine.transitions }
+    ensures { Noted table.now.list.now k h sets.old sets.new }
 {
-    let from = list[k * 3] as usize;
-    if !stateset::member(h, from) {
+    let t = table.transition(k);
+    let from = usize::from(t.from);
+    if !stateset::member(h, from) || !stateset::member(h, usize::from(t.to)) {
         return;
     }
-    if !stateset::member(h, list[k * 3 + 2] as usize) {
-        return;
-    }
-    let x = list[k * 3 + 1] as usize;
+    let x = usize::from(t.letter);
     sets[x] = stateset::add(sets[x], from);
 }
 
 // For each letter the matching states that a transition leaves by it to a matching state. h has the matching states.
 // Time: the transitions, each once.
-pub fn readers(m: Machine, list: &[u16], h: StateSet) -> [u64; MOST_READERS]
-    requires { (well_formed m list.now ≡ true) × Kind (matching m.marks) h }
-    ensures { Readers m list.now result }
+pub fn readers(table: &Table, h: StateSet) -> [u64; MOST_READERS]
+    requires { Kind (matching table.now.machine.marks) h }
+    ensures { Readers table.now.machine table.now.list.now result }
 {
-    let mut sets: [u64; MOST_READERS] = [0; MOST_READERS];
-    let mut k: usize = 0;
-    while k < m.transitions {
-        note(list, k, h, &mut sets);
-        k += 1;
+    let mut sets = [0; MOST_READERS];
+    for k in 0..table.machine.transitions {
+        note(table, k, h, &mut sets);
     }
     sets
 }

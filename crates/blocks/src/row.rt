@@ -1,169 +1,116 @@
 // One row of a block: the moves of pairs whose storing half is in one state.
 //
-// row       lowers numbers along all moves from the pairs of a row with a member of a set
-ghost use Rattle.std.specs.Prelude.{ℕ, ◌+◌, ◌*◌, ◌≤◌, ◌<◌, ◌≡◌, length, get_or};
-ghost use Rattle.stateset.specs.Set.{In};
-ghost use Rattle.fsbm.specs.Machine.{transition_at, buffering, matching};
+// row       lowers numbers along all moves from the pairs of a row
+ghost use Rattle.std.specs.Prelude.{ℕ, ◌+◌, ◌*◌, ◌≤◌, ◌<◌, ◌≡◌, get_or};
+ghost use Rattle.fsbm.specs.Machine.{transition_at};
 ghost use Rattle.pieces.specs.Blocks.{nothing};
-ghost use Rattle.blocks.specs.Numbers.{Sized};
 ghost use Rattle.blocks.specs.Gathered.{Adding};
-ghost use Rattle.blocks.specs.Readers.{Readers, Covers};
-ghost use Rattle.blocks.specs.Works.{Kind, Ready, Storable, RowSo, RowOn, RowDone, Moves};
+ghost use Rattle.blocks.specs.Works.{Storable, RowSo, RowOn, RowDone, Moves};
 
-use crate::sizes::{MOST_KEYS, MOST_PAIRS, MOST_READERS, MOST_STATES, PAIR};
-use crate::{gather, numbers};
-use fsbm::machine::Machine;
+use crate::gather;
+use crate::numbers::{Pairs, Row};
+use crate::searched::Searched;
+use crate::sizes::{MOST_PAIRS, MOST_STATES, PAIR};
 use stateset::StateSet;
 
-// The states that a storing move from s may enter: g has the buffering states, h the matching states.
-fn storable(m: Machine, g: StateSet, h: StateSet, s: usize) -> u64
-    requires { Kind (buffering m.marks) g × Kind (matching m.marks) h }
-    ensures { Storable m s result }
-{
-    let free = stateset::difference(stateset::full(64), g);
-    if stateset::member(h, s) {
-        return stateset::difference(free, h);
+impl<'a> Searched<'a> {
+    // The states that a storing move from s may enter.
+    fn storable(&self, s: usize) -> StateSet
+        ensures { Storable self.now.table.machine s result }
+    {
+        let free = stateset::difference(stateset::full(64), self.kinds.buffering);
+        if stateset::member(self.kinds.matching, s) {
+            stateset::difference(free, self.kinds.matching)
+        } else {
+            free
+        }
     }
-    free
-}
 
-// The least numbers of the pairs that row s leads to by the letter x, without their storing halves: for letter 0, by which the storing
-// half moves alone, for each state of the set; for another letter, by which both move, for each member of h that it leads to from one
-// that is in the set too. read has the members of h from which it leads to one.
-fn moved(
-    list: &[u16],
-    index: &[u16; MOST_KEYS],
-    stride: usize,
-    x: usize,
-    h: StateSet,
-    read: u64,
-    b: &[u64; MOST_PAIRS],
-    s: usize,
-    set: StateSet,
-    p: &mut [u64; MOST_STATES],
-    top: u64,
-) -> u64
-    requires p_len { length p.old ≡ 64 }
-    requires stride_bound { (stride ≤ 251) × (x < stride) × ((t : ℕ) → In «set» t → In h t → get_or index.now (t * stride + x + 1) 0 * 3 ≤ length list.now) }
-    requires s_bound { (s < 64) × (top ≤ nothing) × Covers list.now index.now stride x h read }
-    ensures { Adding (Moves list.now index.now top stride x h b.now s «set») p.old 0 p.new result }
-{
-    if x == 0 {
-        return gather::stay(b, s, set, p, top);
+    // The least numbers of the pairs that the row leads to by the letter x, without their storing halves: for letter 0, by which the
+    // storing half moves alone, for each state of the row; for another letter, by which both move, for each matching state that it leads
+    // to from a matching one of the row.
+    fn moved(
+        &self,
+        x: usize,
+        row: Row,
+        b: &[u64; MOST_PAIRS],
+        p: &mut [u64; MOST_STATES],
+    ) -> StateSet
+        requires { (x ≤ self.now.table.machine.letters) × (row.storing < 64) × (row.top ≤ nothing) }
+        ensures { Adding (Moves self.now.table.list.now self.now.index.now row.top (self.now.table.machine.letters + 1) x self.now.kinds.matching b.now row.storing row.matching) p.old 0 p.new result }
+    {
+        if x == 0 {
+            gather::stay(row, b, p)
+        } else {
+            self.gather(x, PAIR, row, b, p)
+        }
     }
-    let held = stateset::intersection(set, read);
-    gather::gather(list, index, stride, x, PAIR, h, b, s, held, p, top)
-}
 
-// Lowers the numbers of row s along the moves of the matching half alone.
-fn alone(
-    m: Machine,
-    list: &[u16],
-    index: &[u16; MOST_KEYS],
-    readers: &[u64; MOST_READERS],
-    h: StateSet,
-    b: &mut [u64; MOST_PAIRS],
-    d: &mut [u64; MOST_STATES],
-    s: usize,
-    set: StateSet,
-    p: &mut [u64; MOST_STATES],
-    top: u64,
-)
-    requires ready { Ready m list.now index.now h × Readers m list.now readers.now }
-    requires sized { Sized b.old d.old × (length p.old ≡ 64) × (s < m.states) × (top ≤ nothing) }
-    ensures { (length p.new ≡ 64) × RowSo m list.now top s «set» (get_or index.now (s * (m.letters + 1) + 0) 0) b.old d.old b.new d.new }
-{
-    let held = stateset::intersection(set, readers[0]);
-    let got = gather::gather(list, index, m.letters + 1, 0, 1, h, &*b, s, held, p, top);
-    numbers::put(b, d, s, got, &*p);
-}
-
-// Lowers numbers along the moves by the letter of transition lo, which leaves s, with transition lo and those after it for the storing
-// half; the first transition by another letter.
-fn group(
-    m: Machine,
-    list: &[u16],
-    index: &[u16; MOST_KEYS],
-    readers: &[u64; MOST_READERS],
-    h: StateSet,
-    may: u64,
-    b: &mut [u64; MOST_PAIRS],
-    d: &mut [u64; MOST_STATES],
-    s: usize,
-    set: StateSet,
-    lo: usize,
-    p: &mut [u64; MOST_STATES],
-    top: u64,
-) -> usize
-    requires ready { Ready m list.now index.now h × Storable m s may × Readers m list.now readers.now }
-    requires sized { Sized b.old d.old × (length p.old ≡ 64) × (s < m.states) × (top ≤ nothing) }
-    requires lo_lt_transitions { (lo < m.transitions) × ((transition_at list.now lo).from ≡ s) }
-    ensures { (length p.new ≡ 64) × (lo < result) × RowOn m list.now top s «set» lo b.old d.old result b.new d.new }
-{
-    let x = list[lo * 3 + 1] as usize;
-    let stride = m.letters + 1;
-    let hi = gather::wide(index[s * stride + x + 1]);
-    let read = readers[x];
-    let got = moved(list, index, stride, x, h, read, &*b, s, set, p, top);
-    numbers::spread(b, d, list, lo, hi, may, got, &*p);
-    hi
-}
-
-// The same for all transitions that leave s, from lo up to end.
-fn groups(
-    m: Machine,
-    list: &[u16],
-    index: &[u16; MOST_KEYS],
-    readers: &[u64; MOST_READERS],
-    h: StateSet,
-    may: u64,
-    b: &mut [u64; MOST_PAIRS],
-    d: &mut [u64; MOST_STATES],
-    s: usize,
-    set: StateSet,
-    lo: usize,
-    end: usize,
-    p: &mut [u64; MOST_STATES],
-    top: u64,
-) -> usize
-    requires ready { Ready m list.now index.now h × Storable m s may × Readers m list.now readers.now }
-    requires sized { Sized b.old d.old × (length p.old ≡ 64) × (s < m.states) × (top ≤ nothing) }
-    requires by_index { (k : ℕ) → lo ≤ k → k < end → (k < m.transitions) × ((transition_at list.now k).from ≡ s) }
-    ensures { (length p.new ≡ 64) × (end ≤ result) × RowOn m list.now top s «set» lo b.old d.old result b.new d.new }
-{
-    let mut k = lo;
-    while k < end {
-        k = group(m, list, index, readers, h, may, b, d, s, set, k, p, top);
+    // Lowers the numbers of the row along the moves of the matching half alone.
+    fn alone(&self, row: Row, pairs: &mut Pairs, p: &mut [u64; MOST_STATES])
+        requires { (row.storing < self.now.table.machine.states) × (row.top ≤ nothing) }
+        ensures { RowSo self.now.table.machine self.now.table.list.now row.top row.storing row.matching (get_or self.now.index.now (row.storing * (self.now.table.machine.letters + 1) + 0) 0) pairs.old.numbers pairs.old.marks pairs.new.numbers pairs.new.marks }
+    {
+        let got = self.gather(0, 1, row, &pairs.numbers, p);
+        pairs.put(row.storing, got, p);
     }
-    k
-}
 
-// Lowers numbers along all moves from the pairs (s, t) for t in the set whose number is less than top. g has the buffering states, h the matching states,
-// readers for each letter those that can read it (readers::readers).
-pub fn row(
-    m: Machine,
-    list: &[u16],
-    index: &[u16; MOST_KEYS],
-    readers: &[u64; MOST_READERS],
-    g: StateSet,
-    h: StateSet,
-    b: &mut [u64; MOST_PAIRS],
-    d: &mut [u64; MOST_STATES],
-    s: usize,
-    set: StateSet,
-    p: &mut [u64; MOST_STATES],
-    top: u64,
-)
-    requires ready { Ready m list.now index.now h × Kind (buffering m.marks) g × Readers m list.now readers.now }
-    requires sized { Sized b.old d.old × (length p.old ≡ 64) × (s < m.states) × (top ≤ nothing) }
-    ensures { (length p.new ≡ 64) × RowDone m list.now top s «set» b.old d.old b.new d.new }
-{
-    alone(m, list, index, readers, h, b, d, s, set, p, top);
-    let stride = m.letters + 1;
-    let lo = gather::wide(index[s * stride]);
-    let end = gather::wide(index[s * stride + stride]);
-    let may = storable(m, g, h, s);
-    groups(
-        m, list, index, readers, h, may, b, d, s, set, lo, end, p, top,
-    );
+    // Lowers numbers along the moves by the letter of transition lo, which leaves the row's state, with transition lo and those after it
+    // for the storing half; the first transition by another letter.
+    fn group(
+        &self,
+        row: Row,
+        may: StateSet,
+        lo: usize,
+        pairs: &mut Pairs,
+        p: &mut [u64; MOST_STATES],
+    ) -> usize
+        requires storable { Storable self.now.table.machine row.storing may }
+        requires row_bound { (row.storing < self.now.table.machine.states) × (row.top ≤ nothing) }
+        requires lo_lt_transitions { (lo < self.now.table.machine.transitions) × ((transition_at self.now.table.list.now lo).from ≡ row.storing) }
+        ensures { (lo < result) × RowOn self.now.table.machine self.now.table.list.now row.top row.storing row.matching lo pairs.old.numbers pairs.old.marks result pairs.new.numbers pairs.new.marks }
+    {
+        let x = usize::from(self.table.list[lo * 3 + 1]);
+        let stride = self.table.machine.letters + 1;
+        let hi = usize::from(self.index[row.storing * stride + x + 1]);
+        let got = self.moved(x, row, &pairs.numbers, p);
+        pairs.spread(self.table.list, lo, hi, may, got, p);
+        hi
+    }
+
+    // The same for all transitions that leave the row's state, from lo up to end.
+    fn groups(
+        &self,
+        row: Row,
+        may: StateSet,
+        lo: usize,
+        end: usize,
+        pairs: &mut Pairs,
+        p: &mut [u64; MOST_STATES],
+    ) -> usize
+        requires storable { Storable self.now.table.machine row.storing may }
+        requires row_bound { (row.storing < self.now.table.machine.states) × (row.top ≤ nothing) }
+        requires by_index { (k : ℕ) → lo ≤ k → k < end → (k < self.now.table.machine.transitions) × ((transition_at self.now.table.list.now k).from ≡ row.storing) }
+        ensures { (end ≤ result) × RowOn self.now.table.machine self.now.table.list.now row.top row.storing row.matching lo pairs.old.numbers pairs.old.marks result pairs.new.numbers pairs.new.marks }
+    {
+        let mut k = lo;
+        // No `for`: the next letter begins where group says.
+        while k < end {
+            k = self.group(row, may, k, pairs, p);
+        }
+        k
+    }
+
+    // Lowers numbers along all moves from the pairs of the row whose number is less than top.
+    pub fn row(&self, row: Row, pairs: &mut Pairs, p: &mut [u64; MOST_STATES])
+        requires { (row.storing < self.now.table.machine.states) × (row.top ≤ nothing) }
+        ensures { RowDone self.now.table.machine self.now.table.list.now row.top row.storing row.matching pairs.old.numbers pairs.old.marks pairs.new.numbers pairs.new.marks }
+    {
+        self.alone(row, pairs, p);
+        let stride = self.table.machine.letters + 1;
+        let lo = usize::from(self.index[row.storing * stride]);
+        let end = usize::from(self.index[row.storing * stride + stride]);
+        let may = self.storable(row.storing);
+        self.groups(row, may, lo, end, pairs, p);
+    }
 }

@@ -13,12 +13,13 @@
 -- pass_from p l       == the same after the bytes l more
 -- found p            == the number of a column that ends so
 -- column_number l     == the number that the bytes l are, 0 where they are spaces alone; no_number where they are not a column
+-- some_number n       == the number n as code answers it: None where n is no_number
 -- digit_or q          == the last digit of q, or a space where q is 0
 -- padded w q         == the digits of q at the end of w bytes, spaces before them; spaces alone where q is 0
 -- column_of w n       == the column of w bytes that holds n
 -- is_blank l          == whether the bytes l are spaces alone
 -- filled_column l     == the column l as it is, or where it is blank the column of 0
-use Rattle.std.specs.Prelude.{ℕ, zero, suc, ◌+◌, ◌*◌, ◌-◌, ◌/◌, ◌%◌, List, [], ◌∷◌, ◌++◌, Bool, cond, ◌&&◌, length, leb, eqb}
+use Rattle.std.specs.Prelude.{ℕ, zero, suc, ◌+◌, ◌*◌, ◌-◌, ◌/◌, ◌%◌, Option, Some, None, List, [], ◌∷◌, ◌++◌, Bool, cond, ◌&&◌, length, leb, eqb}
 use Rattle.basics.specs.Search.{all_in}
 pub mod Laws
 
@@ -66,6 +67,9 @@ found broken = no_number
 
 unfoldable pub column_number : List ℕ → ℕ
 column_number l = found (pass_from blank l)
+
+unfoldable pub some_number : ℕ → Option ℕ
+some_number n = cond (eqb n no_number) None (Some n)
 
 unfoldable pub digit_or : ℕ → ℕ
 digit_or q = cond (eqb q 0) 32 (48 + q % 10)

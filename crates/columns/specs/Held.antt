@@ -8,12 +8,12 @@
 -- held l           == what is held after the bytes l
 -- held_next h b     == what is held after one byte more
 -- so_far h          == the number so far; 0 where there are no digits
--- held_number h     == the number of a column that ends here; no_number where it holds none
+-- held_number h     == the number of a column that ends here; None where it holds none
 -- NoColumn l       == no column begins with the bytes l
 -- Says h l         == what h says of the bytes after which it is held
-use Rattle.std.specs.Prelude.{ℕ, ◌+◌, ◌*◌, ◌-◌, ◌^◌, ◌<◌, ◌≡◌, List, [], ◌∷◌, ◌++◌, cond, length, replicate, eqb}
+use Rattle.std.specs.Prelude.{ℕ, ◌+◌, ◌*◌, ◌-◌, ◌^◌, ◌<◌, ◌≡◌, Option, Some, None, List, [], ◌∷◌, ◌++◌, cond, length, replicate, eqb}
 use Rattle.basics.specs.Search.{all_in}
-use Rattle.columns.specs.Column.{no_number, blank_number, is_digit, column_of}
+use Rattle.columns.specs.Column.{blank_number, is_digit, column_of}
 use Rattle.columns.specs.declared.Held.{Held}
 use Rattle.columns.specs.declared.Held.TheVariants.{Blank, Nought, Digits, Broken}
 pub mod Laws
@@ -47,11 +47,11 @@ so_far Nought = 0
 so_far (Digits v) = v
 so_far Broken = 0
 
-unfoldable pub held_number : Held → ℕ
-held_number Blank = blank_number
-held_number Nought = 0
-held_number (Digits v) = v
-held_number Broken = no_number
+abbrev pub held_number : Held → Option ℕ
+held_number Blank = Some blank_number
+held_number Nought = Some 0
+held_number (Digits v) = Some v
+held_number Broken = None
 
 abbrev pub NoColumn : List ℕ → Type 0
 NoColumn l = (w n : ℕ) (r : List ℕ) → n < 10 ^ w → column_of w n ≡ l ++ r → ⊥

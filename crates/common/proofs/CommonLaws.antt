@@ -2,6 +2,7 @@
 --
 -- common_runs, common_published == a word is common exactly if each machine has an accepting run of it; if it is in both published languages
 -- answer_fault, answer_none, answer_word, answer_first, answer_second, answer_found == the answer in each case
+-- values_agree         == its number and values
 -- common_parts         == exactly if each accepts it
 -- common_joined        == exactly if the product accepts it, with anything behind its list
 -- common_letters       == the letters of a common word are letters of the first machine
@@ -11,13 +12,13 @@
 -- none_common          == it is past the bound exactly if there is none
 use Rattle.std.specs.Prelude.{ℕ, zero, suc, ◌+◌, ◌≤◌, ◌<◌, ◌≡◌, ◌↔◌, ◌⊎◌, false, ◌&&◌}
 use Rattle.std.proofs.Math.Path.{refl}
-use Rattle.std.proofs.Common.{sym, ◌∙◌, inl, inr}
-use Rattle.std.proofs.Math.Bool.{true}
+use Rattle.std.proofs.Common.{sym, ap, ◌∙◌, inl, inr}
+use Rattle.std.proofs.Math.Bool.{Bool, true, cond}
 use mathlib.Core.List.{List, [], ◌++◌}
 use native.Mathlib.Omega.{arith}
-use Rattle.std.proofs.Math.Decide.{dec_le}
+use Rattle.std.proofs.Math.Decide.{dec_le, ℕ_discrete}
 use Rattle.std.proofs.Math.ListN.{length}
-use Rattle.std.proofs.Math.Dec.{eqb}
+use Rattle.std.proofs.Math.Dec.{eqb, leb}
 use borrow.Author.Tests.{eqb-true, eq-eqb, ne_eqb, le-leb, lt-leb}
 use Rattle.basics.specs.Search.{AllBelow, none, more}
 use Rattle.basics.specs.Search.Laws.{and_true, and_both_true, true_or_false, not_both, exists_list_true}
@@ -26,13 +27,14 @@ use Rattle.graphs.specs.Least.Laws.{least_bound, least_has, least_first}
 use Rattle.fsbm.specs.Machine.{max_letters, well_formed}
 use Rattle.fsbm.specs.Moves.{accepting}
 use Rattle.fsbm.specs.Accepted.{run_bound, accepted}
-use Rattle.fsbm.specs.Answers.{refusal}
+use Rattle.fsbm.specs.Answers.{refusal, needed_of}
 use Rattle.fsbm.specs.Published.{FSBM, fsbm_of, symbol, InLanguage}
 use Rattle.fsbm.specs.Rules.{rules}
 use Rattle.fsbm.specs.declared.machine.Machine.{Machine}
 use Rattle.language.specs.Agreement.{run_path}
 use Rattle.language.specs.Bound.{accepted_iff_run, accepted_iff_published}
 use Rattle.product.specs.Product.{joined_transitions, joined_machine, join_fault}
+use Rattle.product.specs.Answers.{join_numbered}
 use Rattle.product.specs.Tables.{Joinable, joinable}
 use Rattle.product.specs.WellFormed.{joined_well_formed}
 use Rattle.product.specs.Common.{joined_accepted}
@@ -40,8 +42,10 @@ use Rattle.pieces.specs.Pieces.{Stores, stored, store, Leads, ended, read, copy}
 use Rattle.pieces.specs.Pieces.Laws.{path_leads}
 use Rattle.pieces.specs.Bound.{word_bound}
 use Rattle.pieces.proofs.BoundLaws.{short_word}
-use Rattle.common.specs.declared.Common.TheVariants.{Refused, NoCommonWord, Found}
-use Rattle.common.specs.Common.{is_common, has_common, least_common, common_answer}
+use Rattle.std.specs.Prelude.{Option, None, Some, Result, Ok, Err}
+use Rattle.fsbm.specs.declared.answer.Refusal.{Refusal}
+use Rattle.fsbm.specs.declared.answer.Refusal.TheVariants.{ShortRun, ShortWord}
+use Rattle.common.specs.Common.{is_common, has_common, least_common, common_answer, common_values, answer_values, nothing_found}
 
 -- The answer in each case
 
@@ -52,35 +56,60 @@ module _ (m₁ : Machine) (l₁ : List ℕ) (m₂ : Machine) (l₂ : List ℕ) (
   abbrev fault : ℕ
   fault = join_fault m₁ l₁ m₂ l₂
 
-  pub answer_fault : (fault ≡ 0 → ⊥) → Refused (refusal fault) ≡ common_answer m₁ l₁ m₂ l₂ word first_run second_run entries
+  pub answer_fault : (fault ≡ 0 → ⊥) → Err (refusal fault) ≡ common_answer m₁ l₁ m₂ l₂ word first_run second_run entries
   unfolding common_answer
   answer_fault h = second _ (ne_eqb fault 0 h) refl
 
-  pub answer_none : fault ≡ 0 → word_bound < n → NoCommonWord ≡ common_answer m₁ l₁ m₂ l₂ word first_run second_run entries
+  pub answer_none : fault ≡ 0 → word_bound < n → (Ok None) ≡ common_answer m₁ l₁ m₂ l₂ word first_run second_run entries
   unfolding common_answer
   answer_none h past = first _ (eq-eqb fault 0 h) (second _ (lt-leb n word_bound past) refl)
 
-  pub answer_word : fault ≡ 0 → n ≤ word_bound → word < n → Refused (record { number = 18; needed = n }) ≡ common_answer m₁ l₁ m₂ l₂ word first_run second_run entries
+  pub answer_word : fault ≡ 0 → n ≤ word_bound → word < n → Err (ShortWord n) ≡ common_answer m₁ l₁ m₂ l₂ word first_run second_run entries
   unfolding common_answer
   answer_word h within short = first _ (eq-eqb fault 0 h) (first _ (le-leb n word_bound within) (second _ (lt-leb n word short) refl))
 
-  pub answer_first : fault ≡ 0 → n ≤ word_bound → n ≤ word → first_run < run_bound m₁ n → Refused (record { number = 17; needed = run_bound m₁ n }) ≡ common_answer m₁ l₁ m₂ l₂ word first_run second_run entries
+  pub answer_first : fault ≡ 0 → n ≤ word_bound → n ≤ word → first_run < run_bound m₁ n → Err (ShortRun (run_bound m₁ n)) ≡ common_answer m₁ l₁ m₂ l₂ word first_run second_run entries
   unfolding common_answer
   answer_first h within fits short = first _ (eq-eqb fault 0 h) (first _ (le-leb n word_bound within) (first _ (le-leb n word fits) (second _ (lt-leb (run_bound m₁ n) first_run short) refl)))
 
   pub answer_second : fault ≡ 0 → n ≤ word_bound → n ≤ word → run_bound m₁ n ≤ first_run → second_run < n + 1
-      → Refused (record { number = 17; needed = n + 1 }) ≡ common_answer m₁ l₁ m₂ l₂ word first_run second_run entries
+      → Err (ShortRun (n + 1)) ≡ common_answer m₁ l₁ m₂ l₂ word first_run second_run entries
   unfolding common_answer
   answer_second h within fits fits-first short =
       first _ (eq-eqb fault 0 h)
       (first _ (le-leb n word_bound within) (first _ (le-leb n word fits) (first _ (le-leb (run_bound m₁ n) first_run fits-first) (second _ (lt-leb (n + 1) second_run short) refl))))
 
   pub answer_found : fault ≡ 0 → n ≤ word_bound → n ≤ word → run_bound m₁ n ≤ first_run → n + 1 ≤ second_run
-      → Found (record { letters = n; first = entries; second = n + 1 }) ≡ common_answer m₁ l₁ m₂ l₂ word first_run second_run entries
+      → Ok (Some (record { letters = n; first = entries; second = n + 1 })) ≡ common_answer m₁ l₁ m₂ l₂ word first_run second_run entries
   unfolding common_answer
   answer_found h within fits fits-first fits-second =
       first _ (eq-eqb fault 0 h)
       (first _ (le-leb n word_bound within) (first _ (le-leb n word fits) (first _ (le-leb (run_bound m₁ n) first_run fits-first) (first _ (le-leb (n + 1) second_run fits-second) refl))))
+
+  -- the numbers of the answer are those that the rules give
+  pub values_agree : common_values (common_answer m₁ l₁ m₂ l₂ word first_run second_run entries) ≡ answer_values m₁ l₁ m₂ l₂ word first_run second_run entries
+  unfolding common_answer answer_values
+  values_agree = at (ℕ_discrete fault 0)
+    where
+      searched : (within fits fits-first fits-second : Bool)
+          → common_values (cond within (cond fits (cond fits-first (cond fits-second (Ok (Some (record { letters = n; first = entries; second = n + 1 }))) (Err (ShortRun (n + 1)))) (Err (ShortRun (run_bound m₁ n)))) (Err (ShortWord n))) (Ok None))
+          ≡ cond within
+          (cond fits (cond fits-first (cond fits-second (record { refusal = 0; needed = 0; found = 1; letters = n; first = entries; second = n + 1 }) (nothing_found 17 (n + 1))) (nothing_found 17 (run_bound m₁ n))) (nothing_found 18 n))
+          (nothing_found 0 0)
+      searched false b c d = refl
+      searched true false c d = refl
+      searched true true false d = refl
+      searched true true true false = refl
+      searched true true true true = refl
+
+      at : Dec (fault ≡ 0) → common_values (common_answer m₁ l₁ m₂ l₂ word first_run second_run entries) ≡ answer_values m₁ l₁ m₂ l₂ word first_run second_run entries
+      at (yes e) =
+          ap common_values (sym (first _ (eq-eqb fault 0 e) refl))
+          ∙ (searched (leb n word_bound) (leb n word) (leb (run_bound m₁ n) first_run) (leb (n + 1) second_run) ∙ first _ (eq-eqb fault 0 e) refl)
+      at (no h) =
+          let f = join_numbered m₁ l₁ m₂ l₂ in
+          ap common_values (sym (second _ (ne_eqb fault 0 h) refl)) ∙ (ap (λ (x : ℕ). nothing_found x (needed_of (refusal fault))) (f.number h)
+          ∙ (ap (λ (x : ℕ). nothing_found fault x) (f.needed h) ∙ second _ (ne_eqb fault 0 h) refl))
 
 -- The letters of an accepted word
 

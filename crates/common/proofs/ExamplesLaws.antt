@@ -6,7 +6,7 @@
 use Prim.Native.Nat.{ℕ, zero, suc, ◌+◌, ◌≤◌, ◌<◌}
 use Rattle.std.specs.Prelude.{◌≡◌, refl, ◌⊎◌, ◌&&◌, get_or, ltb, eqb}
 use Rattle.std.proofs.Math.Path.{sym, ap, subst₂}
-use Rattle.std.proofs.Common.{◌∙◌, subst, inl, inr, ext_get_or, ltb-true, eqb-true}
+use Rattle.std.proofs.Common.{◌∙◌, Ok, Err, Some, None, subst, inl, inr, ext_get_or, ltb-true, eqb-true}
 use mathlib.Core.List.Memᴰ
 use mathlib.Core.List.{List, [], ◌∷◌, ◌++◌, map, append-nil, Memᴰ}
 use Rattle.std.proofs.Math.Bool.{Bool, true, false}
@@ -18,6 +18,8 @@ use Rattle.basics.specs.Search.{any_below, all_below, AllBelow}
 use Rattle.basics.specs.Search.Laws.{and_true, and_both_true, or_false, not_both, any_below_false, all_below_true, AllBelow-head, AllBelow-tail}
 use Rattle.fsbm.specs.Moves.{accepting}
 use Rattle.fsbm.specs.Accepted.{run_bound}
+use Rattle.fsbm.specs.declared.answer.Refusal.{Refusal}
+use Rattle.fsbm.specs.declared.answer.Refusal.TheVariants.{ShortWord}
 use Rattle.fsbm.specs.declared.machine.Machine.{Machine}
 use Rattle.language.specs.Examples.{doubling, doubling_list}
 use Rattle.language.specs.Reached.{decided}
@@ -31,7 +33,6 @@ use Rattle.product.specs.Examples.Laws as product-laws
 use Rattle.product.specs.Examples.Laws.{joins_means}
 use Rattle.pieces.specs.Spots.{no_copy_word}
 use Rattle.pieces.proofs.SpotsLaws.{no_copy_word_lem}
-use Rattle.common.specs.declared.Common.TheVariants.{Refused, Found}
 use Rattle.common.specs.Common.{is_common, least_common}
 use Rattle.common.proofs.CommonLaws.{answer_none, answer_word, answer_found, common_parts, common_runs, common_joined, common_letters, least_common_lem, no_shorter, any_common, none_common}
 use Rattle.common.specs.Examples.{some, some_list, odd_machine, Row, before, no_common, shortest_common, Meaning, some_word, none_shorter, same_machine, has_none, has_shortest, rows}
@@ -114,8 +115,8 @@ module _ (m₁ : Machine) (l₁ : List ℕ) (m₂ : Machine) (l₂ : List ℕ) w
             least,
             λ word f s entries fits fits-first fits-second.
                 sym (answer_found m₁ l₁ m₂ l₂ word f s entries fine within (omega arith) (subst (λ (n : ℕ). run_bound m₁ n ≤ f) (sym is) fits-first) (omega arith))
-                ∙ ap (λ (n : ℕ). Found (record { letters = n; first = entries; second = n + 1 })) is,
-            λ f s entries. sym (answer_word m₁ l₁ m₂ l₂ short f s entries fine within (omega arith)) ∙ ap (λ (n : ℕ). Refused (record { number = 18; needed = n })) is,
+                ∙ ap (λ (n : ℕ). Ok (Some (record { letters = n; first = entries; second = n + 1 }))) is,
+            λ f s entries. sym (answer_word m₁ l₁ m₂ l₂ short f s entries fine within (omega arith)) ∙ ap (λ (n : ℕ). Err (ShortWord n)) is,
           )
         where
           at_least : Joinable m₁ l₁ m₂ l₂ → (v : List ℕ) → is_common m₁ l₁ m₂ l₂ v ≡ true → Dec (length w ≤ length v) → length w ≤ length v

@@ -4,7 +4,7 @@
 -- BothAccept .. w      == each machine has an accepting run of w
 -- BothPublished .. w   == w is in the published language of each machine
 -- Shortest C n         == some word with C has n letters, and none has fewer
--- Refuses r number needed == r is the refusal of this number with this length
+-- Refuses r f          == r is the refusal f
 -- WrittenWord C ..     == a word with C and no more letters than any other stands at the front of its slice, with an accepting run of each machine on it
 -- Demand C ..          == what is asked of the answer r, C w being that both machines accept w
 use Rattle.std.specs.Prelude.{ℕ, ◌+◌, ◌≤◌, ◌<◌, ◌≡◌, ◌↔◌, true, List, length, take}
@@ -14,8 +14,9 @@ use Rattle.fsbm.specs.Published.{fsbm_of, InLanguage}
 use Rattle.fsbm.specs.Entries.{WrittenRun}
 use Rattle.fsbm.specs.declared.machine.Machine.{Machine}
 use Rattle.common.specs.declared.Lengths.{Lengths}
-use Rattle.common.specs.declared.Common.{Common}
-use Rattle.common.specs.declared.Common.TheVariants.{Refused, NoCommonWord, Found}
+use Rattle.std.specs.Prelude.{Option, None, Some, Result, Ok, Err}
+use Rattle.fsbm.specs.declared.answer.Refusal.{Refusal}
+use Rattle.fsbm.specs.declared.answer.Refusal.TheVariants.{ShortRun, ShortWord}
 
 abbrev pub BothAccept : Machine → List ℕ → Machine → List ℕ → List ℕ → Type 0
 BothAccept m₁ l₁ m₂ l₂ w = ((run : List ℕ) × (accepting m₁ l₁ w run ≡ true)) × ((run : List ℕ) × (accepting m₂ l₂ w run ≡ true))
@@ -29,8 +30,8 @@ pub record Shortest (C : List ℕ → Type 0) (n : ℕ) : Type 0 where
   pub common : C word
   pub least : (w : List ℕ) → C w → n ≤ length w
 
-abbrev pub Refuses : Common → ℕ → ℕ → Type 0
-Refuses r number needed = r ≡ Refused (record { number = number; needed = needed })
+abbrev pub Refuses : Result (Option Lengths) Refusal → Refusal → Type 0
+Refuses r f = r ≡ Err f
 
 -- the word and the runs are as many elements as the answer says, at the front of their slices; each run is accepting by the run checker's rules, and
 -- the written form of a published run
@@ -47,15 +48,15 @@ pub record WrittenWord (C : List ℕ → Type 0) (m₁ : Machine) (l₁ : List �
   pub second_run : WrittenRun m₂ l₂ (take k.letters word') (take k.second second')
 
 -- the slices have `word`, `first` and `second` elements before the call, and hold word', first' and second' after it
-pub record Demand (C : List ℕ → Type 0) (m₁ : Machine) (l₁ : List ℕ) (m₂ : Machine) (l₂ : List ℕ) (word first second : ℕ) (word' first' second' : List ℕ) (r : Common) : Type 0 where
+pub record Demand (C : List ℕ → Type 0) (m₁ : Machine) (l₁ : List ℕ) (m₂ : Machine) (l₂ : List ℕ) (word first second : ℕ) (word' first' second' : List ℕ) (r : Result (Option Lengths) Refusal) : Type 0 where
   -- no common word, exactly if no word of any length is accepted by both
-  pub no_common_word : (r ≡ NoCommonWord) ↔ ((w : List ℕ) → C w → ⊥)
+  pub no_common_word : (r ≡ Ok None) ↔ ((w : List ℕ) → C w → ⊥)
   -- otherwise a shortest one has n letters, at most 515,970
   pub shortest : (w : List ℕ) → C w → (n : ℕ) × (n ≤ 515970) × Shortest C n
   -- and the first slice that is too short is refused with the length it needs
-  pub word_too_short : (n : ℕ) → Shortest C n → Refuses r 18 n ↔ (word < n)
-  pub first_too_short : (n : ℕ) → Shortest C n → Refuses r 17 (run_bound m₁ n) ↔ ((n ≤ word) × (first < run_bound m₁ n))
-  pub second_too_short : (n : ℕ) → Shortest C n → Refuses r 17 (n + 1) ↔ ((n ≤ word) × (run_bound m₁ n ≤ first) × (second < n + 1))
+  pub word_too_short : (n : ℕ) → Shortest C n → Refuses r (ShortWord n) ↔ (word < n)
+  pub first_too_short : (n : ℕ) → Shortest C n → Refuses r (ShortRun (run_bound m₁ n)) ↔ ((n ≤ word) × (first < run_bound m₁ n))
+  pub second_too_short : (n : ℕ) → Shortest C n → Refuses r (ShortRun (n + 1)) ↔ ((n ≤ word) × (run_bound m₁ n ≤ first) × (second < n + 1))
   -- and where none is, exactly then, a word is written with its runs
-  pub found : (n : ℕ) → Shortest C n → ((k : Lengths) × (r ≡ Found k)) ↔ ((n ≤ word) × (run_bound m₁ n ≤ first) × (n + 1 ≤ second))
-  pub common_word : (k : Lengths) → r ≡ Found k → WrittenWord C m₁ l₁ m₂ l₂ word' first' second' k
+  pub found : (n : ℕ) → Shortest C n → ((k : Lengths) × (r ≡ Ok (Some k))) ↔ ((n ≤ word) × (run_bound m₁ n ≤ first) × (n + 1 ≤ second))
+  pub common_word : (k : Lengths) → r ≡ Ok (Some k) → WrittenWord C m₁ l₁ m₂ l₂ word' first' second' k

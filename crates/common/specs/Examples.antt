@@ -23,7 +23,9 @@ use Rattle.product.specs.Product.{plain, letter_count, joined_count, pair_mark, 
 use Rattle.product.specs.Examples as product
 use Rattle.product.specs.Examples.{odd, odd_list, odd_joined, joins}
 use Rattle.pieces.specs.Spots.{no_copy_word}
-use Rattle.common.specs.declared.Common.TheVariants.{Refused, NoCommonWord, Found}
+use Rattle.std.specs.Prelude.{Option, None, Some, Result, Ok, Err}
+use Rattle.fsbm.specs.declared.answer.Refusal.{Refusal}
+use Rattle.fsbm.specs.declared.answer.Refusal.TheVariants.{ShortRun, ShortWord}
 use Rattle.common.specs.Common.{is_common, common_answer}
 
 abbrev pub some : Machine
@@ -51,7 +53,7 @@ Meaning (no_common m₁ l₁ m₂ l₂ m list) =
     × (joined_machine m₁ l₁ m₂ l₂ ≡ m)
     × (joined_transitions m₁ l₁ m₂ l₂ ≡ list)
     × ((w : List ℕ) → is_common m₁ l₁ m₂ l₂ w ≡ false)
-    × ((word first second entries : ℕ) → common_answer m₁ l₁ m₂ l₂ word first second entries ≡ NoCommonWord)
+    × ((word first second entries : ℕ) → common_answer m₁ l₁ m₂ l₂ word first second entries ≡ Ok None)
 Meaning (shortest_common m₁ l₁ m₂ l₂ w run₁ run₂ short) =
     (join_fault m₁ l₁ m₂ l₂ ≡ 0)
     × (accepting m₁ l₁ w run₁ ≡ true)
@@ -59,8 +61,8 @@ Meaning (shortest_common m₁ l₁ m₂ l₂ w run₁ run₂ short) =
     × (is_common m₁ l₁ m₂ l₂ w ≡ true)
     × ((v : List ℕ) → is_common m₁ l₁ m₂ l₂ v ≡ true → length w ≤ length v)
     × ((word first second entries : ℕ) → length w ≤ word → run_bound m₁ (length w) ≤ first → length w + 1 ≤ second
-    → common_answer m₁ l₁ m₂ l₂ word first second entries ≡ Found (record { letters = length w; first = entries; second = length w + 1 }))
-    × ((first second entries : ℕ) → common_answer m₁ l₁ m₂ l₂ short first second entries ≡ Refused (record { number = 18; needed = length w }))
+    → common_answer m₁ l₁ m₂ l₂ word first second entries ≡ Ok (Some (record { letters = length w; first = entries; second = length w + 1 })))
+    × ((first second entries : ℕ) → common_answer m₁ l₁ m₂ l₂ short first second entries ≡ Err (ShortWord (length w)))
 
 unfoldable pub some_word : ℕ → ℕ → (List ℕ → Bool) → Bool
 unfolding any_below

@@ -2,20 +2,10 @@
 
 #![tactic(auto)]
 
-use fsbm::answer::Refusal;
-
-// How many elements stand at the front of the word slice and of the two run slices.
-#[derive(Clone, Copy)]
+// What the search finds: how many elements stand at the front of the word slice and of the two run slices.
+#[derive(Clone, Copy, Debug, PartialEq, Eq)]
 pub struct Lengths {
     pub letters: usize,
     pub first: usize,
     pub second: usize,
-}
-
-// The answer of the search: turned down, none, or a word with its runs.
-#[derive(Clone, Copy)]
-pub enum Common {
-    Refused(Refusal),
-    NoCommonWord,
-    Found(Lengths),
 }

@@ -17,7 +17,7 @@
 use denote.Slice.{shr_slice_at}
 use Prim.Native.Nat.{ℕ, zero, suc, ◌+◌, ◌*◌, ◌-◌, ◌≤◌, ◌<◌}
 use mathlib.Core.Path.{◌≡◌, refl, sym, ap, ◌∙◌}
-use mathlib.Core.Bool.{Bool, true, false, cond}
+use mathlib.Core.Bool.{true, false, cond}
 use mathlib.Core.List.{List, [], ◌∷◌, ◌++◌}
 use native.Mathlib.Omega.{arith}
 use native.Mathlib.Numerals.{add-one}
@@ -30,15 +30,17 @@ use Rattle.basics.specs.Search.Loops.{first, second}
 use Rattle.fsbm.specs.Machine.{well_formed, transition_at}
 use Rattle.fsbm.specs.Rules.{rules}
 use Rattle.fsbm.specs.Moves.{accepting, advanced, begin_buffering, begin_emptying}
-use Rattle.fsbm.specs.Answers.{table_and_word, refusal}
+use Rattle.fsbm.specs.Answers.{number_of, needed_of, by_refusal, passed as test_passed, table_and_word}
+use Rattle.fsbm.specs.Answers.Laws.{passed_ok, passed_err, run_numbers, table_numbered}
 use Rattle.fsbm.proofs.AnswerCases.{table_good}
 use Rattle.fsbm.specs.declared.machine.Machine.{Machine}
 use Rattle.fsbm.specs.declared.machine.Transition.{Transition}
 use Rattle.fsbm.specs.declared.answer.Refusal.{Refusal}
 use Rattle.copies.specs.declared.Copied.{Copied}
-use Rattle.copies.specs.declared.Copied.TheVariants.{Refused, Listed}
+use Rattle.fsbm.specs.declared.answer.Refusal.TheVariants.{NotAccepting, ShortCopies}
+use Rattle.std.specs.Prelude.{Option, None, Some, Result, Ok, Err}
 use Rattle.copies.specs.declared.Stretch.{Stretch}
-use Rattle.copies.specs.Copies.{Copy, with_letters, copy_list, pairs, total_back, longest_copied, copies_need, copies_refusal, copies_answer, copies_after, copied_values, copies_values}
+use Rattle.copies.specs.Copies.{Copy, copied, with_letters, copy_list, pairs, total_back, longest_copied, copies_need, copies_refusal, copies_answer, copies_after, copied_values, copies_values}
 use Rattle.copies.specs.Stretches.{most_copies, passed, stretch_copy, entries_from, read_from, at_first, entry_list, entries_read}
 use Rattle.copies.specs.Copies.Laws.{Leaves, need_fits}
 use Rattle.copies.specs.Copies.Laws as laws
@@ -258,29 +260,37 @@ module _ (slice : List ℕ) (count : ℕ) where
 -- The public call
 
 module _ (m : Machine) (list w run slice : List ℕ) where
-  pub copies_says : (r : Copied) (after : List ℕ) → (r ≡ copies_answer m list w run (length slice)) × (after ≡ copies_after m list w run slice)
+  pub copies_says : (r : Result Copied Refusal) (after : List ℕ) → Leaves m list w run slice r after
       → (r ≡ copies_answer m list w run (length slice)) × (after ≡ copies_after m list w run slice) × (copied_values r ≡ copies_values m list w run (length slice))
-  unfolding copies_answer copies_values
-  copies_says r after (a, s) =
-      (a, s, ap copied_values a ∙ by (eqb (copies_refusal m list w run (length slice)).number 0) (copies_refusal m list w run (length slice)) (length (copy_list m list w run)) (total_back (copy_list m list w run)))
+  unfolding copies_answer copies_values copies_refusal
+  copies_says r after (a, s) = (
+    a,
+    s,
+    ap copied_values a
+        ∙ (by (copies_refusal m list w run (length slice))
+        ∙ run_numbers (table_and_word longest_copied m list w) (accepting m list w run) (ShortCopies (copies_need m list w run)) (length slice)
+        (record { refusal = 0; needed = 0; copies = length (copy_list m list w run); total = total_back (copy_list m list w run) })
+        (λ n l. record { refusal = n; needed = l; copies = 0; total = 0 }) (table_numbered longest_copied m list w)),
+  )
     where
-      by : (b : Bool) (f : Refusal) (n total : ℕ)
-          → copied_values (cond b (Listed n total) (Refused f))
-          ≡ cond b (record { refusal = 0; needed = 0; copies = n; total = total }) (record { refusal = f.number; needed = f.needed; copies = 0; total = 0 })
-      by true f n total = refl
-      by false f n total = refl
+      by : (o : Option Refusal)
+          → copied_values (by_refusal o (Ok (copied (copy_list m list w run))) (λ f. Err f))
+          ≡ by_refusal o (record { refusal = 0; needed = 0; copies = length (copy_list m list w run); total = total_back (copy_list m list w run) })
+          (λ f. record { refusal = number_of f; needed = needed_of f; copies = 0; total = 0 })
+      by None = refl
+      by (Some f) = refl
 
-module _ (m : Machine) (list w run slice : List ℕ) (n : ℕ) (at_n : n ≡ table_and_word longest_copied m list w) where
-  pub early : (n ≡ 0 → ⊥) → Leaves m list w run slice (Refused (refusal n)) slice
-  early h =
-      let (a, s) = laws.refused_first m list w run slice (λ (z : table_and_word longest_copied m list w ≡ 0). h (at_n ∙ z)) in
-      (ap (λ (z : ℕ). Refused (refusal z)) at_n ∙ a, s)
+  pub early : (f : Refusal) → Err f ≡ test_passed (table_and_word longest_copied m list w) → Leaves m list w run slice (Err f) slice
+  early f e =
+      let h = passed_err (table_and_word longest_copied m list w) f e in
+      let (a, s) = laws.refused_first m list w run slice h.0 in
+      (ap (λ (z : Refusal). Err z) h.1 ∙ a, s)
 
-  module _ (good : n ≡ 0) where
+  module _ (passes : Ok tt ≡ test_passed (table_and_word longest_copied m list w)) where
     tested : table_and_word longest_copied m list w ≡ 0
-    tested = sym at_n ∙ good
+    tested = passed_ok (table_and_word longest_copied m list w) passes
 
-    pub not_accepting : accepting m list w run ≡ false → Leaves m list w run slice (Refused (refusal 14)) slice
+    pub not_accepting : accepting m list w run ≡ false → Leaves m list w run slice (Err NotAccepting) slice
     not_accepting h = laws.refused_run m list w run slice tested h
 
     module _ (a : accepting m list w run ≡ true) where
@@ -301,16 +311,16 @@ module _ (m : Machine) (list w run slice : List ℕ) (n : ℕ) (at_n : n ≡ tab
         unfolding copies_need
         count_few = let is = count_is in let fits = need_fits m list w run in_order.0 a in let short = in_order.1 in omega arith
 
-        pub no_room : length slice < count * 2 → Leaves m list w run slice (Refused (record { number = 20; needed = count * 2 })) slice
+        pub no_room : length slice < count * 2 → Leaves m list w run slice (Err (ShortCopies (count * 2))) slice
         no_room h =
             let is = count_is in
             let (answer, kept) = laws.refused_room m list w run slice tested a (omega arith) in
-            (ap (λ (z : ℕ). Refused (record { number = 20; needed = z * 2 })) is ∙ answer, kept)
+            (ap (λ (z : ℕ). Err (ShortCopies (z * 2))) is ∙ answer, kept)
 
         pub listed : count * 2 ≤ length slice → (after : List ℕ) → after ≡ pairs (entry_list m.transitions list run) ++ drop (length (entry_list m.transitions list run) * 2) slice
-            → (total : ℕ) → ((ks : List Copy) (rest : List ℕ) → after ≡ pairs ks ++ rest → count ≡ length ks → total ≡ total_back ks) → Leaves m list w run slice (Listed count total) after
+            → (total : ℕ) → ((ks : List Copy) (rest : List ℕ) → after ≡ pairs ks ++ rest → count ≡ length ks → total ≡ total_back ks) → Leaves m list w run slice (Ok (record { copies = count; total = total })) after
         listed h after at_after total at-total =
             let is = count_is in
             let holds = at_after ∙ ap (λ (ks : List Copy). pairs ks ++ drop (length ks * 2) slice) told in
             let (answer, left) = laws.listed_all m list w run slice tested a (omega arith) in
-            (ap (λ (z : ℕ). Listed z total) is ∙ ap (Listed (length (copy_list m list w run))) (at-total (copy_list m list w run) _ holds is) ∙ answer, holds ∙ left)
+            (ap (λ (z : ℕ). Ok (record { copies = z; total = total })) is ∙ ap (λ (z : ℕ). Ok (record { copies = length (copy_list m list w run); total = z })) (at-total (copy_list m list w run) _ holds is) ∙ answer, holds ∙ left)

@@ -9,18 +9,18 @@
 -- pairs ks                == the copies as they are written, two numbers each
 -- total_back ks            == the total of the letters stored, taken from the last copy to the first
 -- total_forward n ks       == the total taken from the first copy to the last, on top of n
--- copies_refusal           == the first refusal of list_copies, number 0 where there is none
+-- copies_refusal           == the first refusal of list_copies, if there is one
 -- copies_answer, copies_after == what list_copies answers, and what the caller's slice holds afterwards
 -- copied_values r          == document 01's number and values for each case of the answer
 -- copies_values            == the number and values that the rules give
-use Rattle.std.specs.Prelude.{ℕ, ◌+◌, ◌*◌, ◌-◌, List, [], ◌∷◌, ◌++◌, Bool, cond, length, drop, eqb}
+use Rattle.std.specs.Prelude.{ℕ, ◌+◌, ◌*◌, ◌-◌, List, [], ◌∷◌, ◌++◌, Bool, cond, length, drop, eqb, Option, Result, Ok, Err, leb}
 use Rattle.fsbm.specs.Moves.{move, start_at, accepting, begin_emptying}
-use Rattle.fsbm.specs.Answers.{table_and_word, run_refusal}
+use Rattle.fsbm.specs.Answers.{number_of, needed_of, by_refusal, table_and_word, run_refusal}
 use Rattle.fsbm.specs.declared.machine.Machine.{Machine}
 use Rattle.fsbm.specs.declared.config.Config.{Config}
 use Rattle.fsbm.specs.declared.answer.Refusal.{Refusal}
+use Rattle.fsbm.specs.declared.answer.Refusal.TheVariants.{ShortCopies}
 use Rattle.copies.specs.declared.Copied.{Copied}
-use Rattle.copies.specs.declared.Copied.TheVariants.{Refused, Listed}
 pub mod Laws
 
 -- the longest word that copies are listed of
@@ -76,22 +76,21 @@ unfoldable pub copies_need : Machine → List ℕ → List ℕ → List ℕ → 
 copies_need m list w run = length (copy_list m list w run) * 2
 
 -- 16, 9 and 8; 14 the run does not accept; 20 the slice of this length is too short
-unfoldable pub copies_refusal : Machine → List ℕ → List ℕ → List ℕ → ℕ → Refusal
+unfoldable pub copies_refusal : Machine → List ℕ → List ℕ → List ℕ → ℕ → Option Refusal
 copies_refusal m list w run room =
-    run_refusal (table_and_word longest_copied m list w) (accepting m list w run) (record { number = 20; needed = copies_need m list w run }) room
+    run_refusal (table_and_word longest_copied m list w) (accepting m list w run) (ShortCopies (copies_need m list w run)) room
 
-unfoldable pub copies_answer : Machine → List ℕ → List ℕ → List ℕ → ℕ → Copied
-copies_answer m list w run room =
-    cond (eqb (copies_refusal m list w run room).number 0)
-    (Listed (length (copy_list m list w run)) (total_back (copy_list m list w run)))
-    (Refused (copies_refusal m list w run room))
+-- what the list has: how many copies, and the total of their letters
+abbrev pub copied : List Copy → Copied
+copied ks = record { copies = length ks; total = total_back ks }
+
+unfoldable pub copies_answer : Machine → List ℕ → List ℕ → List ℕ → ℕ → Result Copied Refusal
+copies_answer m list w run room = by_refusal (copies_refusal m list w run room) (Ok (copied (copy_list m list w run))) (λ f. Err f)
 
 -- the slice as it was, or the list at its front
 unfoldable pub copies_after : Machine → List ℕ → List ℕ → List ℕ → List ℕ → List ℕ
 copies_after m list w run slice =
-    cond (eqb (copies_refusal m list w run (length slice)).number 0)
-    (pairs (copy_list m list w run) ++ drop (copies_need m list w run) slice)
-    slice
+    by_refusal (copies_refusal m list w run (length slice)) (pairs (copy_list m list w run) ++ drop (copies_need m list w run) slice) (λ f. slice)
 
 -- the refusal's number or 0, the length needed or 0, the number of copies listed and the total of the letters stored
 pub record CopiedValues : Type 0 where
@@ -100,12 +99,16 @@ pub record CopiedValues : Type 0 where
   pub copies : ℕ
   pub total : ℕ
 
-abbrev pub copied_values : Copied → CopiedValues
-copied_values (Refused f) = record { refusal = f.number; needed = f.needed; copies = 0; total = 0 }
-copied_values (Listed copies total) = record { refusal = 0; needed = 0; copies = copies; total = total }
+abbrev pub copied_values : Result Copied Refusal → CopiedValues
+copied_values (Err f) = record { refusal = number_of f; needed = needed_of f; copies = 0; total = 0 }
+copied_values (Ok c) = record { refusal = 0; needed = 0; copies = c.copies; total = c.total }
 
 unfoldable pub copies_values : Machine → List ℕ → List ℕ → List ℕ → ℕ → CopiedValues
 copies_values m list w run room =
-    cond (eqb (copies_refusal m list w run room).number 0)
+    cond (eqb (table_and_word longest_copied m list w) 0)
+    (cond (accepting m list w run)
+    (cond (leb (copies_need m list w run) room)
     (record { refusal = 0; needed = 0; copies = length (copy_list m list w run); total = total_back (copy_list m list w run) })
-    (record { refusal = (copies_refusal m list w run room).number; needed = (copies_refusal m list w run room).needed; copies = 0; total = 0 })
+    (record { refusal = 20; needed = copies_need m list w run; copies = 0; total = 0 }))
+    (record { refusal = 14; needed = 0; copies = 0; total = 0 }))
+    (record { refusal = table_and_word longest_copied m list w; needed = 0; copies = 0; total = 0 })

@@ -12,18 +12,19 @@ use fsbm::answer::Refusal;
 use fsbm::config::{BEGIN_BUFFERING, BEGIN_EMPTYING};
 use fsbm::limits::LONGEST_WORD;
 use fsbm::machine::Machine;
-use fsbm::{answer, machine, run};
+use fsbm::table::Table;
+use fsbm::{answer, run};
 
-// The answer of list_copies: the number of copies listed, and the total of the letters that they store.
-#[derive(Clone, Copy)]
-pub enum Copied {
-    Refused(Refusal),
-    Listed { copies: usize, total: usize },
+// What list_copies answers: the number of copies listed, and the total of the letters that they store.
+#[derive(Clone, Copy, Debug, PartialEq, Eq)]
+pub struct Copied {
+    pub copies: usize,
+    pub total: usize,
 }
 
 // What a run has read: the position, and where it last began to buffer. While it buffers, the stretch of the word between
 // the two is stored.
-#[derive(Clone, Copy)]
+#[derive(Clone, Copy, Debug, PartialEq, Eq)]
 struct Stretch {
     start: usize,
     position: usize,
@@ -31,9 +32,9 @@ struct Stretch {
 
 impl Stretch {
     // The stretch once an entry is passed.
-    fn passed(self, transitions: usize, list: &[u16], entry: u16) -> Stretch
-        requires { (transitions * 3 ≤ length list.now) × (self.position ≤ longest_copied) }
-        ensures { result ≡ passed transitions list.now self entry }
+    fn passed(self, t: &Table, entry: u16) -> Stretch
+        requires { self.position ≤ longest_copied }
+        ensures { result ≡ passed t.now.machine.transitions t.now.list.now self entry }
     {
         if entry == BEGIN_BUFFERING {
             return Stretch {
@@ -42,11 +43,11 @@ impl Stretch {
             };
         }
         let k = entry as usize;
-        if transitions <= k {
+        if t.machine.transitions <= k {
             return self;
         }
-        let t = machine::present_transition(list, k);
-        if t.letter == 0 {
+        let s = t.transition(k);
+        if s.letter == 0 {
             return self;
         }
         Stretch {
@@ -57,59 +58,49 @@ impl Stretch {
 }
 
 // The number of copies with letters of a run that accepts a word of at most 255 letters. Time: the entries once.
-fn count_copies(transitions: usize, list: &[u16], run: &[u16]) -> usize
-    requires { (transitions * 3 ≤ length list.now) × (entries_read transitions list.now run.now ≤ longest_copied) }
-    ensures { result ≡ length (entry_list transitions list.now run.now) }
+fn count_copies(t: &Table, run: &[u16]) -> usize
+    requires { entries_read t.now.machine.transitions t.now.list.now run.now ≤ longest_copied }
+    ensures { result ≡ length (entry_list t.now.machine.transitions t.now.list.now run.now) }
 {
     let mut s = Stretch {
         start: 0,
         position: 0,
     };
-    let mut count: usize = 0;
-    let mut i: usize = 1;
-    while i < run.len() {
+    let mut count = 0;
+    for i in 1..run.len() {
         let entry = run[i];
         let start = s.start;
         let end = s.position;
-        let next = s.passed(transitions, list, entry);
-        s = next;
-        i += 1;
-        if entry == BEGIN_EMPTYING {
-            if start < end {
-                count += 1;
-            }
+        s = s.passed(t, entry);
+        if entry == BEGIN_EMPTYING && start < end {
+            count += 1;
         }
     }
     count
 }
 
 // Writes the copies with letters of such a run to the front of a slice that has room for them. Time: the entries once.
-fn write_copies(transitions: usize, list: &[u16], run: &[u16], copies: &mut [u16])
-    requires { (transitions * 3 ≤ length list.now) × (entries_read transitions list.now run.now ≤ longest_copied)
-        × (length (entry_list transitions list.now run.now) * 2 ≤ length copies.old) }
+fn write_copies(t: &Table, run: &[u16], copies: &mut [u16])
+    requires { (entries_read t.now.machine.transitions t.now.list.now run.now ≤ longest_copied)
+        × (length (entry_list t.now.machine.transitions t.now.list.now run.now) * 2 ≤ length copies.old) }
     ensures { copies.new
-        ≡ pairs (entry_list transitions list.now run.now)
-        ++ drop (length (entry_list transitions list.now run.now) * 2) copies.old }
+        ≡ pairs (entry_list t.now.machine.transitions t.now.list.now run.now)
+        ++ drop (length (entry_list t.now.machine.transitions t.now.list.now run.now) * 2) copies.old }
 {
     let mut s = Stretch {
         start: 0,
         position: 0,
     };
-    let mut k: usize = 0;
-    let mut i: usize = 1;
-    while i < run.len() {
+    let mut k = 0;
+    for i in 1..run.len() {
         let entry = run[i];
         let start = s.start;
         let stored = s.position - start;
-        let next = s.passed(transitions, list, entry);
-        s = next;
-        i += 1;
-        if entry == BEGIN_EMPTYING {
-            if stored != 0 {
-                copies[k] = start as u16;
-                copies[k + 1] = stored as u16;
-                k += 2;
-            }
+        s = s.passed(t, entry);
+        if entry == BEGIN_EMPTYING && stored != 0 {
+            copies[k] = start as u16;
+            copies[k + 1] = stored as u16;
+            k += 2;
         }
     }
 }
@@ -120,10 +111,8 @@ fn total_back(copies: &[u16], count: usize) -> usize
     requires { (count * 2 ≤ length copies.now) × (count ≤ most_copies) }
     ensures { (ks : List Copy) (rest : List ℕ) → copies.now ≡ pairs ks ++ rest → count ≡ length ks → result ≡ total_back ks }
 {
-    let mut total: usize = 0;
-    let mut k = count;
-    while 0 < k {
-        k -= 1;
+    let mut total = 0;
+    for k in (0..count).rev() {
         total += copies[k * 2 + 1] as usize;
     }
     total
@@ -137,30 +126,30 @@ fn total_back(copies: &[u16], count: usize) -> usize
 // the slice as it was; on success what stands past the copies is as it was.
 // Time: the table and the word once, the run three times (it is followed once, to check it), the copies once. Memory: none
 // beside its arguments.
-pub fn list_copies(m: Machine, list: &[u16], word: &[u8], run: &[u16], copies: &mut [u16]) -> Copied
+pub fn list_copies(
+    m: Machine,
+    list: &[u16],
+    word: &[u8],
+    run: &[u16],
+    copies: &mut [u16],
+) -> Result<Copied, Refusal>
     ensures { (result ≡ copies_answer m list.now word.now run.now (length copies.old))
         × (copies.new ≡ copies_after m list.now word.now run.now copies.old)
         × (copied_values result ≡ copies_values m list.now word.now run.now (length copies.old)) }
 {
-    let number = answer::table_and_word(LONGEST_WORD, m, list, word);
-    if number != 0 {
-        return Copied::Refused(Refusal { number, needed: 0 });
+    answer::table_and_word(LONGEST_WORD, m, list, word)?;
+    let t = Table { machine: m, list };
+    if !run::is_accepting_run(&t, word, run) {
+        return Err(Refusal::NotAccepting);
     }
-    if !run::is_accepting_run(m, list, word, run) {
-        return Copied::Refused(Refusal {
-            number: 14,
-            needed: 0,
-        });
-    }
-    let count = count_copies(m.transitions, list, run);
+    let count = count_copies(&t, run);
     let needed = count * 2;
     if copies.len() < needed {
-        return Copied::Refused(Refusal { number: 20, needed });
+        return Err(Refusal::ShortCopies(needed));
     }
-    write_copies(m.transitions, list, run, copies);
-    let total = total_back(copies, count);
-    Copied::Listed {
+    write_copies(&t, run, copies);
+    Ok(Copied {
         copies: count,
-        total,
-    }
+        total: total_back(copies, count),
+    })
 }

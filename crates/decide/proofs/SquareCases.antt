@@ -9,7 +9,9 @@
 -- turning_none, turning_some, turning_apart == the ways through turning
 use Prim.Native.Nat.{ℕ, ◌+◌, ◌-◌, ◌≤◌, ◌<◌}
 use mathlib.Core.Path.{◌≡◌, refl, sym, ap, ◌∙◌, subst, subst₂}
-use mathlib.Core.Bool.{true, false, false≢true}
+use mathlib.Core.Bool.{Bool, true, false, false≢true}
+use Rattle.std.proofs.Math.Dec.{leb}
+use Rattle.std.proofs.lemmas.Bool.{leb-true, leb-false}
 use mathlib.Core.Logic.{◌⊎◌, inl, inr}
 use mathlib.Core.List.{List}
 use native.Mathlib.Omega.{arith}
@@ -111,6 +113,13 @@ module _ (w a b : List ℕ) (i j e : ℕ) (le : i < j) (room : j + (j - i) ≤ l
           end.run.differs (omega arith)
           (ap (λ (n : ℕ). get_or w n 0) (sym here) ∙ (sym same ∙ ap (λ (n : ℕ). get_or w n 0) back))
 
+  pub square_says : Squared w a b i j (leb (j + (j - i)) e)
+  square_says = at (leb (j + (j - i)) e) refl
+    where
+      at : (r : Bool) → leb (j + (j - i)) e ≡ r → Squared w a b i j r
+      at true t = square_yes (leb-true (j + (j - i)) e t)
+      at false f = square_no (leb-false (j + (j - i)) e f)
+
 -- one turn of run_end
 pub run_more : (w : List ℕ) (d q r : ℕ) → ((k : ℕ) → q ≤ k → k < r → get_or w k 0 ≡ get_or w (k - d) 0) → get_or w r 0 ≡ get_or w (r - d) 0
     → (k : ℕ) → q ≤ k → k < r + 1 → get_or w k 0 ≡ get_or w (k - d) 0
@@ -121,15 +130,13 @@ run_more w d q r so_far e k ge lt = at (ℕ_discrete k r)
     at (no n) = so_far k ge (omega arith)
 
 -- one turn of last_square: no square ends its first half at j
-pub last_down : (w : List ℕ) (i j : ℕ) → i < j → (Square w i j → ⊥) → ((k : ℕ) → j < k → k + (k - i) ≤ length w → Square w i k → ⊥)
-    → (k : ℕ) → j - 1 < k → k + (k - i) ≤ length w → Square w i k → ⊥
-last_down w i j lt n above k le room m = at (ℕ_discrete k j)
+pub last_down : (w : List ℕ) (i j : ℕ) → (Square w i (j - 1) → ⊥) → ((k : ℕ) → j ≤ k → k + (k - i) ≤ length w → Square w i k → ⊥)
+    → ((k : ℕ) → j - 1 ≤ k → k + (k - i) ≤ length w → Square w i k → ⊥)
+last_down w i j none rest k le room m = at (ℕ_discrete k (j - 1))
   where
-    at : Dec (k ≡ j) → ⊥
-    at (yes e) = n (subst (λ (y : ℕ). Square w i y) e m)
-    at (no d) = above k (omega arith) room m
-
--- the ways through turning
+    at : Dec (k ≡ j - 1) → ⊥
+    at (yes e) = none (subst (Square w i) e m)
+    at (no n) = rest k (omega arith) room m
 
 module _ (h : ℕ) (w a : List ℕ) (i j s ready : ℕ) (both : Members ready (λ q. In s q × In h q)) where
   pub turning_none : ready ≡ 0 → Turning h w a a i j s 0

@@ -2,11 +2,12 @@
 // word.
 ghost use Rattle.std.specs.Prelude.{ℕ, ◌+◌, ◌^◌, ◌≤◌, ◌<◌, ◌≡◌, true, List, length, get_or};
 ghost use Rattle.std.specs.Int.Bits.{bit_and};
-ghost use Rattle.fsbm.specs.Machine.{well_formed};
 ghost use Rattle.fsbm.specs.Accepted.{accepted};
 ghost use Rattle.stateset.specs.Set.{width};
-ghost use Rattle.images.specs.Graph.{Fitting, Graph, graph, Good, KindsOf};
+ghost use Rattle.images.specs.Graph.{Fitting, Graph, graph, KindsOf};
+ghost use Rattle.images.specs.Moves.{graph_of};
 ghost use Rattle.subsets.specs.Rows.{Kept};
+ghost use Rattle.subsets.specs.Memo.{Holds, SamePlaces};
 ghost use Rattle.targets.specs.Prepared.{Prepared};
 ghost use Rattle.decide.specs.NormalSets.{NormalSets, Empty};
 ghost use Rattle.decide.specs.Reach.{Rooms, LastSquare, Copied, Passed, Stage};
@@ -16,17 +17,17 @@ use crate::walks::Tail;
 use crate::{squares, walks};
 use fsbm::config::Mode;
 use fsbm::limits::POSITIONS;
-use fsbm::machine::Machine;
-use images::Kinds;
+use fsbm::table::Table;
+use images::{Kinds, Targets};
 use stateset::StateSet;
-use subsets::{Shape, Subset};
+use subsets::{Memo, Subset};
 
 // The numbers that are lent where nothing is kept of the subset construction.
 const NO_ROWS: usize = 1;
 
 // The reached set of each position of a word, one for each position 0 to 255, and whether a state of the last is final: no before that is
 // known.
-#[derive(Clone, Copy)]
+#[derive(Clone, Copy, Debug, PartialEq, Eq)]
 pub struct Reached {
     pub sets: [StateSet; POSITIONS],
     pub accepted: bool,
@@ -37,10 +38,8 @@ pub struct Reached {
 // Time: one step of a set for each letter up to last, and one for each letter that is read for a matching half. All matching halves
 // read the letters from i on: where the same states turn to matching as did last, the matching half goes on from where the last ended.
 fn copies_from(
-    targets: &[StateSet],
-    t: Shape,
-    rows: &mut [StateSet],
-    steps: &mut [u16],
+    t: &Targets,
+    memo: &mut Memo,
     word: &[u8],
     ends: &mut [u8; POSITIONS],
     sets: &mut [StateSet; POSITIONS],
@@ -48,70 +47,66 @@ fn copies_from(
     near: Subset,
     last: usize,
 )
-    requires { Good targets.now t.states t.g t.h × Rooms targets.now t.states word.now × (i ≤ length word.now) × (length word.now ≤ 255) × RepeatEnds word.now ends.old (λ d. i + d) × Fitting 256 sets.old × LastSquare word.now i last × (near.set < 2 ^ width)
-        × Kept (graph targets.now t.states t.g t.h) t.columns rows.old steps.old }
+    requires { Rooms t.now.sets.now t.now.states word.now × (i ≤ length word.now) × (length word.now ≤ 255) × RepeatEnds word.now ends.old (λ d. i + d) × Fitting 256 sets.old × LastSquare word.now i last × (near.set < 2 ^ width)
+        × Holds (graph_of t.now) memo.old }
     ensures { RepeatEnds word.now ends.new (λ d. i + d) × Fitting 256 sets.new
-        × Copied (graph targets.now t.states t.g t.h) word.now i (bit_and near.set t.g) sets.old sets.new
-        × Kept (graph targets.now t.states t.g t.h) t.columns rows.new steps.new }
+        × Copied (graph_of t.now) word.now i (bit_and near.set t.now.buffering) sets.old sets.new
+        × Holds (graph_of t.now) memo.new × SamePlaces memo.old memo.new }
 {
-    let mut s = subsets::begin(targets, t, rows, steps, Mode::Buffering, near);
+    let mut s = memo.begin(t, Mode::Buffering, near);
     let mut tail = Tail {
         ready: 0,
         position: i,
         reached: Subset { set: 0, row: 0 },
     };
-    let mut j = i;
-    while j < last {
+    for at in i..last {
         if s.set == 0 {
             return;
         }
-        let x = word[j];
-        s = subsets::read(targets, t, rows, steps, Mode::Buffering, s, x);
-        j += 1;
-        let ready = squares::turning(t.h, word, ends, i, j, s.set);
-        if ready != 0 {
-            tail = walks::tail_to(targets, t, rows, steps, word, i, j, s, ready, tail);
-            let e = j + (j - i);
-            sets[e] = stateset::union(sets[e], tail.reached.set);
+        s = memo.read(t, Mode::Buffering, s, word[at]);
+        let j = at + 1;
+        let ready = squares::turning(t.matching, word, ends, i, j, s.set);
+        if ready == 0 {
+            continue;
         }
+        tail = walks::tail_to(t, memo, word, i, j, s, ready, tail);
+        let e = j + (j - i);
+        sets[e] = stateset::union(sets[e], tail.reached.set);
     }
 }
 
 // Completes the set of position i and adds what it reaches at later positions. The hint is any subset: where it is of this position's set,
 // its row need not be looked for. Answers what was read, a hint for the next position.
 fn pass_position(
-    targets: &[StateSet],
-    t: Shape,
-    rows: &mut [StateSet],
-    steps: &mut [u16],
+    t: &Targets,
+    memo: &mut Memo,
     word: &[u8],
     ends: &mut [u8; POSITIONS],
     sets: &mut [StateSet; POSITIONS],
     i: usize,
     hint: Subset,
 ) -> Subset
-    requires { Good targets.now t.states t.g t.h × Rooms targets.now t.states word.now × (i ≤ length word.now) × (length word.now ≤ 255) × RepeatEnds word.now ends.old (λ d. i + d) × Fitting 256 sets.old
-        × Kept (graph targets.now t.states t.g t.h) t.columns rows.old steps.old }
+    requires { Rooms t.now.sets.now t.now.states word.now × (i ≤ length word.now) × (length word.now ≤ 255) × RepeatEnds word.now ends.old (λ d. i + d) × Fitting 256 sets.old
+        × Holds (graph_of t.now) memo.old }
     ensures { RepeatEnds word.now ends.new (λ d. i + d) × Fitting 256 sets.new
-        × Passed (graph targets.now t.states t.g t.h) word.now sets.old sets.new i
-        × Kept (graph targets.now t.states t.g t.h) t.columns rows.new steps.new }
+        × Passed (graph_of t.now) word.now sets.old sets.new i
+        × Holds (graph_of t.now) memo.new × SamePlaces memo.old memo.new }
 {
     let reached = sets[i];
     if reached == 0 {
         sets[i] = 0;
-        return Subset { set: 0, row: 0 };
+        return Subset::default();
     }
-    let seeds = subsets::with_row(rows, steps, t.columns, reached, hint);
-    let near = subsets::begin(targets, t, rows, steps, Mode::Normal, seeds);
+    let seeds = memo.with_row(reached, hint);
+    let near = memo.begin(t, Mode::Normal, seeds);
     sets[i] = near.set;
     if word.len() <= i {
         return near;
     }
-    let x = word[i];
-    let read = subsets::read(targets, t, rows, steps, Mode::Normal, near, x);
+    let read = memo.read(t, Mode::Normal, near, word[i]);
     let k = i + 1;
     sets[k] = stateset::union(sets[k], read.set);
-    let starts = stateset::intersection(near.set, t.g);
+    let starts = stateset::intersection(near.set, t.buffering);
     if starts == 0 {
         return read;
     }
@@ -119,7 +114,7 @@ fn pass_position(
     if last <= i {
         return read;
     }
-    copies_from(targets, t, rows, steps, word, ends, sets, i, near, last);
+    copies_from(t, memo, word, ends, sets, i, near, last);
     read
 }
 
@@ -130,45 +125,23 @@ pub fn start_at(initial: StateSet) -> Reached
     let mut sets: [StateSet; POSITIONS] = [0; POSITIONS];
     sets[0] = initial;
     Reached {
-        sets: sets,
+        sets,
         accepted: false,
     }
 }
 
 // Completes the sets of all positions of a word, from those at its start.
-pub fn reach_all(
-    targets: &[StateSet],
-    t: Shape,
-    rows: &mut [StateSet],
-    steps: &mut [u16],
-    word: &[u8],
-    sets: &mut [StateSet; POSITIONS],
-)
-    requires { Good targets.now t.states t.g t.h × Rooms targets.now t.states word.now × (length word.now ≤ 255) × Fitting 256 sets.old
-        × Kept (graph targets.now t.states t.g t.h) t.columns rows.old steps.old }
-    ensures { ((q : ℕ) → Stage (graph targets.now t.states t.g t.h) word.now q sets.old 0
-        → Stage (graph targets.now t.states t.g t.h) word.now q sets.new (length word.now + 1))
-        × Kept (graph targets.now t.states t.g t.h) t.columns rows.new steps.new }
+pub fn reach_all(t: &Targets, memo: &mut Memo, word: &[u8], sets: &mut [StateSet; POSITIONS])
+    requires { Rooms t.now.sets.now t.now.states word.now × (length word.now ≤ 255) × Fitting 256 sets.old
+        × Holds (graph_of t.now) memo.old }
+    ensures { ((q : ℕ) → Stage (graph_of t.now) word.now q sets.old 0
+        → Stage (graph_of t.now) word.now q sets.new (length word.now + 1))
+        × Holds (graph_of t.now) memo.new × SamePlaces memo.old memo.new }
 {
     let mut ends: [u8; POSITIONS] = [0; POSITIONS];
-    let mut hint = Subset { set: 0, row: 0 };
-    let mut i: usize = 0;
-    while i <= word.len() {
-        hint = pass_position(targets, t, rows, steps, word, &mut ends, sets, i, hint);
-        i += 1;
-    }
-}
-
-// What the functions on sets are told of a machine.
-pub fn shape_of(m: Machine, kinds: Kinds) -> Shape
-    requires { m.letters ≤ 250 }
-    ensures { result ≡ record { states = m.states; columns = m.letters + 2; g = kinds.buffering; h = kinds.matching } }
-{
-    Shape {
-        states: m.states,
-        columns: subsets::columns_for(m.letters),
-        g: kinds.buffering,
-        h: kinds.matching,
+    let mut hint = Subset::default();
+    for i in 0..=word.len() {
+        hint = pass_position(t, memo, word, &mut ends, sets, i, hint);
     }
 }
 
@@ -180,15 +153,21 @@ pub fn shape_of(m: Machine, kinds: Kinds) -> Shape
 // letter of its matching half, those not counted again that the square before it has read from the same states. Finding the squares
 // compares at most n² letters in all.
 // Memory: the 256 sets (2 KB) and 256 bytes.
-pub fn decide(m: Machine, list: &[u16], targets: &[StateSet], kinds: Kinds, word: &[u8]) -> Reached
-    requires { (well_formed m list.now ≡ true) × (length word.now ≤ 255) × Prepared m list.now word.now targets.now × KindsOf m.marks m.states kinds }
-    ensures { (result.accepted ≡ accepted m list.now word.now) × NormalSets m list.now word.now result.sets }
+pub fn decide(t: &Table, targets: &[StateSet], kinds: Kinds, word: &[u8]) -> Reached
+    requires { (length word.now ≤ 255) × Prepared t.now.machine t.now.list.now word.now targets.now × KindsOf t.now.machine.marks t.now.machine.states kinds }
+    ensures { (result.accepted ≡ accepted t.now.machine t.now.list.now word.now) × NormalSets t.now.machine t.now.list.now word.now result.sets }
 {
-    let t = shape_of(m, kinds);
+    let m = &t.machine;
     let mut rows: [StateSet; NO_ROWS] = [1; NO_ROWS];
     let mut steps: [u16; NO_ROWS] = [0; NO_ROWS];
+    let mut memo = Memo {
+        columns: subsets::columns_for(m.letters),
+        rows: &mut rows,
+        steps: &mut steps,
+    };
+    let moves = Targets::new(targets, m.states, kinds.buffering, kinds.matching);
     let mut r = start_at(kinds.initial);
-    reach_all(targets, t, &mut rows, &mut steps, word, &mut r.sets);
+    reach_all(&moves, &mut memo, word, &mut r.sets);
     let shared = stateset::intersection(r.sets[word.len()], kinds.finals);
     r.accepted = shared != 0;
     r
@@ -199,18 +178,13 @@ fn clear(sets: &mut [StateSet; POSITIONS], n: usize)
     requires { (n ≤ 255) × (length sets.old ≡ 256) }
     ensures { (length sets.new ≡ 256) × ((k : ℕ) → k ≤ n → get_or sets.new k 0 ≡ 0) × ((k : ℕ) → n < k → get_or sets.new k 0 ≡ get_or sets.old k 0) }
 {
-    let mut k: usize = 0;
-    while k <= n {
-        sets[k] = 0;
-        k += 1;
-    }
+    sets[..=n].fill(0);
 }
 
 // Whether a machine accepts a word, as decide, for one word of many: what the subset construction has found is kept in rows and steps for
 // the next, and the sets that are lent are empty before and after.
 pub fn decide_next(
-    m: Machine,
-    list: &[u16],
+    t: &Table,
     targets: &[StateSet],
     kinds: Kinds,
     rows: &mut [StateSet],
@@ -218,14 +192,20 @@ pub fn decide_next(
     sets: &mut [StateSet; POSITIONS],
     word: &[u8],
 ) -> bool
-    requires { (well_formed m list.now ≡ true) × (length word.now ≤ 255) × Prepared m list.now word.now targets.now × KindsOf m.marks m.states kinds
-        × Kept (graph targets.now m.states kinds.buffering kinds.matching) (m.letters + 2) rows.old steps.old × Empty sets.old }
-    ensures { (result ≡ accepted m list.now word.now)
-        × Kept (graph targets.now m.states kinds.buffering kinds.matching) (m.letters + 2) rows.new steps.new × Empty sets.new }
+    requires { (length word.now ≤ 255) × Prepared t.now.machine t.now.list.now word.now targets.now × KindsOf t.now.machine.marks t.now.machine.states kinds
+        × Kept (graph targets.now t.now.machine.states kinds.buffering kinds.matching) (t.now.machine.letters + 2) rows.old steps.old × Empty sets.old }
+    ensures { (result ≡ accepted t.now.machine t.now.list.now word.now)
+        × Kept (graph targets.now t.now.machine.states kinds.buffering kinds.matching) (t.now.machine.letters + 2) rows.new steps.new × Empty sets.new }
 {
-    let t = shape_of(m, kinds);
+    let m = &t.machine;
+    let mut memo = Memo {
+        columns: subsets::columns_for(m.letters),
+        rows,
+        steps,
+    };
+    let moves = Targets::new(targets, m.states, kinds.buffering, kinds.matching);
     sets[0] = kinds.initial;
-    reach_all(targets, t, rows, steps, word, sets);
+    reach_all(&moves, &mut memo, word, sets);
     let shared = stateset::intersection(sets[word.len()], kinds.finals);
     clear(sets, word.len());
     shared != 0

@@ -11,24 +11,12 @@ fn run_end(word: &[u8], d: usize, q: usize, stop: usize) -> usize
     requires { (d ≤ q) × (q ≤ stop) × (stop ≤ length word.now) }
     ensures { RunEnd word.now d q stop result }
 {
-    let mut r = q;
-    while r < stop {
+    for r in q..stop {
         if word[r] != word[r - d] {
             return r;
         }
-        r += 1;
     }
-    r
-}
-
-// The larger number.
-fn later(a: usize, b: usize) -> usize
-    ensures { (a ≤ result) × (b ≤ result) × ((result ≡ a) ⊎ (result ≡ b)) }
-{
-    if a < b {
-        return b;
-    }
-    a
+    stop
 }
 
 // A position up to which the letters from q on repeat those d positions before them; where it is before stop, the letter there does not. It
@@ -37,11 +25,11 @@ fn known_end(word: &[u8], ends: &mut [u8; POSITIONS], d: usize, q: usize, stop: 
     requires { (0 < d) × (d ≤ q) × (q ≤ stop) × (stop ≤ length word.now) × (length word.now ≤ 255) × RepeatEndsAt word.now ends.old d q }
     ensures { Ended word.now ends.old ends.new d q stop result }
 {
-    let e = ends[d] as usize;
+    let e = usize::from(ends[d]);
     if stop <= e {
         return e;
     }
-    let r = run_end(word, d, later(q, e), stop);
+    let r = run_end(word, d, q.max(e), stop);
     ends[d] = r as u8;
     r
 }
@@ -52,11 +40,7 @@ fn is_square(word: &[u8], ends: &mut [u8; POSITIONS], i: usize, j: usize) -> boo
     ensures { Squared word.now ends.old ends.new i j result }
 {
     let d = j - i;
-    let e = known_end(word, ends, d, j, j + d);
-    if j + d <= e {
-        return true;
-    }
-    false
+    j + d <= known_end(word, ends, d, j, j + d)
 }
 
 // The end of the first half of the longest square that starts at i; i where there is none.
@@ -64,14 +48,13 @@ pub fn last_square(word: &[u8], ends: &mut [u8; POSITIONS], i: usize) -> usize
     requires { (i ≤ length word.now) × (length word.now ≤ 255) × RepeatEnds word.now ends.old (λ d. i + d) }
     ensures { RepeatEnds word.now ends.new (λ d. i + d) × LastSquare word.now i result }
 {
-    let mut j = i + (word.len() - i) / 2;
-    while i < j {
+    let most = i + (word.len() - i) / 2;
+    for j in (i + 1..most + 1).rev() {
         if is_square(word, ends, i, j) {
             return j;
         }
-        j -= 1;
     }
-    j
+    i
 }
 
 // The states of s with which storing ends at j, where the letters from i up to j stand once more from j on.
@@ -91,7 +74,8 @@ pub fn turning(
         return 0;
     }
     if is_square(word, ends, i, j) {
-        return ready;
+        ready
+    } else {
+        0
     }
-    0
 }

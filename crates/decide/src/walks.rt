@@ -2,47 +2,36 @@
 ghost use Rattle.std.specs.Prelude.{ℕ, ◌≤◌, ◌≡◌, length};
 ghost use Rattle.stateset.specs.Set.{In};
 ghost use Rattle.fsbm.specs.declared.config.Mode.TheVariants.{Emptying};
-ghost use Rattle.images.specs.Graph.{Members, From, graph, Good};
-ghost use Rattle.subsets.specs.Rows.{Kept};
+ghost use Rattle.images.specs.Graph.{Members, From};
+ghost use Rattle.images.specs.Moves.{graph_of};
+ghost use Rattle.subsets.specs.Memo.{Holds, SamePlaces};
 ghost use Rattle.decide.specs.Reach.{Rooms, Walk, Tailed};
 
 use fsbm::config::Mode;
+use images::Targets;
 use stateset::StateSet;
-use subsets::{Shape, Subset};
+use subsets::{Memo, Subset};
 
 // The states that the letters of a word from k up to j lead to in emptying mode from the states of a set that is closed under epsilon
 // moves, with epsilon moves between and after them: what walks up to k reach goes on to what they reach up to j.
-fn walk_on(
-    targets: &[StateSet],
-    t: Shape,
-    rows: &mut [StateSet],
-    steps: &mut [u16],
-    word: &[u8],
-    k: usize,
-    j: usize,
-    s: Subset,
-) -> Subset
-    requires { Good targets.now t.states t.g t.h × Rooms targets.now t.states word.now × (k ≤ j) × (j ≤ length word.now)
-        × Kept (graph targets.now t.states t.g t.h) t.columns rows.old steps.old }
-    ensures { ((i set : ℕ) → i ≤ k → Members s.set (From set (λ p q. Walk (graph targets.now t.states t.g t.h) word.now Emptying i p k q))
-        → Members result.set (From set (λ p q. Walk (graph targets.now t.states t.g t.h) word.now Emptying i p j q)))
-        × Kept (graph targets.now t.states t.g t.h) t.columns rows.new steps.new }
+fn walk_on(t: &Targets, memo: &mut Memo, word: &[u8], k: usize, j: usize, s: Subset) -> Subset
+    requires { Rooms t.now.sets.now t.now.states word.now × (k ≤ j) × (j ≤ length word.now) × Holds (graph_of t.now) memo.old }
+    ensures { ((i set : ℕ) → i ≤ k → Members s.set (From set (λ p q. Walk (graph_of t.now) word.now Emptying i p k q))
+        → Members result.set (From set (λ p q. Walk (graph_of t.now) word.now Emptying i p j q)))
+        × Holds (graph_of t.now) memo.new × SamePlaces memo.old memo.new }
 {
     let mut near = s;
-    let mut at = k;
-    while at < j {
+    for at in k..j {
         if near.set == 0 {
             return near;
         }
-        let x = word[at];
-        near = subsets::read(targets, t, rows, steps, Mode::Emptying, near, x);
-        at += 1;
+        near = memo.read(t, Mode::Emptying, near, word[at]);
     }
     near
 }
 
 // The matching half of copies that were followed last: from the states of ready the letters up to position lead to the states of reached.
-#[derive(Clone, Copy)]
+#[derive(Clone, Copy, Debug, PartialEq, Eq)]
 pub struct Tail {
     pub ready: StateSet,
     pub position: usize,
@@ -52,10 +41,8 @@ pub struct Tail {
 // The states that the letters of a word from i up to j lead to in emptying mode from the matching states of s, which are ready. Where the
 // last walk began in the same states it goes on from there, else the walk begins at i.
 pub fn tail_to(
-    targets: &[StateSet],
-    t: Shape,
-    rows: &mut [StateSet],
-    steps: &mut [u16],
+    t: &Targets,
+    memo: &mut Memo,
     word: &[u8],
     i: usize,
     j: usize,
@@ -63,25 +50,24 @@ pub fn tail_to(
     ready: StateSet,
     tail: Tail,
 ) -> Tail
-    requires { Good targets.now t.states t.g t.h × Rooms targets.now t.states word.now × Tailed (graph targets.now t.states t.g t.h) word.now i tail
-        × (tail.position ≤ j) × (j ≤ length word.now) × Members ready (λ q. In s.set q × In t.h q)
-        × Kept (graph targets.now t.states t.g t.h) t.columns rows.old steps.old }
-    ensures { Tailed (graph targets.now t.states t.g t.h) word.now i result × (result.ready ≡ ready) × (result.position ≡ j)
-        × Kept (graph targets.now t.states t.g t.h) t.columns rows.new steps.new }
+    requires { Rooms t.now.sets.now t.now.states word.now × Tailed (graph_of t.now) word.now i tail
+        × (tail.position ≤ j) × (j ≤ length word.now) × Members ready (λ q. In s.set q × In t.now.matching q)
+        × Holds (graph_of t.now) memo.old }
+    ensures { Tailed (graph_of t.now) word.now i result × (result.ready ≡ ready) × (result.position ≡ j)
+        × Holds (graph_of t.now) memo.new × SamePlaces memo.old memo.new }
 {
     if tail.ready == ready {
-        let so_far = tail.reached;
-        let on = walk_on(targets, t, rows, steps, word, tail.position, j, so_far);
+        let on = walk_on(t, memo, word, tail.position, j, tail.reached);
         return Tail {
-            ready: ready,
+            ready,
             position: j,
             reached: on,
         };
     }
-    let near = subsets::begin(targets, t, rows, steps, Mode::Emptying, s);
-    let anew = walk_on(targets, t, rows, steps, word, i, j, near);
+    let near = memo.begin(t, Mode::Emptying, s);
+    let anew = walk_on(t, memo, word, i, j, near);
     Tail {
-        ready: ready,
+        ready,
         position: j,
         reached: anew,
     }

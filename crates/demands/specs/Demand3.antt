@@ -10,15 +10,15 @@ use Rattle.std.specs.Prelude.{◌≡◌, List, ℕ, length}
 use Rattle.fsbm.specs.declared.machine.Machine.{Machine}
 use Rattle.product.specs.Product.{join_fault}
 use Rattle.common.specs.declared.Lengths.{Lengths}
-use Rattle.common.specs.declared.Common.{Common}
-use Rattle.common.specs.declared.Common.TheVariants.{Found}
+use Rattle.std.specs.Prelude.{Option, Some, Result, Ok}
+use Rattle.fsbm.specs.declared.answer.Refusal.{Refusal}
 use Rattle.common.specs.Common.{CommonWord}
 use Rattle.common.specs.Demand.{BothAccept, BothPublished, Demand}
 use Rattle.common.proofs.DemandLaws.{demand_runs, demand_published, unchanged}
 
-module _ (m₁ : Machine) (l₁ : List ℕ) (m₂ : Machine) (l₂ : List ℕ) (word word' first first' second second' : List ℕ) (r : Common)
+module _ (m₁ : Machine) (l₁ : List ℕ) (m₂ : Machine) (l₂ : List ℕ) (word word' first first' second second' : List ℕ) (r : Result (Option Lengths) Refusal)
     (contract : CommonWord m₁ l₁ m₂ l₂ word word' first first' second second' r) where
-  pub nothing_written : ((k : Lengths) → r ≡ Found k → ⊥) → (word' ≡ word) × (first' ≡ first) × (second' ≡ second)
+  pub nothing_written : ((k : Lengths) → r ≡ Ok (Some k) → ⊥) → (word' ≡ word) × (first' ≡ first) × (second' ≡ second)
   nothing_written h = unchanged contract h
 
   module _ (not_refused : join_fault m₁ l₁ m₂ l₂ ≡ 0) where

@@ -7,7 +7,7 @@
 -- loaded_good      == the record of a text that loads is good
 -- good_loads       == a good record of 256 letters is loaded from its text
 use Prim.Native.Nat.{ℕ, zero, suc, ◌*◌, ◌<◌, ◌≤◌}
-use Rattle.std.specs.Prelude.{◌≡◌, refl, ◌⊎◌, ◌↔◌, Bool, true, false, ◌&&◌, length, get_or, drop, leb, eqb}
+use Rattle.std.specs.Prelude.{◌≡◌, refl, ◌⊎◌, ◌↔◌, Bool, true, false, ◌&&◌, length, get_or, drop, leb, eqb, Ok}
 use Rattle.std.proofs.Math.Path.{sym, ap, subst}
 use Rattle.std.proofs.Common.{◌∙◌, inl, inr}
 use mathlib.Core.List.{List, [], ◌∷◌, ◌++◌, append-nil}
@@ -22,7 +22,7 @@ use Rattle.basics.specs.Search.{all_below}
 use Rattle.basics.specs.Search.Laws.{true_or_false, and_true, and_both_true, all_below_true}
 use Rattle.columns.specs.Line.{line_of}
 use Rattle.columns.specs.Line.Laws.{line_length}
-use Rattle.fsbm.specs.Answers.{refusal}
+use Rattle.fsbm.specs.Answers.Laws.{unless_done}
 use Rattle.sheet.specs.Series.{first_of}
 use Rattle.sheet.specs.Series.Laws.{or_zero, first_zero}
 use Rattle.sheet.specs.Reading.{unless, column_at, line_fault}
@@ -31,7 +31,7 @@ use Rattle.sheet_laws.specs.Filled.{filled}
 use Rattle.sheet_laws.proofs.Lines.{line_kept, line_number, line_good}
 use Rattle.letters.specs.Alphabet.{byte_values, max_lines, letter_in, largest_of, gapless, lettered, good_alphabet}
 use Rattle.letters.specs.Alphabet.Laws.{letter_in_lem, letters_at_lem, letters_list, largest_bound, largest_same, lettered_same, gapless_same, gapless_true, gapless_few}
-use Rattle.letters.specs.Loading.{byte_at, letter_at, lines_begun, entry_fault, letters_run, load_fault, last_of, letter_of, alphabet_of, no_alphabet, load_answer}
+use Rattle.letters.specs.Loading.{byte_at, letter_at, lines_begun, entry_fault, letters_run, load_fault, last_of, letter_of, alphabet_of, load_answer}
 use Rattle.letters.specs.Loading.Laws.{last_none, last_named, largest_last, gapless_last, lettered_last, Apart, entry_none, lines_begun_lem, entries_apart, entries_below, entries_few}
 use Rattle.letters.specs.declared.alphabet.Alphabet.{Alphabet}
 
@@ -310,8 +310,6 @@ module _ (a : Alphabet) (long : length a.letters ≡ byte_values) (good : good_a
       (sym (letters_list a.letters (last_of (byte_at T) (letter_at T) n) long (λ v h. sym (letter_in_lem a.letters v h) ∙ sym (letters_are v h))))
       ∙ ap (λ (c : ℕ). record { letters = a.letters; count = c }) count_is)
 
-  pub good_loads : load_answer T ≡ record { refusal = refusal 0; alphabet = a }
+  pub good_loads : load_answer T ≡ Ok a
   unfolding load_answer
-  good_loads =
-      ap (λ (z : ℕ). record { refusal = refusal z; alphabet = cond (eqb z 0) (alphabet_of T) no_alphabet }) loads
-      ∙ ap (λ (x : Alphabet). record { refusal = refusal 0; alphabet = x }) is
+  good_loads = sym (unless_done _ _ loads) ∙ ap (λ (x : Alphabet). Ok x) is

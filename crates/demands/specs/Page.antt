@@ -22,7 +22,7 @@
 -- 3. Plain letters and twice the stored letters always make the length:
 -- page_adds        == the first number of the last line and times_read (2) times the second make the third
 -- stored_as_listed == the second is the total that list_copies answers for the same run
-use Rattle.std.specs.Prelude.{ℕ, ◌+◌, ◌*◌, ◌≤◌, ◌<◌, ◌≡◌, ◌↔◌, ◌⊎◌, true, false, List, ◌∷◌, ◌++◌, length, get_or, take, drop, leb, eqb}
+use Rattle.std.specs.Prelude.{ℕ, ◌+◌, ◌*◌, ◌≤◌, ◌<◌, ◌≡◌, ◌↔◌, ◌⊎◌, true, false, List, ◌∷◌, ◌++◌, length, get_or, take, drop, leb, eqb, Result, Ok, Err}
 use Rattle.std.proofs.Common.{sym, ◌∙◌, ap, inl, inr, arith, drop-drop, get_or-drop, leb-true, leb-false, eqb-true}
 use Rattle.std.proofs.lemmas.Bool.{eqb-false}
 use Rattle.basics.specs.Search.Laws.{true_or_false}
@@ -35,17 +35,16 @@ use Rattle.fsbm.specs.Rules.{rules}
 use Rattle.fsbm.specs.Moves.{mode_number, accepting}
 use Rattle.fsbm.specs.Moves.Laws.{mode_below}
 use Rattle.fsbm.specs.Answers.{good_letters, refusal}
+use Rattle.fsbm.specs.Answers.Laws.{not_both}
 use Rattle.fsbm.specs.declared.machine.Machine.{Machine}
+use Rattle.fsbm.specs.declared.answer.Refusal.{Refusal}
+use Rattle.fsbm.specs.declared.answer.Refusal.TheVariants.{AbsentLetter, TooLong, NotAccepting, BadTable, ShortSheet}
 use Rattle.copies.specs.Letters.{times_read, in_buffer, plain_letters, stored_letters}
 use Rattle.copies.specs.Letters.Laws.{plain_and_stored}
 use Rattle.copies.specs.Copies.{copies_answer, copies_after}
 use Rattle.copies.specs.Copies.Laws.{stored_total}
 use Rattle.copies.specs.declared.Copied.{Copied}
-use Rattle.copies.specs.declared.Copied.TheVariants.{Listed}
 use Rattle.sheet.specs.Format.{sheet_column}
-use Rattle.sheet.specs.Writing.{written_values}
-use Rattle.sheet.specs.declared.answers.Written.{Written}
-use Rattle.sheet.specs.declared.answers.Written.TheVariants.{Refused, Bytes}
 use Rattle.page.specs.Page.{longest_word, longest_run, page_column, after_entry, entry_numbers, last_numbers, page_of, page_length, page_fault, page_answer, page_after}
 use Rattle.page.specs.Page.Laws.{fault_table, fault_length, fault_letter, fault_none, Leaves, refused_first, refused_run, refused_room, written_all, reached, entry_at, last_at}
 use Rattle.demands.specs.EmptyCopies.{total_from_last}
@@ -64,68 +63,66 @@ module _ (slice ns tail : List ℕ) (at : ℕ) (is : drop at slice ≡ line_of p
   line_ended : get_or slice (at + 6 * length ns) 0 ≡ 10
   line_ended = sym (get_or-drop at slice (6 * length ns) 0) ∙ (ap (λ (l : List ℕ). get_or l (6 * length ns) 0) is ∙ line_end 6 ns tail)
 
-module _ (m : Machine) (list w run entry exit : List ℕ) (r : Written)
+module _ (m : Machine) (list w run entry exit : List ℕ) (r : Result ℕ Refusal)
     (contract : (r ≡ page_answer m list w run (length entry)) × (exit ≡ page_after m list w run entry)) where
-  by : {x : Written} {l : List ℕ} → Leaves m list w run entry x l → (r ≡ x) × (exit ≡ l)
+  by : {x : Result ℕ Refusal} {l : List ℕ} → Leaves m list w run entry x l → (r ≡ x) × (exit ≡ l)
   by (a, s) = (contract.0 ∙ sym a, contract.1 ∙ sym s)
 
   -- 1. The six cases
 
-  some_fault : (n : ℕ) → n ≡ page_fault m list w run → (n ≡ 0 → ⊥) → (r ≡ Refused (refusal n)) × (exit ≡ entry)
+  some_fault : (n : ℕ) → n ≡ page_fault m list w run → (n ≡ 0 → ⊥) → (r ≡ Err (refusal n)) × (exit ≡ entry)
   some_fault n is some =
       let (a, s) = by (refused_first m list w run entry (λ (z : page_fault m list w run ≡ 0). some (is ∙ z))) in
-      (a ∙ ap (λ (k : ℕ). Refused (refusal k)) (sym is), s)
+      (a ∙ ap (λ (k : ℕ). Err (refusal k)) (sym is), s)
 
-  pub table_refused : well_formed m list ≡ false → (r ≡ Refused (refusal 16)) × (exit ≡ entry)
+  pub table_refused : well_formed m list ≡ false → (r ≡ Err BadTable) × (exit ≡ entry)
+  unfolding refusal
   table_refused h = some_fault 16 (fault_table m list w run h) (λ (z : ◌≡◌ {A = ℕ} 16 0). omega arith)
 
   module _ (good : well_formed m list ≡ true) where
-    pub length_refused : (longest_word < length w) ⊎ (longest_run < length run) → (r ≡ Refused (refusal 9)) × (exit ≡ entry)
+    pub length_refused : (longest_word < length w) ⊎ (longest_run < length run) → (r ≡ Err TooLong) × (exit ≡ entry)
+    unfolding refusal
     length_refused h = some_fault 9 (fault_length m list w run good h) (λ (z : ◌≡◌ {A = ℕ} 9 0). omega arith)
 
     module _ (word_fits : length w ≤ longest_word) (run_fits : length run ≤ longest_run) where
-      pub letter_refused : good_letters m.letters w ≡ false → (r ≡ Refused (refusal 8)) × (exit ≡ entry)
+      pub letter_refused : good_letters m.letters w ≡ false → (r ≡ Err AbsentLetter) × (exit ≡ entry)
+      unfolding refusal
       letter_refused h = some_fault 8 (fault_letter m list w run good word_fits run_fits h) (λ (z : ◌≡◌ {A = ℕ} 8 0). omega arith)
 
       module _ (letters : good_letters m.letters w ≡ true) where
         passes : page_fault m list w run ≡ 0
         passes = (fault_none m list w run).1 (good, word_fits, run_fits, letters)
 
-        pub run_refused : accepting m list w run ≡ false → (r ≡ Refused (refusal 14)) × (exit ≡ entry)
+        pub run_refused : accepting m list w run ≡ false → (r ≡ Err NotAccepting) × (exit ≡ entry)
         run_refused h = by (refused_run m list w run entry passes h)
 
         module _ (accepts : accepting m list w run ≡ true) where
-          pub slice_refused : length entry < page_length (length run) → (r ≡ Refused (record { number = 19; needed = page_length (length run) })) × (exit ≡ entry)
+          pub slice_refused : length entry < page_length (length run) → (r ≡ Err (ShortSheet (page_length (length run)))) × (exit ≡ entry)
           slice_refused h = by (refused_room m list w run entry passes accepts h)
 
-          pub page_written : page_length (length run) ≤ length entry → (r ≡ Bytes (page_length (length run))) × (exit ≡ page_of m list w run ++ drop (page_length (length run)) entry)
+          pub page_written : page_length (length run) ≤ length entry → (r ≡ Ok (page_length (length run))) × (exit ≡ page_of m list w run ++ drop (page_length (length run)) entry)
           page_written h = by (written_all m list w run entry passes accepts h)
 
   -- an answer with a page
 
-  module _ (bytes : ℕ) (answer : r ≡ Bytes bytes) where
-    not_refused : (k needed : ℕ) → r ≡ Refused (record { number = k; needed = needed }) → k ≡ 0
-    not_refused k needed e = ap (λ (z : Written). (written_values z).refusal) (sym e ∙ answer)
-
+  module _ (bytes : ℕ) (answer : r ≡ Ok bytes) where
     tested : (eqb (page_fault m list w run) 0 ≡ true) ⊎ (eqb (page_fault m list w run) 0 ≡ false) → page_fault m list w run ≡ 0
     tested (inl t) = eqb-true (page_fault m list w run) 0 t
-    tested (inr f) = not_refused (page_fault m list w run) 0 (by (refused_first m list w run entry (eqb-false (page_fault m list w run) 0 f))).0
+    tested (inr f) = absurd (not_both answer (by (refused_first m list w run entry (eqb-false (page_fault m list w run) 0 f))).0)
 
     fine : page_fault m list w run ≡ 0
     fine = tested (true_or_false (eqb (page_fault m list w run) 0))
 
     followed : (accepting m list w run ≡ true) ⊎ (accepting m list w run ≡ false) → accepting m list w run ≡ true
     followed (inl t) = t
-    followed (inr f) = let z : ◌≡◌ {A = ℕ} 14 0 = not_refused 14 0 (by (refused_run m list w run entry fine f)).0 in absurd (omega arith)
+    followed (inr f) = absurd (not_both answer (by (refused_run m list w run entry fine f)).0)
 
     accepts : accepting m list w run ≡ true
     accepts = followed (true_or_false (accepting m list w run))
 
     fitted : (leb (page_length (length run)) (length entry) ≡ true) ⊎ (leb (page_length (length run)) (length entry) ≡ false) → page_length (length run) ≤ length entry
     fitted (inl t) = leb-true (page_length (length run)) (length entry) t
-    fitted (inr f) =
-        let z : ◌≡◌ {A = ℕ} 19 0 = not_refused 19 (page_length (length run)) (by (refused_room m list w run entry fine accepts (leb-false (page_length (length run)) (length entry) f))).0 in
-        absurd (omega arith)
+    fitted (inr f) = absurd (not_both answer (by (refused_room m list w run entry fine accepts (leb-false (page_length (length run)) (length entry) f))).0)
 
     room : page_length (length run) ≤ length entry
     room = fitted (true_or_false (leb (page_length (length run)) (length entry)))
@@ -228,12 +225,12 @@ module _ (m : Machine) (list w run entry exit : List ℕ) (r : Written)
         let adds = plain_and_stored m list w run accepts in
         omega arith
 
-    pub stored_as_listed : (slice after : List ℕ) (a : Copied) → (a ≡ copies_answer m list w run (length slice)) × (after ≡ copies_after m list w run slice) → (n total : ℕ) → a ≡ Listed n total
+    pub stored_as_listed : (slice after : List ℕ) (a : Result Copied Refusal) → (a ≡ copies_answer m list w run (length slice)) × (after ≡ copies_after m list w run slice) → (n total : ℕ) → a ≡ Ok (record { copies = n; total = total })
         → number_at page_column exit (31 * length run + 6) ≡ total
     stored_as_listed slice after a kept n total listed =
         last_shown.1 ∙ (stored_total m list w run good accepts ∙ sym (total_from_last m list w run slice after a kept n total listed))
 
-  pub page_iff : ((bytes : ℕ) × (r ≡ Bytes bytes))
+  pub page_iff : ((bytes : ℕ) × (r ≡ Ok bytes))
       ↔ ((well_formed m list ≡ true) × (length w ≤ longest_word) × (length run ≤ longest_run) × (good_letters m.letters w ≡ true) × (accepting m list w run ≡ true)
       × (page_length (length run) ≤ length entry))
   page_iff = (

@@ -23,83 +23,79 @@
 --
 -- The listing answers by accepts too: listed_by_accepts in lines/specs/Line/Laws.antt.
 use Prim.Native.Nat.{ℕ, ◌≤◌, ◌<◌}
-use Rattle.std.specs.Prelude.{◌≡◌, refl, ◌↔◌, ◌⊎◌, Bool, cond, List, ◌++◌, length, get_or, drop, leb}
+use Rattle.std.specs.Prelude.{◌≡◌, refl, ◌↔◌, ◌⊎◌, Bool, cond, List, ◌++◌, length, get_or, drop, leb, Option, None, Some, Result, Ok, Err}
 use Rattle.std.proofs.Math.Path.{sym}
 use Rattle.std.proofs.Common.{◌∙◌, ap, arith, length-append, length-drop, drop_at}
 use Rattle.std.proofs.Math.Logic.{inl, inr}
 use Rattle.std.proofs.Math.Logic.Iff
 use Rattle.std.proofs.Math.Bool.{true, false}
 use Rattle.std.proofs.Math.ListN.{get_or-append}
-use Rattle.std.proofs.Math.Dec.{eqb}
-use borrow.Author.Tests.{ne_eqb, leb-true, leb-false}
+use borrow.Author.Tests.{leb-true, leb-false}
 use Rattle.basics.specs.Bools.{is_first, is_second}
 use Rattle.basics.specs.Lists.{put}
 use Rattle.basics.specs.Lists.Laws.{put_zero}
 use Rattle.basics.specs.Search.Laws.{true_or_false}
-use Rattle.basics.specs.Search.Loops.{second}
 use Rattle.fsbm.specs.Machine.{well_formed}
 use Rattle.fsbm.specs.Published.{fsbm_of, InLanguage}
 use Rattle.fsbm.specs.Accepted.{run_bound, accepted}
-use Rattle.fsbm.specs.Answers.{longest_recognized, good_letters, table_and_word, refusal}
+use Rattle.fsbm.specs.Answers.{longest_recognized, good_letters, table_and_word, refusal, count_values}
+use Rattle.fsbm.specs.Answers.Laws.{unless_refused, unless_done, unless_ok, unless_err, not_both}
 use Rattle.fsbm.specs.declared.machine.Machine.{Machine}
 use Rattle.fsbm.specs.declared.answer.Refusal.{Refusal}
+use Rattle.fsbm.specs.declared.answer.Refusal.TheVariants.{AbsentLetter, TooLong, BadTable, BadEnds, ShortAnswers}
 use Rattle.fsbm.proofs.AnswerCases.{table_good}
 use Rattle.language.specs.Bound.{accepted_iff_published, accepted_not_published}
-use Rattle.accepts.specs.Decision.{decided_by, decision, decided_values}
-use Rattle.accepts.specs.Words.{start_of, word_at, good_ends, answer_byte, answers_from, words_answer, words_after, answered_values}
+use Rattle.accepts.specs.Decision.{decision}
+use Rattle.accepts.specs.Words.{start_of, word_at, good_ends, answer_byte, answers_from, words_answer, words_after}
 use Rattle.accepts.specs.Words.Laws.{answers_count, answers_at, good_ends_lem}
-use Rattle.accepts.specs.declared.prepared.Decided.{Decided}
-use Rattle.accepts.specs.declared.prepared.Decided.TheVariants.{Refused, No, Yes}
-use Rattle.accepts.specs.declared.words.Answered.{Answered}
-use Rattle.accepts.specs.declared.words.Answered.TheVariants as answered
-use Rattle.accepts.proofs.DecisionCases as cases
 use Rattle.accepts.proofs.WordsCases as words
 use Rattle.recognize.specs.Recognition.{recognition, Recognition}
-use Rattle.recognize.specs.declared.Recognized.{Recognized}
-use Rattle.recognize.specs.declared.Recognized.TheVariants as recognized
 use Rattle.demands.specs.Demand2 as demand2
 
 -- 1. accepts
 
-yes_not_no : Yes ≡ No → ⊥
-yes_not_no e = let z = ap (λ (d : Decided). (decided_values d).accepted) e in omega arith
+module _ (m : Machine) (list w : List ℕ) (d : Result Bool Refusal) (contract : d ≡ decision m list w) where
+  refused_as : (table_and_word longest_recognized m list w ≡ 0 → ⊥) → d ≡ Err (refusal (table_and_word longest_recognized m list w))
+  unfolding decision
+  refused_as h = contract ∙ sym (unless_refused (table_and_word longest_recognized m list w) (Ok (accepted m list w)) h)
 
-module _ (m : Machine) (list w : List ℕ) (d : Decided) (contract : d ≡ decision m list w) where
-  refused_as : (table_and_word longest_recognized m list w ≡ 0 → ⊥) → d ≡ Refused (refusal (table_and_word longest_recognized m list w))
-  refused_as h = contract ∙ sym (cases.refused m list w (table_and_word longest_recognized m list w) refl h)
-
-  decided_as : table_and_word longest_recognized m list w ≡ 0 → d ≡ decided_by (accepted m list w)
-  decided_as h = contract ∙ sym (cases.decided m list w (table_and_word longest_recognized m list w) refl h (accepted m list w) refl)
+  decided_as : table_and_word longest_recognized m list w ≡ 0 → d ≡ Ok (accepted m list w)
+  unfolding decision
+  decided_as h = contract ∙ sym (unless_done (table_and_word longest_recognized m list w) (Ok (accepted m list w)) h)
 
   -- a table and a word that pass 16, 9 and 8
   module _ (not_refused : table_and_word longest_recognized m list w ≡ 0) where
     obeys : well_formed m list ≡ true
     obeys = (table_good longest_recognized m list w not_refused).0
 
-    pub yes_iff_published : (d ≡ Yes) ↔ InLanguage (fsbm_of m list) w
-    yes_iff_published = Iff.trans (is_first yes_not_no (accepted m list w) (decided_as not_refused)) (accepted_iff_published m list w obeys)
+    says : (b : Bool) → (d ≡ Ok b) ↔ (accepted m list w ≡ b)
+    unfolding decision
+    says b = (
+      λ h. sym (unless_ok (table_and_word longest_recognized m list w) (accepted m list w) (sym h ∙ contract)).1,
+      λ h. decided_as not_refused ∙ ap (λ (x : Bool). Ok x) h,
+    )
 
-    pub no_iff_published : (d ≡ No) ↔ (InLanguage (fsbm_of m list) w → ⊥)
-    no_iff_published = Iff.trans (is_second yes_not_no (accepted m list w) (decided_as not_refused)) (accepted_not_published m list w obeys)
+    pub yes_iff_published : (d ≡ Ok true) ↔ InLanguage (fsbm_of m list) w
+    yes_iff_published = Iff.trans (says true) (accepted_iff_published m list w obeys)
 
-  some_refusal : (f : Refusal) → d ≡ Refused f → table_and_word longest_recognized m list w ≡ 0 → ⊥
-  some_refusal f e h = at (accepted m list w) (decided_as h)
-    where
-      at : (b : Bool) → d ≡ decided_by b → ⊥
-      at true e' = let z : ◌≡◌ {A = ℕ} 0 1 = cc in omega arith
-      at false e' = let z : ◌≡◌ {A = ℕ} 0 1 = cc in omega arith
+    pub no_iff_published : (d ≡ Ok false) ↔ (InLanguage (fsbm_of m list) w → ⊥)
+    no_iff_published = Iff.trans (says false) (accepted_not_published m list w obeys)
 
-  pub refused_iff : ((f : Refusal) × (d ≡ Refused f)) ↔ (table_and_word longest_recognized m list w ≡ 0 → ⊥)
-  refused_iff = (λ s. some_refusal s.0 s.1, λ h. (refusal (table_and_word longest_recognized m list w), refused_as h))
+  some_refusal : (f : Refusal) → d ≡ Err f → (table_and_word longest_recognized m list w ≡ 0 → ⊥) × (f ≡ refusal (table_and_word longest_recognized m list w))
+  unfolding decision
+  some_refusal f e = unless_err (table_and_word longest_recognized m list w) (accepted m list w) (sym e ∙ contract)
 
-  pub refused_by : (f : Refusal) → d ≡ Refused f → (f ≡ refusal 16) ⊎ (f ≡ refusal 9) ⊎ (f ≡ refusal 8)
-  unfolding table_and_word
+  pub refused_iff : ((f : Refusal) × (d ≡ Err f)) ↔ (table_and_word longest_recognized m list w ≡ 0 → ⊥)
+  refused_iff = (λ s. (some_refusal s.0 s.1).0, λ h. (refusal (table_and_word longest_recognized m list w), refused_as h))
+
+  pub refused_by : (f : Refusal) → d ≡ Err f → (f ≡ BadTable) ⊎ (f ≡ TooLong) ⊎ (f ≡ AbsentLetter)
+  unfolding table_and_word refusal
   refused_by f e =
-      at (well_formed m list) (leb (length w) longest_recognized) (good_letters m.letters w) (some_refusal f e)
-      (let e' = refused_as (some_refusal f e) in cc)
+      let (n, is) = some_refusal f e in
+      at (well_formed m list) (leb (length w) longest_recognized) (good_letters m.letters w) n is
     where
       at : (a b c : Bool) → (◌≡◌ {A = ℕ} (cond a (cond b (cond c 0 8) 9) 16) 0 → ⊥)
-          → f ≡ refusal (cond a (cond b (cond c 0 8) 9) 16) → (f ≡ refusal 16) ⊎ (f ≡ refusal 9) ⊎ (f ≡ refusal 8)
+          → f ≡ refusal (cond a (cond b (cond c 0 8) 9) 16) → (f ≡ BadTable) ⊎ (f ≡ TooLong) ⊎ (f ≡ AbsentLetter)
       at true true true n e = absurd (n refl)
       at true true false n e = inr (inr e)
       at true false c n e = inr (inl e)
@@ -107,43 +103,38 @@ module _ (m : Machine) (list w : List ℕ) (d : Decided) (contract : d ≡ decis
 
 -- 2. accepts and recognize
 
-module _ (m : Machine) (list w before after : List ℕ) (r : Recognized) (wrote : Recognition m list w before after r) (d : Decided) (contract : d ≡ decision m list w) where
+module _ (m : Machine) (list w before after : List ℕ) (r : Result (Option ℕ) Refusal) (wrote : Recognition m list w before after r) (d : Result Bool Refusal) (contract : d ≡ decision m list w) where
   module _ (not_refused : table_and_word longest_recognized m list w ≡ 0) (long_enough : run_bound m (length w) ≤ length before) where
-    pub both_yes : ((k : ℕ) × (r ≡ recognized.Yes k)) ↔ (d ≡ Yes)
+    pub both_yes : ((k : ℕ) × (r ≡ Ok (Some k))) ↔ (d ≡ Ok true)
     both_yes =
         Iff.trans (demand2.yes_iff_published m list w before after r wrote not_refused long_enough) (Iff.symm (yes_iff_published m list w d contract not_refused))
 
-    pub both_no : (r ≡ recognized.No) ↔ (d ≡ No)
+    pub both_no : (r ≡ Ok None) ↔ (d ≡ Ok false)
     both_no = Iff.trans (demand2.no_iff_published m list w before after r wrote not_refused long_enough) (Iff.symm (no_iff_published m list w d contract not_refused))
 
-  pub both_refuse : (table_and_word longest_recognized m list w ≡ 0 → ⊥) → (f : Refusal) → (r ≡ recognized.Refused f) ↔ (d ≡ Refused f)
+  pub both_refuse : (table_and_word longest_recognized m list w ≡ 0 → ⊥) → (f : Refusal) → (r ≡ Err f) ↔ (d ≡ Err f)
   unfolding recognition
   both_refuse h f =
       let n : ℕ = table_and_word longest_recognized m list w in
-      let t : eqb n 0 ≡ false = ne_eqb n 0 h in
-      let e : r ≡ recognized.Refused (refusal n) = wrote.answer ∙ sym (second _ t refl) in
-      let e' : d ≡ Refused (refusal n) = refused_as m list w d contract h in
-      (λ (k : r ≡ recognized.Refused f). cc, λ (k : d ≡ Refused f). cc)
+      let e : r ≡ Err (refusal n) = wrote.answer ∙ sym (unless_refused n _ h) in
+      let e' : d ≡ Err (refusal n) = refused_as m list w d contract h in
+      (λ (k : r ≡ Err f). cc, λ (k : d ≡ Err f). cc)
 
 -- 3. accept_words
 
 one_not_zero : ◌≡◌ {A = ℕ} 1 0 → ⊥
 one_not_zero e = omega arith
 
-byte_is : (b : Bool) → answer_byte (decided_by b) ≡ cond b 1 0
-byte_is true = refl
-byte_is false = refl
-
-module _ (m : Machine) (list letters ends before after : List ℕ) (r : Answered) (answer : r ≡ words_answer m list letters ends (length before))
+module _ (m : Machine) (list letters ends before after : List ℕ) (r : Result ℕ Refusal) (answer : r ≡ words_answer m list letters ends (length before))
     (slice : after ≡ words_after m list letters ends before) where
   -- the first test that fails, or none, with the answer and the slice that it leads to
   data Way : Type 0 where
-    no_table : well_formed m list ≡ false → r ≡ answered.Refused (refusal 16) → after ≡ before → Way
-    no_ends : well_formed m list ≡ true → good_ends (length letters) 0 ends ≡ false → r ≡ answered.Refused (refusal 34) → after ≡ before → Way
+    no_table : well_formed m list ≡ false → r ≡ Err BadTable → after ≡ before → Way
+    no_ends : well_formed m list ≡ true → good_ends (length letters) 0 ends ≡ false → r ≡ Err BadEnds → after ≡ before → Way
     no_room : well_formed m list ≡ true → good_ends (length letters) 0 ends ≡ true → length before < length ends
-        → r ≡ answered.Refused (record { number = 35; needed = length ends }) → after ≡ before → Way
+        → r ≡ Err (ShortAnswers (length ends)) → after ≡ before → Way
     all : well_formed m list ≡ true → good_ends (length letters) 0 ends ≡ true → length ends ≤ length before
-        → r ≡ answered.Words (length ends) → after ≡ put 0 before (answers_from m list letters 0 ends) → Way
+        → r ≡ Ok (length ends) → after ≡ put 0 before (answers_from m list letters 0 ends) → Way
 
   way : Way
   way = at (true_or_false (well_formed m list)) (true_or_false (good_ends (length letters) 0 ends)) (true_or_false (leb (length ends) (length before)))
@@ -161,8 +152,8 @@ module _ (m : Machine) (list letters ends before after : List ℕ) (r : Answered
           let s = words.answered m list letters ends before t g long (put 0 before (answers_from m list letters 0 ends)) refl in
           all t g long (answer ∙ sym s.0) (slice ∙ sym s.2)
 
-  number_of : {a : Answered} → r ≡ a → (answered_values r).refusal ≡ (answered_values a).refusal
-  number_of e = ap (λ (a : Answered). (answered_values a).refusal) e
+  same_number : {a : Result ℕ Refusal} → r ≡ a → (count_values r).refusal ≡ (count_values a).refusal
+  same_number e = ap (λ (a : Result ℕ Refusal). (count_values a).refusal) e
 
   -- what an answer to every word comes with
   record Done (n : ℕ) : Type 0 where
@@ -172,74 +163,74 @@ module _ (m : Machine) (list letters ends before after : List ℕ) (r : Answered
     count : n ≡ length ends
     written : after ≡ answers_from m list letters 0 ends ++ drop (length ends) before
 
-  done : (n : ℕ) → r ≡ answered.Words n → Way → Done n
-  done n h (no_table t e s) = absurd (let z : 0 ≡ 16 = sym (number_of h) ∙ number_of e in omega arith)
-  done n h (no_ends t g e s) = absurd (let z : 0 ≡ 34 = sym (number_of h) ∙ number_of e in omega arith)
-  done n h (no_room t g l e s) = absurd (let z : 0 ≡ 35 = sym (number_of h) ∙ number_of e in omega arith)
+  done : (n : ℕ) → r ≡ Ok n → Way → Done n
+  done n h (no_table t e s) = absurd (not_both h e)
+  done n h (no_ends t g e s) = absurd (not_both h e)
+  done n h (no_room t g l e s) = absurd (not_both h e)
   done n h (all t g l e s) =
       record {
         table = t;
         good = g;
         room = l;
-        count = ap (λ (a : Answered). (answered_values a).words) (sym h ∙ e);
+        count = ap (λ (a : Result ℕ Refusal). (count_values a).count) (sym h ∙ e);
         written = s
             ∙ (put_zero before (answers_from m list letters 0 ends)
             ∙ ap (λ (i : ℕ). answers_from m list letters 0 ends ++ drop i before) (answers_count m list letters 0 ends));
       }
 
-  pub answered_iff : ((n : ℕ) × (r ≡ answered.Words n)) ↔ ((well_formed m list ≡ true) × (good_ends (length letters) 0 ends ≡ true) × (length ends ≤ length before))
+  pub answered_iff : ((n : ℕ) × (r ≡ Ok n)) ↔ ((well_formed m list ≡ true) × (good_ends (length letters) 0 ends ≡ true) × (length ends ≤ length before))
   answered_iff = (
     λ s. let f = done s.0 s.1 way in (f.table, f.good, f.room),
     λ s. (length ends, answer ∙ sym (words.answered m list letters ends before s.0 s.1 s.2 (put 0 before (answers_from m list letters 0 ends)) refl).0),
   )
 
-  pub table_refused_iff : (r ≡ answered.Refused (refusal 16)) ↔ (well_formed m list ≡ false)
-  table_refused_iff = (λ e. to (number_of e) way, λ t. answer ∙ sym (words.refused_table m list letters ends before t).0)
+  pub table_refused_iff : (r ≡ Err BadTable) ↔ (well_formed m list ≡ false)
+  table_refused_iff = (λ e. to (same_number e) way, λ t. answer ∙ sym (words.refused_table m list letters ends before t).0)
     where
-      to : (answered_values r).refusal ≡ 16 → Way → well_formed m list ≡ false
+      to : (count_values r).refusal ≡ 16 → Way → well_formed m list ≡ false
       to h (no_table t e s) = t
-      to h (no_ends t g e s) = absurd (let z = number_of e in omega arith)
-      to h (no_room t g l e s) = absurd (let z = number_of e in omega arith)
-      to h (all t g l e s) = absurd (let z = number_of e in omega arith)
+      to h (no_ends t g e s) = absurd (let z = same_number e in omega arith)
+      to h (no_room t g l e s) = absurd (let z = same_number e in omega arith)
+      to h (all t g l e s) = absurd (let z = same_number e in omega arith)
 
-  pub ends_refused_iff : (r ≡ answered.Refused (refusal 34)) ↔ ((well_formed m list ≡ true) × (good_ends (length letters) 0 ends ≡ false))
-  ends_refused_iff = (λ e. to (number_of e) way, λ s. answer ∙ sym (words.refused_ends m list letters ends before s.0 s.1).0)
+  pub ends_refused_iff : (r ≡ Err BadEnds) ↔ ((well_formed m list ≡ true) × (good_ends (length letters) 0 ends ≡ false))
+  ends_refused_iff = (λ e. to (same_number e) way, λ s. answer ∙ sym (words.refused_ends m list letters ends before s.0 s.1).0)
     where
-      to : (answered_values r).refusal ≡ 34 → Way → (well_formed m list ≡ true) × (good_ends (length letters) 0 ends ≡ false)
-      to h (no_table t e s) = absurd (let z = number_of e in omega arith)
+      to : (count_values r).refusal ≡ 34 → Way → (well_formed m list ≡ true) × (good_ends (length letters) 0 ends ≡ false)
+      to h (no_table t e s) = absurd (let z = same_number e in omega arith)
       to h (no_ends t g e s) = (t, g)
-      to h (no_room t g l e s) = absurd (let z = number_of e in omega arith)
-      to h (all t g l e s) = absurd (let z = number_of e in omega arith)
+      to h (no_room t g l e s) = absurd (let z = same_number e in omega arith)
+      to h (all t g l e s) = absurd (let z = same_number e in omega arith)
 
-  pub slice_refused_iff : (r ≡ answered.Refused (record { number = 35; needed = length ends }))
+  pub slice_refused_iff : (r ≡ Err (ShortAnswers (length ends)))
       ↔ ((well_formed m list ≡ true) × (good_ends (length letters) 0 ends ≡ true) × (length before < length ends))
-  slice_refused_iff = (λ e. to (number_of e) way, λ s. answer ∙ sym (words.refused_slice m list letters ends before s.0 s.1 s.2).0)
+  slice_refused_iff = (λ e. to (same_number e) way, λ s. answer ∙ sym (words.refused_slice m list letters ends before s.0 s.1 s.2).0)
     where
-      to : (answered_values r).refusal ≡ 35 → Way → (well_formed m list ≡ true) × (good_ends (length letters) 0 ends ≡ true) × (length before < length ends)
-      to h (no_table t e s) = absurd (let z = number_of e in omega arith)
-      to h (no_ends t g e s) = absurd (let z = number_of e in omega arith)
+      to : (count_values r).refusal ≡ 35 → Way → (well_formed m list ≡ true) × (good_ends (length letters) 0 ends ≡ true) × (length before < length ends)
+      to h (no_table t e s) = absurd (let z = same_number e in omega arith)
+      to h (no_ends t g e s) = absurd (let z = same_number e in omega arith)
       to h (no_room t g l e s) = (t, g, l)
-      to h (all t g l e s) = absurd (let z = number_of e in omega arith)
+      to h (all t g l e s) = absurd (let z = same_number e in omega arith)
 
   pub ends_good_iff : (good_ends (length letters) 0 ends ≡ true)
       ↔ ((k : ℕ) → k < length ends → (start_of ends k ≤ get_or ends k 0) × (get_or ends k 0 ≤ length letters))
   ends_good_iff = good_ends_lem (length letters) ends
 
-  pub words_refused : (f : Refusal) → r ≡ answered.Refused f → after ≡ before
+  pub words_refused : (f : Refusal) → r ≡ Err f → after ≡ before
   words_refused f h = at way
     where
       at : Way → after ≡ before
       at (no_table t e s) = s
       at (no_ends t g e s) = s
       at (no_room t g l e s) = s
-      at (all t g l e s) = absurd (let z : ◌≡◌ {A = ℕ} 0 1 = cc in omega arith)
+      at (all t g l e s) = absurd (not_both e h)
 
   -- every word is answered
-  module _ (n : ℕ) (says : r ≡ answered.Words n) where
+  module _ (n : ℕ) (says : r ≡ Ok n) where
     all_done : Done n
     all_done = done n says way
 
-    pub each_word : (n ≡ length ends) × ((k : ℕ) → k < length ends → (d : Decided) → d ≡ decision m list (word_at letters ends k) → get_or after k 0 ≡ answer_byte d)
+    pub each_word : (n ≡ length ends) × ((k : ℕ) → k < length ends → (d : Result Bool Refusal) → d ≡ decision m list (word_at letters ends k) → get_or after k 0 ≡ answer_byte d)
     each_word = (
       all_done.count,
       λ k h d e.
@@ -263,8 +254,7 @@ module _ (m : Machine) (list letters ends before after : List ℕ) (r : Answered
       byte : get_or after k 0 ≡ cond (accepted m list (word_at letters ends k)) 1 0
       byte =
           each_word.1 k inside (decision m list (word_at letters ends k)) refl
-          ∙ (ap answer_byte (decided_as m list (word_at letters ends k) (decision m list (word_at letters ends k)) refl not_refused)
-          ∙ byte_is (accepted m list (word_at letters ends k)))
+          ∙ ap answer_byte (decided_as m list (word_at letters ends k) (decision m list (word_at letters ends k)) refl not_refused)
 
       pub word_yes : (get_or after k 0 ≡ 1) ↔ InLanguage (fsbm_of m list) (word_at letters ends k)
       word_yes = Iff.trans (is_first one_not_zero (accepted m list (word_at letters ends k)) byte) (accepted_iff_published m list (word_at letters ends k) all_done.table)

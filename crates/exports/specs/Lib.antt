@@ -1,9 +1,7 @@
 pub mod CommonWords
 pub mod Comparison
-pub mod Pages
 pub mod Products
-pub mod ReachedStates
 pub mod Recognize
+pub mod Records
 pub mod Run
-pub mod SheetAnswers
 pub mod YesOrNo

@@ -9,6 +9,7 @@ pub mod pages;
 pub mod products;
 pub mod reached_states;
 pub mod recognition;
+pub mod records;
 pub mod run;
 pub mod sheets;
 pub mod yes_or_no;

@@ -1,29 +1,44 @@
 // The product of two machines and the copy list of a run.
 ghost use Rattle.std.specs.Prelude.{◌≡◌, length};
-ghost use Rattle.copies.specs.Copies.{copies_after, copies_values};
-ghost use Rattle.product.specs.Product.{join_answer, join_after};
-ghost use Rattle.exports.specs.Products.{joined_of, copy_list_record};
+ghost use Rattle.copies.specs.Copies.{copied_values, copies_after, copies_values};
+ghost use Rattle.product.specs.Product.{join_values, join_after};
+ghost use Rattle.exports.specs.Products.{copy_list_record};
+ghost use Rattle.exports.specs.Records.{machine_record};
 
+use crate::records::MachineRecord;
 use copies::Copied;
+use fsbm::answer::Refusal;
 use fsbm::machine::Machine;
-
-// The answer of zagvirk_join: refusal is 0 on success; on a refusal every field of machine is 0.
-#[repr(C)]
-#[derive(Clone, Copy)]
-pub struct Joined {
-    pub refusal: u8,
-    pub needed: usize,
-    pub machine: Machine,
-}
 
 // The answer of zagvirk_list_copies: refusal is 0 on success; on a refusal copies and total are 0.
 #[repr(C)]
-#[derive(Clone, Copy)]
+#[derive(Clone, Copy, Debug, PartialEq, Eq)]
 pub struct CopyList {
     pub refusal: u8,
     pub needed: usize,
     pub copies: usize,
     pub total: usize,
+}
+
+impl From<Result<Copied, Refusal>> for CopyList {
+    ghost from_gives = { λ answer r. r ≡ copy_list_record (copied_values answer) };
+
+    fn from(answer: Result<Copied, Refusal>) -> CopyList {
+        match answer {
+            Ok(copied) => CopyList {
+                refusal: 0,
+                needed: 0,
+                copies: copied.copies,
+                total: copied.total,
+            },
+            Err(refusal) => CopyList {
+                refusal: refusal.number(),
+                needed: refusal.needed(),
+                copies: 0,
+                total: 0,
+            },
+        }
+    }
 }
 
 // product::join.
@@ -34,18 +49,11 @@ pub extern "C" fn zagvirk_join(
     second: Machine,
     second_list: &[u16],
     list: &mut [u16],
-) -> Joined
-    ensures answer { result ≡ joined_of (join_answer first first_list.now second second_list.now (length list.old)) }
+) -> MachineRecord
+    ensures answer { result ≡ machine_record (join_values first first_list.now second second_list.now (length list.old)) }
     ensures written { list.new ≡ join_after first first_list.now second second_list.now list.old }
 {
-    let p = product::join(first, first_list, second, second_list, list);
-    let machine = p.machine;
-    let refusal = p.refusal;
-    Joined {
-        refusal: refusal.number,
-        needed: refusal.needed,
-        machine,
-    }
+    MachineRecord::from(product::join(first, first_list, second, second_list, list))
 }
 
 // copies::list_copies.
@@ -60,19 +68,5 @@ pub extern "C" fn zagvirk_list_copies(
     ensures answer { result ≡ copy_list_record (copies_values machine list.now word.now run.now (length copies.old)) }
     ensures written { copies.new ≡ copies_after machine list.now word.now run.now copies.old }
 {
-    let answer = copies::list_copies(machine, list, word, run, copies);
-    match answer {
-        Copied::Refused(f) => CopyList {
-            refusal: f.number,
-            needed: f.needed,
-            copies: 0,
-            total: 0,
-        },
-        Copied::Listed { copies, total } => CopyList {
-            refusal: 0,
-            needed: 0,
-            copies,
-            total,
-        },
-    }
+    CopyList::from(copies::list_copies(machine, list, word, run, copies))
 }

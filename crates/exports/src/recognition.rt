@@ -3,12 +3,12 @@ ghost use Rattle.std.specs.Prelude.{◌≡◌};
 ghost use Rattle.recognize.specs.Recognition.{recognized_values};
 ghost use Rattle.exports.specs.Recognize.{Exported, recognized_record};
 
+use fsbm::answer::Refusal;
 use fsbm::machine::Machine;
-use recognize::Recognized;
 
 // The refusal's number or 0, the length that the slice needs for 17, whether the word is accepted, and the run's number of entries.
 #[repr(C)]
-#[derive(Clone, Copy)]
+#[derive(Clone, Copy, Debug, PartialEq, Eq)]
 pub struct RecognitionRecord {
     pub refusal: u8,
     pub needed: usize,
@@ -16,29 +16,30 @@ pub struct RecognitionRecord {
     pub entries: usize,
 }
 
-// The answer as C and Rust see it.
-fn record_of_answer(answer: Recognized) -> RecognitionRecord
-    ensures { result ≡ recognized_record (recognized_values answer) }
-{
-    match answer {
-        Recognized::Refused(refusal) => RecognitionRecord {
-            refusal: refusal.number,
-            needed: refusal.needed,
-            accepted: 0,
-            entries: 0,
-        },
-        Recognized::No => RecognitionRecord {
-            refusal: 0,
-            needed: 0,
-            accepted: 0,
-            entries: 0,
-        },
-        Recognized::Yes(entries) => RecognitionRecord {
-            refusal: 0,
-            needed: 0,
-            accepted: 1,
-            entries,
-        },
+impl From<Result<Option<usize>, Refusal>> for RecognitionRecord {
+    ghost from_gives = { λ answer r. r ≡ recognized_record (recognized_values answer) };
+
+    fn from(answer: Result<Option<usize>, Refusal>) -> RecognitionRecord {
+        match answer {
+            Ok(Some(entries)) => RecognitionRecord {
+                refusal: 0,
+                needed: 0,
+                accepted: 1,
+                entries,
+            },
+            Ok(None) => RecognitionRecord {
+                refusal: 0,
+                needed: 0,
+                accepted: 0,
+                entries: 0,
+            },
+            Err(refusal) => RecognitionRecord {
+                refusal: refusal.number(),
+                needed: refusal.needed(),
+                accepted: 0,
+                entries: 0,
+            },
+        }
     }
 }
 
@@ -52,6 +53,5 @@ pub extern "C" fn zagvirk_recognize(
 ) -> RecognitionRecord
     ensures { Exported machine list.now word.now run.old run.new result }
 {
-    let answer = recognize::recognize(machine, list, word, run);
-    record_of_answer(answer)
+    RecognitionRecord::from(recognize::recognize(machine, list, word, run))
 }

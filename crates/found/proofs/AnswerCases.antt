@@ -16,8 +16,9 @@ use Rattle.fsbm.specs.Accepted.{run_bound}
 use Rattle.fsbm.specs.declared.machine.Machine.{Machine}
 use Rattle.product.specs.Tables.{joinable}
 use Rattle.pieces.specs.Pairs.{unit}
-use Rattle.pieces.specs.Blocks.{nothing, cost_of}
-use Rattle.common.specs.declared.Common.TheVariants.{Refused, NoCommonWord, Found}
+use Rattle.pieces.specs.Blocks.{cost_of}
+use Rattle.std.specs.Prelude.{None, Some, Ok, Err}
+use Rattle.fsbm.specs.declared.answer.Refusal.TheVariants.{ShortRun, ShortWord}
 use Rattle.common.specs.Common.{least_common, Front, CommonWord}
 use Rattle.found.specs.Runs.{Writable, Runs}
 use Rattle.found.specs.Weighed.{Weighed}
@@ -33,22 +34,18 @@ front k before new size fits =
       rest = ap (λ (x : List ℕ). x ++ drop k before) (sym (take_at new (drop k before) k size));
     }
 
-module _ (m₁ : Machine) (l₁ : List ℕ) (m₂ : Machine) (l₂ : List ℕ) (m : Machine) (list index : List ℕ) (starts ends : ℕ) (d b : List ℕ) (f : ℕ)
-    (w : Weighed m₁ l₁ m₂ l₂ m list index starts ends d b f) (word first_run second_run : List ℕ) (c : ℕ) (is_c : c ≡ cost_of d f) where
-  pub says_none : nothing ≤ c → CommonWord m₁ l₁ m₂ l₂ word word first_run first_run second_run second_run NoCommonWord
-  says_none h = none m₁ l₁ m₂ l₂ word first_run second_run w.joined.fine (no_word_lem m₁ l₁ m₂ l₂ m list w.joined d w.top w.limit w.least f w.best (omega arith))
+module _ (m₁ : Machine) (l₁ : List ℕ) (m₂ : Machine) (l₂ : List ℕ) (m : Machine) (list d b : List ℕ) (word first_run second_run : List ℕ) where
+  pub says_none : Weighed m₁ l₁ m₂ l₂ m list d b None → CommonWord m₁ l₁ m₂ l₂ word word first_run first_run second_run second_run (Ok None)
+  says_none w = none m₁ l₁ m₂ l₂ word first_run second_run w.joined.fine (no_word_lem m₁ l₁ m₂ l₂ m list w.joined d w.top w.limit w.least w.best)
 
-  module _ (low : c < nothing) (n : ℕ) (is-n : n ≡ c / unit) where
-    low_f : cost_of d f < nothing
-    low_f = omega arith
-
+  module _ (f : ℕ) (w : Weighed m₁ l₁ m₂ l₂ m list d b (Some f)) (c : ℕ) (is_c : c ≡ cost_of d f) (n : ℕ) (is-n : n ≡ c / unit) where
     said : Lengths m₁ l₁ m₂ l₂ c
-    said = subst (Lengths m₁ l₁ m₂ l₂) (sym is_c) (some_word_lem m₁ l₁ m₂ l₂ m list w.joined d w.top w.limit w.least f w.best low_f)
+    said = subst (Lengths m₁ l₁ m₂ l₂) (sym is_c) (some_word_lem m₁ l₁ m₂ l₂ m list w.joined d w.top w.limit w.least f w.best)
 
     n_is : n ≡ least_common m₁ l₁ m₂ l₂
     n_is = is-n ∙ said.letters
 
-    pub says_word : length word < n → CommonWord m₁ l₁ m₂ l₂ word word first_run first_run second_run second_run (Refused (record { number = 18; needed = n }))
+    pub says_word : length word < n → CommonWord m₁ l₁ m₂ l₂ word word first_run first_run second_run second_run (Err (ShortWord n))
     says_word short = short_word m₁ l₁ m₂ l₂ word first_run second_run w.joined.fine n n_is said.within short
 
     bound_small : run_bound m₁ n < unit
@@ -63,11 +60,11 @@ module _ (m₁ : Machine) (l₁ : List ℕ) (m₂ : Machine) (l₂ : List ℕ) (
       unfolding run_bound
       bound_is = is-needed
 
-      pub says_first : length first_run < needed → CommonWord m₁ l₁ m₂ l₂ word word first_run first_run second_run second_run (Refused (record { number = 17; needed = needed }))
+      pub says_first : length first_run < needed → CommonWord m₁ l₁ m₂ l₂ word word first_run first_run second_run second_run (Err (ShortRun needed))
       says_first short = short_first m₁ l₁ m₂ l₂ word first_run second_run w.joined.fine n n_is said.within fits needed bound_is short
 
       module _ (fits-first : needed ≤ length first_run) where
-        pub says_second : length second_run < n + 1 → CommonWord m₁ l₁ m₂ l₂ word word first_run first_run second_run second_run (Refused (record { number = 17; needed = n + 1 }))
+        pub says_second : length second_run < n + 1 → CommonWord m₁ l₁ m₂ l₂ word word first_run first_run second_run second_run (Err (ShortRun (n + 1)))
         says_second short = short_second m₁ l₁ m₂ l₂ word first_run second_run w.joined.fine n n_is said.within fits needed bound_is fits-first short
 
         module _ (fits-second : n + 1 ≤ length second_run) (e : ℕ) (is-e : e ≡ c % unit + 1) where
@@ -81,26 +78,23 @@ module _ (m₁ : Machine) (l₁ : List ℕ) (m₂ : Machine) (l₂ : List ℕ) (
           pub entries_fit : e ≤ length first_run
           entries_fit = let z = within_bound in omega arith
 
-          pub writable : Writable m₁ l₁ m₂ l₂ m list index starts ends d b f (take n word) (take e first_run) (take (n + 1) second_run)
+          pub writable : Writable m₁ l₁ m₂ l₂ m list d b f (take n word) (take e first_run) (take (n + 1) second_run)
           writable =
               let size_word = length-take-le n word fits in
               let size-run = length-take-le e first_run entries_fit in
               let size-other = length-take-le (n + 1) second_run fits-second in
               record {
                 joined = w.joined;
-                ready = w.ready;
-                buffers = w.buffers;
-                size = w.size;
                 past = w.past;
-                last = final_state m₁ l₁ m₂ l₂ m list w.joined d w.top w.limit w.least f w.best low_f;
-                aim = aim m₁ l₁ m₂ l₂ m list w.joined d w.top w.limit w.least f w.best low_f (length (take n word)) (length (take e first_run))
+                last = final_state m₁ l₁ m₂ l₂ m list w.joined d w.top w.limit w.least f w.best;
+                aim = aim m₁ l₁ m₂ l₂ m list w.joined d w.top w.limit w.least f w.best (length (take n word)) (length (take e first_run))
                     (size_word ∙ (is-n ∙ ap (λ (x : ℕ). x / unit) is_c)) (size-run ∙ (is-e ∙ ap (λ (x : ℕ). x % unit + 1) is_c));
                 room = size-other ∙ ap (λ (x : ℕ). x + 1) (sym size_word);
               }
 
           pub says_found : (new run other : List ℕ) → length new ≡ n → length run ≡ e → length other ≡ n + 1 → Runs m₁ l₁ m₂ l₂ new run other
               → CommonWord m₁ l₁ m₂ l₂ word (new ++ drop n word) first_run (run ++ drop e first_run) second_run (other ++ drop (n + 1) second_run)
-              (Found (record { letters = n; first = e; second = n + 1 }))
+              (Ok (Some (record { letters = n; first = e; second = n + 1 })))
           says_found new run other size-new size-run size-other r =
               written m₁ l₁ m₂ l₂ word first_run second_run w.joined.fine n n_is said.within fits needed bound_is fits-first fits-second e within_bound
               (new ++ drop n word) (run ++ drop e first_run) (other ++ drop (n + 1) second_run)

@@ -33,7 +33,8 @@ use Rattle.split.specs.Split as split
 use Rattle.least.specs.Turns.{Limit}
 use Rattle.shortest.specs.Write.{Least, Aim, Shortest}
 use Rattle.found.specs.Best.{Best}
-use Rattle.found.specs.Best.Laws.{best_final, best_nothing}
+use Rattle.found.specs.Best.Laws.{best_final, best_low, best_nothing}
+use Rattle.std.specs.Prelude.{Some, None}
 use Rattle.found.specs.Joined.{Joined}
 
 -- what the least number of a final state says: the letters of a shortest common word and the entries of its run
@@ -52,66 +53,67 @@ module _ (m₁ : Machine) (l₁ : List ℕ) (m₂ : Machine) (l₂ : List ℕ) w
     abbrev L : List ℕ
     L = joined_transitions m₁ l₁ m₂ l₂ ++ rest
 
-    module _ (top : ℕ) (limit : Limit J.marks d top) (s : Least top J L d) (f : ℕ) (b : Best J.marks d 64 f) where
-      no_word_of : nothing ≤ cost_of d f → word_bound < least_common m₁ l₁ m₂ l₂
-      no_word_of h = on limit.reached
+    module _ (top : ℕ) (limit : Limit J.marks d top) (s : Least top J L d) where
+      no_word_of : Best J.marks d 64 None → word_bound < least_common m₁ l₁ m₂ l₂
+      no_word_of b = on limit.reached
         where
           on : (top ≡ nothing) ⊎ ((g : ℕ) × (final J.marks g ≡ true) × (cost_of d g < top)) → word_bound < least_common m₁ l₁ m₂ l₂
-          on (inl e) = none m₁ l₁ m₂ l₂ fine rest s (omega arith) (λ g last. let z = best_nothing J.marks d f b h g last in omega arith)
-          on (inr (g, last, lt)) = let z = best_nothing J.marks d f b h g last in absurd (omega (arith, limit.small))
+          on (inl e) = none m₁ l₁ m₂ l₂ fine rest s (omega arith) (λ g last. let z = best_nothing J.marks d b g last in omega arith)
+          on (inr (g, last, lt)) = let z = best_nothing J.marks d b g last in absurd (omega (arith, limit.small))
 
-      -- the least number of a final state is below the limit
-      under : cost_of d f < nothing → cost_of d f < top
-      under h = on limit.reached
-        where
-          on : (top ≡ nothing) ⊎ ((g : ℕ) × (final J.marks g ≡ true) × (cost_of d g < top)) → cost_of d f < top
-          on (inl e) = omega arith
-          on (inr (g, last, lt)) = let z = (best_final J.marks d f b h).2 g last in omega arith
+      module _ (f : ℕ) (b : Best J.marks d 64 (Some f)) where
+        -- the least number of a final state is below the limit
+        under : cost_of d f < top
+        under = on limit.reached
+          where
+            on : (top ≡ nothing) ⊎ ((g : ℕ) × (final J.marks g ≡ true) × (cost_of d g < top)) → cost_of d f < top
+            on (inl e) = let z = best_low J.marks d f b in omega arith
+            on (inr (g, last, lt)) = let z = (best_final J.marks d f b).2 g last in omega arith
 
-      some_word_of : cost_of d f < nothing → Lengths m₁ l₁ m₂ l₂ (cost_of d f)
-      some_word_of h =
-          let (below, last, least) = best_final J.marks d f b h in
-          let (within, letters, fits, small) = found m₁ l₁ m₂ l₂ fine rest s f last (under h) least in
-          record { within = within; letters = letters; fits = fits; small = small }
+        some_word_of : Lengths m₁ l₁ m₂ l₂ (cost_of d f)
+        some_word_of =
+            let (below, last, least) = best_final J.marks d f b in
+            let (within, letters, fits, small) = found m₁ l₁ m₂ l₂ fine rest s f last under least in
+            record { within = within; letters = letters; fits = fits; small = small }
 
-      aim_of : cost_of d f < nothing → (n e : ℕ) → n ≡ cost_of d f / unit → e ≡ cost_of d f % unit + 1 → Aim J L d f n e
-      aim_of h n e is-n is-e =
-          let (below, last, least) = best_final J.marks d f b h in
-          let k = some_word_of h in
-          let letters = k.letters in
-          let fits = k.fits in
-          let small = k.small in
-          record {
-            top = top;
-            top_small = limit.small;
-            settled = s;
-            low = under h;
-            fewest = λ p w i start l. let z = fewest m₁ l₁ m₂ l₂ fine rest f last p w i start l in omega arith;
-            weight = omega arith;
-            some = omega arith;
-            small = omega arith;
-          }
+        aim_of : (n e : ℕ) → n ≡ cost_of d f / unit → e ≡ cost_of d f % unit + 1 → Aim J L d f n e
+        aim_of n e is-n is-e =
+            let (below, last, least) = best_final J.marks d f b in
+            let k = some_word_of in
+            let letters = k.letters in
+            let fits = k.fits in
+            let small = k.small in
+            record {
+              top = top;
+              top_small = limit.small;
+              settled = s;
+              low = under;
+              fewest = λ p w i start l. let z = fewest m₁ l₁ m₂ l₂ fine rest f last p w i start l in omega arith;
+              weight = omega arith;
+              some = omega arith;
+              small = omega arith;
+            }
 
-  module _ (m : Machine) (list : List ℕ) (j : Joined m₁ l₁ m₂ l₂ m list) (d : List ℕ) (top : ℕ) (limit : Limit m.marks d top) (s : Least top m list d) (f : ℕ) (b : Best m.marks d 64 f) where
-    pub no_word_lem : nothing ≤ cost_of d f → word_bound < least_common m₁ l₁ m₂ l₂
-    no_word_lem =
-        subst₂ (λ (x : Machine) (y : List ℕ). Limit x.marks d top → Least top x y d → Best x.marks d 64 f → nothing ≤ cost_of d f → word_bound < least_common m₁ l₁ m₂ l₂) (sym j.machine) (sym j.transitions)
-        (λ i t k. no_word_of j.fine j.rest d top i t f k) limit s b
+  module _ (m : Machine) (list : List ℕ) (j : Joined m₁ l₁ m₂ l₂ m list) (d : List ℕ) (top : ℕ) (limit : Limit m.marks d top) (s : Least top m list d) where
+    pub no_word_lem : Best m.marks d 64 None → word_bound < least_common m₁ l₁ m₂ l₂
+    no_word_lem b =
+        subst₂ (λ (x : Machine) (y : List ℕ). Limit x.marks d top → Least top x y d → Best x.marks d 64 None → word_bound < least_common m₁ l₁ m₂ l₂) (sym j.machine) (sym j.transitions)
+        (λ i t k. no_word_of j.fine j.rest d top i t k) limit s b
 
-    pub some_word_lem : cost_of d f < nothing → Lengths m₁ l₁ m₂ l₂ (cost_of d f)
-    some_word_lem =
-        subst₂ (λ (x : Machine) (y : List ℕ). Limit x.marks d top → Least top x y d → Best x.marks d 64 f → cost_of d f < nothing → Lengths m₁ l₁ m₂ l₂ (cost_of d f)) (sym j.machine) (sym j.transitions)
-        (λ i t k. some_word_of j.fine j.rest d top i t f k) limit s b
+    module _ (f : ℕ) (b : Best m.marks d 64 (Some f)) where
+      pub some_word_lem : Lengths m₁ l₁ m₂ l₂ (cost_of d f)
+      some_word_lem =
+          subst₂ (λ (x : Machine) (y : List ℕ). Limit x.marks d top → Least top x y d → Best x.marks d 64 (Some f) → Lengths m₁ l₁ m₂ l₂ (cost_of d f)) (sym j.machine) (sym j.transitions)
+          (λ i t k. some_word_of j.fine j.rest d top i t f k) limit s b
 
-    pub aim : cost_of d f < nothing → (n e : ℕ) → n ≡ cost_of d f / unit → e ≡ cost_of d f % unit + 1 → Aim m list d f n e
-    aim =
-        subst₂ (λ (x : Machine) (y : List ℕ).
-        Limit x.marks d top → Least top x y d → Best x.marks d 64 f → cost_of d f < nothing → (n e : ℕ) → n ≡ cost_of d f / unit → e ≡ cost_of d f % unit + 1 → Aim x y d f n e)
-        (sym j.machine) (sym j.transitions)
-        (λ i t k. aim_of j.fine j.rest d top i t f k) limit s b
+      pub aim : (n e : ℕ) → n ≡ cost_of d f / unit → e ≡ cost_of d f % unit + 1 → Aim m list d f n e
+      aim =
+          subst₂ (λ (x : Machine) (y : List ℕ). Limit x.marks d top → Least top x y d → Best x.marks d 64 (Some f) → (n e : ℕ) → n ≡ cost_of d f / unit → e ≡ cost_of d f % unit + 1 → Aim x y d f n e)
+          (sym j.machine) (sym j.transitions)
+          (λ i t k. aim_of j.fine j.rest d top i t f k) limit s b
 
-    pub final_state : cost_of d f < nothing → final m.marks f ≡ true
-    final_state h = (best_final m.marks d f b h).1
+      pub final_state : final m.marks f ≡ true
+      final_state = (best_final m.marks d f b).1
 
 -- The entries of a written run
 

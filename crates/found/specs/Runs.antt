@@ -4,19 +4,15 @@
 --                         room to work in; the other slice has room for a start state and an entry a letter
 -- Runs m₁ l₁ m₂ l₂ word run other == the word with an accepting run of each machine
 use Rattle.std.specs.Prelude.{ℕ, ◌+◌, ◌≡◌, true, List, length}
-use Rattle.fsbm.specs.Machine.{final, buffering}
+use Rattle.fsbm.specs.Machine.{final}
 use Rattle.fsbm.specs.Moves.{accepting}
 use Rattle.fsbm.specs.declared.machine.Machine.{Machine}
-use Rattle.blocks.specs.Works.{Ready, Kind}
 use Rattle.blocks.specs.Settling.{Past}
 use Rattle.shortest.specs.Write.{Aim}
 use Rattle.found.specs.Joined.{Joined}
 
-pub record Writable (m₁ : Machine) (l₁ : List ℕ) (m₂ : Machine) (l₂ : List ℕ) (m : Machine) (list index : List ℕ) (starts ends : ℕ) (d b : List ℕ) (f : ℕ) (word run other : List ℕ) : Type 0 where
+pub record Writable (m₁ : Machine) (l₁ : List ℕ) (m₂ : Machine) (l₂ : List ℕ) (m : Machine) (list d b : List ℕ) (f : ℕ) (word run other : List ℕ) : Type 0 where
   pub joined : Joined m₁ l₁ m₂ l₂ m list
-  pub ready : Ready m list index ends
-  pub buffers : Kind (buffering m.marks) starts
-  pub size : length b ≡ 4096
   pub past : Past m b
   pub last : final m.marks f ≡ true
   pub aim : Aim m list d f (length word) (length run)

@@ -5,16 +5,16 @@
 -- after_normal, after_buffering, after_emptying == the configuration after it
 -- ranges             == the numbers of a configuration that a move is allowed from
 -- move_unplaced, move_change, move_not_taken, move_taken == the ways through one entry
--- run_end, run_on, run_off == a loop through the first entries of a run
--- run_none, run_first == a run by its first entry
+-- run_end, run_on, run_off == a loop through the entries of a run
+-- run_empty, run_first == a run by its first entry
 -- start_well_placed  == where a run starts
-use Prim.Native.Nat.{ℕ, zero, suc, ◌≤◌, ◌<◌, ◌+◌}
+use Prim.Native.Nat.{ℕ, suc, ◌≤◌, ◌<◌, ◌+◌}
 use mathlib.Core.Path.{◌≡◌, refl, sym, ◌∙◌, ap}
 use mathlib.Core.Bool.{Bool, true, false, ◌&&◌}
 use mathlib.Core.List.{List, [], ◌∷◌}
 use native.Mathlib.Omega.{arith}
-use lib.ListN.{length, get_or, take, drop, drop_of_length-le, get_or-eq_default}
-use lib.Seq.{drop-cons, get_or-take, length-take-le}
+use lib.ListN.{length, get_or, drop, drop_of_length-le, get_or-eq_default}
+use lib.Seq.{drop-cons}
 use native.Mathlib.Numerals.{add-one}
 use lib.Dec.{ltb, eqb}
 use borrow.Author.Tests.{lt-ltb, le-ltb, eq-eqb, ne_eqb}
@@ -112,50 +112,45 @@ module _ (m : Machine) (states transitions : ℕ) (marks : List ℕ) (same-state
       ap (λ (z : Config). goes true z c) at_next
       ∙ (ap (λ (b : Bool). goes b (after c t c.mode) c) (sym g) ∙ move_parts h l t at-t)
 
--- a loop through the first entries of a run
-module _ (m : Machine) (list w run : List ℕ) (count : ℕ) (fits : count ≤ length run) (c : Config) (i : ℕ) where
-  long : length (take count run) ≡ count
-  long = length-take-le count run fits
-
-  run_step : (v : Move) → v ≡ move m list w c (get_or run i 0) → i < count
-      → accepting_from m list w c (drop i (take count run)) ≡ (v.allowed && accepting_from m list w v.config (drop (i + 1) (take count run)))
+-- a loop through the entries es of a run
+module _ (m : Machine) (list w es : List ℕ) (c : Config) (i : ℕ) where
+  run_step : (v : Move) → v ≡ move m list w c (get_or es i 0) → i < length es
+      → accepting_from m list w c (drop i es) ≡ (v.allowed && accepting_from m list w v.config (drop (i + 1) es))
   unfolding accepting_from
   run_step v at-v h =
-      ap (accepting_from m list w c) (drop-cons (take count run) i 0 (omega (arith, long)))
-      ∙ (ap (λ (x : ℕ). accepting_from m list w c (x ∷ drop (suc i) (take count run))) (get_or-take count run i 0 h)
-      ∙ (ap (λ (z : Move). z.allowed && accepting_from m list w z.config (drop (suc i) (take count run))) (sym at-v)
-      ∙ ap (λ (z : ℕ). v.allowed && accepting_from m list w v.config (drop z (take count run))) (sym (add-one i))))
+      ap (accepting_from m list w c) (drop-cons es i 0 h)
+      ∙ (ap (λ (z : Move). z.allowed && accepting_from m list w z.config (drop (suc i) es)) (sym at-v)
+      ∙ ap (λ (z : ℕ). v.allowed && accepting_from m list w v.config (drop z es)) (sym (add-one i)))
 
-  pub run_end : count ≤ i → accepts m.marks (length w) c ≡ accepting_from m list w c (drop i (take count run))
+  pub run_end : length es ≤ i → accepts m.marks (length w) c ≡ accepting_from m list w c (drop i es)
   unfolding accepting_from
-  run_end h =
-      let past : length (take count run) ≤ i = omega (arith, long) in
-      ap (accepting_from m list w c) (sym (drop_of_length-le (take count run) past))
+  run_end h = ap (accepting_from m list w c) (sym (drop_of_length-le es h))
 
   -- the next turn, and a turn that ends the loop
-  module _ (v : Move) (at-v : v ≡ move m list w c (get_or run i 0)) (here : i < count) {X : Bool} (is : accepting_from m list w c (drop i (take count run)) ≡ X) where
+  module _ (v : Move) (at-v : v ≡ move m list w c (get_or es i 0)) (here : i < length es) {X : Bool} (is : accepting_from m list w c (drop i es) ≡ X) where
     pub run_off : v.allowed ≡ false → false ≡ X
     run_off f = stop {a = v.allowed} _ f ∙ (sym (run_step v at-v here) ∙ is)
 
     pub run_on : well_formed m list ≡ true → v.allowed ≡ true
-        → (well_placed m.states (length w) v.config ≡ true) × (accepting_from m list w v.config (drop (i + 1) (take count run)) ≡ X)
+        → (well_placed m.states (length w) v.config ≡ true) × (accepting_from m list w v.config (drop (i + 1) es) ≡ X)
     run_on good t = (
       ap (λ (z : Move). well_placed m.states (length w) z.config) at-v
-          ∙ move_placed m list w good c (get_or run i 0) (ap (λ (z : Move). z.allowed) (sym at-v) ∙ t),
+          ∙ move_placed m list w good c (get_or es i 0) (ap (λ (z : Move). z.allowed) (sym at-v) ∙ t),
       pass {a = v.allowed} t refl ∙ (sym (run_step v at-v here) ∙ is),
     )
 
 -- a run by its first entry
-pub run_none : (m : Machine) (list w run : List ℕ) (count : ℕ) → count ≡ 0 → false ≡ accepting m list w (take count run)
-unfolding accepting
-run_none m list w run count h = ap (λ (n : ℕ). accepting m list w (take n run)) (sym h)
+module _ (m : Machine) (list w : List ℕ) where
+  pub run_empty : (run : List ℕ) → length run < 1 → false ≡ accepting m list w run
+  unfolding accepting
+  run_empty [] h = refl
+  run_empty (q ∷ es) h = absurd (omega arith)
 
-pub run_first : (m : Machine) (list w run : List ℕ) (count : ℕ) → count ≤ length run → (count ≡ 0 → ⊥)
-    → (ltb (get_or run 0 0) m.states && (initial m.marks (get_or run 0 0) && accepting_from m list w (start_at (get_or run 0 0)) (drop 1 (take count run)))) ≡ accepting m list w (take count run)
-unfolding accepting
-run_first m list w run zero le h = absurd (h refl)
-run_first m list w [] (suc n) le h = absurd (omega arith)
-run_first m list w (q ∷ es) (suc n) le h = refl
+  pub run_first : (run : List ℕ) → 1 ≤ length run
+      → (ltb (get_or run 0 0) m.states && (initial m.marks (get_or run 0 0) && accepting_from m list w (start_at (get_or run 0 0)) (drop 1 run))) ≡ accepting m list w run
+  unfolding accepting
+  run_first [] h = absurd (omega arith)
+  run_first (q ∷ es) h = refl
 
 pub start_well_placed : (m : Machine) (w : List ℕ) (q : ℕ) → q < m.states → well_placed m.states (length w) (start_at q) ≡ true
 start_well_placed m w q lt = unplaced m w (start_at q) (start_placed m w q lt)

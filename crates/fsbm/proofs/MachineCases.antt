@@ -2,6 +2,7 @@
 --
 -- transition_past              == a transition past the end of the list
 -- all_next                     == the test below k + 1 is the test at k and the test below k
+-- larger_of                    == the larger of two numbers by what it is at most
 -- fits_to, fits_of             == a mark obeys the rules, if and only if it is at most 11 and the states reach as far as it needs
 -- marks_none, marks_next, marks_large, marks_end == a loop through the marks: its start, one mark more, its two ends
 -- marked, marked_by            == a machine by its states and marks, which are all that the marks' rules look at
@@ -9,7 +10,7 @@
 -- rank_of, rank_precedes        == transitions of 16-bit numbers compare as their ranks
 -- least_at, least_next          == the least rank that the next transition may have
 -- transitions-..               == a loop through the transitions: one that is not named, one that does not rise, one more, its end
-use Prim.Native.Nat.{ℕ, ◌≤◌, ◌<◌, ◌+◌, ◌*◌, ◌-◌, ◌/◌, ◌%◌}
+use Prim.Native.Nat.{ℕ, max, ◌≤◌, ◌<◌, ◌+◌, ◌*◌, ◌-◌, ◌/◌, ◌%◌}
 use mathlib.Core.Path.{◌≡◌, refl, sym, ◌∙◌, ap, subst}
 use mathlib.Core.Bool.{Bool, true, false, cond, not, ◌&&◌, ◌||◌}
 use mathlib.Core.Logic.{◌⊎◌, inl, inr, ◌↔◌}
@@ -38,6 +39,9 @@ unfolding all_below
 all_next p k = ap (λ (n : ℕ). all_below n p) (add-one k)
 
 -- Marks
+
+pub larger_of : (r a b : ℕ) → r ≡ max a b → (k : ℕ) → (r ≤ k) ↔ ((a ≤ k) × (b ≤ k))
+larger_of r a b e k = (λ h. (omega arith, omega arith), λ h. omega (arith, h.0, h.1))
 
 -- state q may have the mark v
 abbrev mark_fits : ℕ → ℕ → ℕ → Bool

@@ -6,7 +6,7 @@ ghost use Rattle.fsbm.specs.declared.config.Mode.TheVariants.{Normal, Buffering,
 ghost use Rattle.fsbm.specs.Answers.{step_answer, stepped_values, step_values};
 ghost use Rattle.fsbm.specs.Moves.{mode_number, well_placed, buffer_fits, reads_letter, advanced, passes, reads_stored, may_take, after, goes, changes, move, start_at, accepts};
 
-use crate::answer::{Refusal, Stepped};
+use crate::answer::Refusal;
 use crate::limits::LONGEST_CHECKED;
 use crate::machine::{Machine, Marks, Transition};
 use crate::{answer, machine};
@@ -22,7 +22,7 @@ pub const BACK_TO_NORMAL: u16 = 65535;
 
 // The mode of a run: normal; buffering, which stores what it reads (document 01: storing); emptying, which matches what was
 // stored (document 01: matching).
-#[derive(Clone, Copy)]
+#[derive(Clone, Copy, Debug, PartialEq, Eq)]
 pub enum Mode {
     Normal,
     Buffering,
@@ -43,7 +43,7 @@ impl Mode {
 }
 
 // A configuration of a run on a word. The buffer is the stretch of the word from start up to end.
-#[derive(Clone, Copy)]
+#[derive(Clone, Copy, Debug, PartialEq, Eq)]
 pub struct Config {
     // How many letters are read (document 01: the place).
     pub position: usize,
@@ -53,14 +53,15 @@ pub struct Config {
     pub end: usize,
 }
 
-// What one entry of a run does to a configuration: the next one, or the same one where the move is not allowed.
-#[derive(Clone, Copy)]
+// What one entry of a run does to a configuration: the next one, or the same one where the move is not allowed. It is the moved
+// configuration with a verdict beside it, as the definition of a move has it, and so no Option.
+#[derive(Clone, Copy, Debug, PartialEq, Eq)]
 pub struct Move {
     pub allowed: bool,
     pub config: Config,
 }
 
-// Whether x is epsilon, or the letter of the word at p, with p before e.
+// Whether x is epsilon, or the letter of the word at p, with p before e; test by test, as is_well_formed.
 fn reads_letter(word: &[u8], p: usize, e: usize, x: u16) -> bool
     ensures { result ≡ reads_letter word.now p e x }
 {
@@ -91,10 +92,7 @@ fn advance(p: usize, x: u16) -> usize
 fn is_open(both: bool, marks: &Marks, q: usize) -> bool
     ensures { result ≡ (not both && not (buffering marks.now q)) }
 {
-    if both {
-        return false;
-    }
-    !machine::is_buffering(marks, q)
+    !both && !machine::is_buffering(marks, q)
 }
 
 // Whether the marks at its ends let a transition be taken in a mode.
@@ -123,15 +121,15 @@ impl Config {
         }
     }
 
-    // Whether a run on a word of n letters accepts here: final, normal, the buffer empty, the word read to its end.
+    // Whether a run on a word of n letters accepts here: final, normal, the buffer empty, the word read to its end; test by test, as
+    // is_well_formed.
     pub fn is_accepting(self, marks: &Marks, n: usize) -> bool
         ensures { result ≡ accepts marks.now n self }
     {
         if !machine::is_final(marks, self.state) {
             return false;
         }
-        let mode = self.mode;
-        match mode {
+        match self.mode {
             Mode::Normal => {}
             Mode::Buffering => return false,
             Mode::Emptying => return false,
@@ -146,15 +144,14 @@ impl Config {
     fn buffer_fits(self) -> bool
         ensures { result ≡ buffer_fits self self.mode }
     {
-        let mode = self.mode;
-        match mode {
+        match self.mode {
             Mode::Normal => self.start == self.end,
             Mode::Buffering => self.end == self.position,
             Mode::Emptying => true,
         }
     }
 
-    // Whether any move is allowed from here, on a word of n letters.
+    // Whether any move is allowed from here, on a word of n letters; test by test, as is_well_formed.
     fn is_well_placed(self, states: usize, n: usize) -> bool
         ensures { result ≡ well_placed states n self }
     {
@@ -187,23 +184,21 @@ impl Config {
     fn reads_stored(self, word: &[u8], t: Transition) -> bool
         ensures { result ≡ reads_stored word.now self t self.mode }
     {
-        let mode = self.mode;
-        match mode {
+        match self.mode {
             Mode::Normal => true,
             Mode::Buffering => true,
             Mode::Emptying => reads_letter(word, self.start, self.end, t.letter),
         }
     }
 
-    // Whether a transition leaves this state and may be taken here.
+    // Whether a transition leaves this state and may be taken here; test by test, as is_well_formed.
     pub fn may_take(self, marks: &Marks, word: &[u8], t: Transition) -> bool
         ensures { result ≡ may_take marks.now word.now self t }
     {
         if t.from as usize != self.state {
             return false;
         }
-        let mode = self.mode;
-        if !passes(mode, marks, t) {
+        if !passes(self.mode, marks, t) {
             return false;
         }
         if !reads_letter(word, self.position, word.len(), t.letter) {
@@ -217,28 +212,20 @@ impl Config {
         requires { (self.position + 1 < 2 ^ 64) × (self.start ≤ self.end) × (self.end ≤ self.position) }
         ensures { result ≡ after self t self.mode }
     {
-        let mode = self.mode;
-        match mode {
-            Mode::Normal => Config {
-                position: advance(self.position, t.letter),
-                state: t.to as usize,
-                mode: Mode::Normal,
-                start: self.start,
-                end: self.end,
-            },
+        let read = Config {
+            position: advance(self.position, t.letter),
+            state: t.to as usize,
+            ..self
+        };
+        match self.mode {
+            Mode::Normal => read,
             Mode::Buffering => Config {
-                position: advance(self.position, t.letter),
-                state: t.to as usize,
-                mode: Mode::Buffering,
-                start: self.start,
                 end: advance(self.end, t.letter),
+                ..read
             },
             Mode::Emptying => Config {
-                position: advance(self.position, t.letter),
-                state: t.to as usize,
-                mode: Mode::Emptying,
                 start: advance(self.start, t.letter),
-                end: self.end,
+                ..read
             },
         }
     }
@@ -247,8 +234,7 @@ impl Config {
     pub fn change_mode(self, marks: &Marks, entry: u16) -> Move
         ensures { result ≡ changes marks.now self entry self.mode }
     {
-        let mode = self.mode;
-        match mode {
+        match self.mode {
             Mode::Normal => self.begin_buffering(marks, entry),
             Mode::Buffering => self.begin_emptying(marks, entry),
             Mode::Emptying => self.back_to_normal(marks, entry),
@@ -271,11 +257,10 @@ impl Config {
         Move {
             allowed: true,
             config: Config {
-                position: self.position,
-                state: self.state,
                 mode: Mode::Buffering,
                 start: self.position,
                 end: self.position,
+                ..self
             },
         }
     }
@@ -293,11 +278,8 @@ impl Config {
         Move {
             allowed: true,
             config: Config {
-                position: self.position,
-                state: self.state,
                 mode: Mode::Emptying,
-                start: self.start,
-                end: self.end,
+                ..self
             },
         }
     }
@@ -318,11 +300,8 @@ impl Config {
         Move {
             allowed: true,
             config: Config {
-                position: self.position,
-                state: self.state,
                 mode: Mode::Normal,
-                start: self.start,
-                end: self.end,
+                ..self
             },
         }
     }
@@ -357,21 +336,13 @@ impl Config {
         }
     }
 
-    // The public call for one entry: the next configuration, or that the move is not allowed. It refuses 16 (the record and its
+    // The public call for one entry: the configuration after it, and whether the move is allowed. It refuses 16 (the record and its
     // list break the rules of a table), 9 (a word of more than 1,048,576 letters), 8 (a letter that is not there), in this order.
     // Time: the table and the word, each once. Memory: none beside its arguments.
-    pub fn step(self, m: Machine, list: &[u16], word: &[u8], entry: u16) -> Stepped
+    pub fn step(self, m: Machine, list: &[u16], word: &[u8], entry: u16) -> Result<Move, Refusal>
         ensures { (result ≡ step_answer m list.now word.now self entry) × (stepped_values self result ≡ step_values m list.now word.now self entry) }
     {
-        let number = answer::table_and_word(LONGEST_CHECKED, m, list, word);
-        if number != 0 {
-            return Stepped::Refused(Refusal { number, needed: 0 });
-        }
-        let v = self.moved(m.states, m.transitions, &m.marks, list, word, entry);
-        if v.allowed {
-            let next = v.config;
-            return Stepped::Moved(next);
-        }
-        Stepped::NotAllowed
+        answer::table_and_word(LONGEST_CHECKED, m, list, word)?;
+        Ok(self.moved(m.states, m.transitions, &m.marks, list, word, entry))
     }
 }

@@ -34,10 +34,10 @@ pub struct Transition {
 pub fn mark(marks: &Marks, q: usize) -> u8
     ensures { result ≡ mark_of marks.now q }
 {
-    if q < MAX_STATES {
-        return marks[q];
+    match marks.get(q) {
+        Some(v) => *v,
+        None => 0,
     }
-    0
 }
 
 // Whether a run may start in state q.
@@ -72,20 +72,17 @@ pub fn is_matching(marks: &Marks, q: usize) -> bool
 pub fn both_matching(marks: &Marks, t: Transition) -> bool
     ensures { result ≡ both_matching marks.now t }
 {
-    if is_matching(marks, t.from as usize) {
-        return is_matching(marks, t.to as usize);
-    }
-    false
+    is_matching(marks, t.from as usize) && is_matching(marks, t.to as usize)
 }
 
 // The element of a lent list at i; 0 past its end.
 fn element(list: &[u16], i: usize) -> u16
     ensures { result ≡ get_or list.now i 0 }
 {
-    if i < list.len() {
-        return list[i];
+    match list.get(i) {
+        Some(x) => *x,
+        None => 0,
     }
-    0
 }
 
 // Transition number k of a lent list; what stands past the end of the list counts as 0.
@@ -107,16 +104,6 @@ pub fn transition_at(list: &[u16], k: usize) -> Transition
     }
 }
 
-// The greater of two numbers.
-fn greater(a: u8, b: u8) -> u8
-    ensures { (k : ℕ) → (result ≤ k) ↔ ((a ≤ k) × (b ≤ k)) }
-{
-    if a < b {
-        return b;
-    }
-    a
-}
-
 // The least number of states with which state q may have the mark v: none is needed for mark 0.
 fn states_for(q: u8, v: u8) -> u8
     requires { q < 64 }
@@ -135,33 +122,23 @@ fn good_marks(states: usize, marks: &Marks) -> bool
 {
     let mut largest: u8 = 0;
     let mut needed: u8 = 0;
-    let mut q: usize = 0;
-    while q < MAX_STATES {
+    for q in 0..MAX_STATES {
         let v = marks[q];
-        largest = greater(largest, v);
-        needed = greater(needed, states_for(q as u8, v));
-        q += 1;
+        largest = largest.max(v);
+        needed = needed.max(states_for(q as u8, v));
     }
-    if 11 < largest {
-        return false;
-    }
-    needed as usize <= states
+    largest <= 11 && needed as usize <= states
 }
 
 // Whether the states and the letter that a transition names are there.
 fn is_named(states: usize, letters: usize, t: Transition) -> bool
     ensures { result ≡ named states letters t }
 {
-    if states <= t.from as usize {
-        return false;
-    }
-    if letters < t.letter as usize {
-        return false;
-    }
-    (t.to as usize) < states
+    (t.from as usize) < states && t.letter as usize <= letters && (t.to as usize) < states
 }
 
-// A number that is the smaller the earlier a transition comes: by from, then letter, then to.
+// A number that is the smaller the earlier a transition comes: by from, then letter, then to. One comparison of it stands for the three of a
+// derived order, in the loop that every call on a table goes through.
 fn rank(t: Transition) -> u64
     ensures { result ≡ (t.from * 65536 + t.letter) * 65536 + t.to }
 {
@@ -187,8 +164,7 @@ fn good_transitions(states: usize, letters: usize, list: &[u16], n: usize) -> bo
     ensures { result ≡ all_below n (good_transition states letters list.now) }
 {
     let mut least: u64 = 0;
-    let mut k: usize = 0;
-    while k < n {
+    for k in 0..n {
         let t = present_transition(list, k);
         if !is_named(states, letters, t) {
             return false;
@@ -198,12 +174,11 @@ fn good_transitions(states: usize, letters: usize, list: &[u16], n: usize) -> bo
             return false;
         }
         least = here + 1;
-        k += 1;
     }
     true
 }
 
-// Whether a record and its lent list obey the rules of a table. What stands in the list past the record's count is not looked at.
+// Whether a record and its lent list obey the rules of a table, test by test: as one row of && the search for its proof gave up. What stands in the list past the record's count is not looked at.
 // Time: the states and the transitions, each once.
 pub fn is_well_formed(m: Machine, list: &[u16]) -> bool
     ensures { result ≡ well_formed m list.now }

@@ -1,2 +1,3 @@
 pub mod SetCases
 pub mod Sweeps
+pub mod Decided

@@ -12,10 +12,10 @@ use mathlib.Core.Logic.{◌⊎◌, inl, inr}
 use native.Mathlib.Decide.{ℕ_discrete}
 use lib.Bits.{bit_or}
 use lib.Count.{ones}
-use Rattle.stateset.specs.Set.{width, In, SetIs}
+use Rattle.stateset.specs.Set.{width, In, SetIs, Taken}
 use Rattle.stateset.specs.Set.Laws.{in?, union_grows}
 use Rattle.images.specs.Graph.{Members, From, Star, here, more}
-use Rattle.images.proofs.SetCases.{members_as, members_none, none_in, some_member}
+use Rattle.images.proofs.SetCases.{members_is, members_as, members_none, none_in, some_member}
 
 pub star_join : {R : ℕ → ℕ → Type 0} {p q r : ℕ} → Star R p q → Star R q r → Star R p r
 star_join a here = a
@@ -61,6 +61,11 @@ module _ (R : ℕ → ℕ → Type 0) (set : ℕ) where
       back : (q : ℕ) → In image q ⊎ R p q → In image q ⊎ In i q
       back q (inl h) = inl h
       back q (inr h) = inr ((images.members q).1 h)
+
+  -- a turn of the loop over the members
+  pub swept_taken : {rest image p next i u : ℕ} → Swept R set rest image → Taken rest p next → Members i (R p) → Members u (λ q. In image q ⊎ In i q)
+      → Swept R set next u
+  swept_taken {rest} {image} {p} {next} {i} {u} s t = swept_turn rest image p next i u s t.member (members_is t.rest)
 
   pub swept_end : (rest image : ℕ) → Swept R set rest image → rest ≡ 0 → Members image (From set R)
   swept_end rest image s e = members_as s.members (λ q z. (z.0, z.1, z.3)) (λ q z. (z.0, z.1, none_in e z.0, z.2))

@@ -9,7 +9,6 @@
 --                           with one set for each state
 -- Graph                  == such a table, the number of states, the set of buffering states, the set of matching states
 -- May g h T p q          == mode T may take a transition from p to q (document 01, "How a run moves")
--- RowEdge targets row states g h T p q == the row of the table that begins there has q for the state p, and mode T may take a transition from p to q
 -- Edge G T x p q         == the table has q for letter x and the state p, and mode T may take a transition from p to q
 -- Free G T p q           == q is reached from p in mode T by epsilon moves
 -- Advance G T x p q      == q is reached from p in mode T by a move that reads x and then epsilon moves
@@ -65,9 +64,6 @@ abbrev pub May : ℕ → ℕ → Mode → ℕ → ℕ → Type 0
 May g h Normal p q = (In h p × In h q → ⊥) × (In g p → ⊥)
 May g h Buffering p q = (In h p × In h q → ⊥) × (In g q → ⊥)
 May g h Emptying p q = In h p × In h q
-
-abbrev pub RowEdge : List ℕ → ℕ → ℕ → ℕ → ℕ → Mode → ℕ → ℕ → Type 0
-RowEdge targets row states g h T p q = ((p < states) × In (get_or targets (row + p) 0) q) × May g h T p q
 
 pub record Edge (G : Graph) (T : Mode) (x p q : ℕ) : Type 0 where
   pub state : p < G.states

@@ -1,28 +1,28 @@
 -- The ways through the functions of src/layer.rt.
 --
 -- blank_is                     == a blank row
--- seed_start, seed_joined, seed_end, first_last, first_not == the row of the end of the word
+-- seed_start, seed_joined, first_last, first_not == the row of the end of the word
 -- closed_buffering, closed_emptying == the rows of these modes, closed along the transitions from all states
 -- emptying_made, emptying_none, buffering_made, buffering_none == the layers, and where no number fell
 -- round_made                   == one round over a position
--- lower_here, lower_then, closed_after == rounds one after the other
--- shut_made, shut_position        == a position where no copy begins
+-- lower_then                   == rounds one after the other
+-- shut_made                    == a position where no copy begins
 -- none_storing, all_storing    == the returns of storing_states
--- position_made                   == the rows of a position
+-- position_made, end_made         == the rows of a position, and of the end
 use Prim.Native.Nat.{ℕ, zero, suc, ◌+◌, ◌≤◌, ◌<◌}
 use mathlib.Core.Path.{◌≡◌, refl, sym, ap, ◌∙◌, subst}
 use mathlib.Core.Logic.{◌⊎◌, inl, inr, ◌↔◌}
-use mathlib.Core.Bool.{Bool, true, false, cond, false≢true}
+use mathlib.Core.Bool.{false≢true, Bool, true, false, cond, ◌||◌}
 use mathlib.Core.List.{List, [], ◌∷◌, ◌++◌}
 use native.Mathlib.Omega.{arith}
 use native.Mathlib.Decide.{ℕ_discrete, dec_lt}
 use lib.ListN.{set, replicate, length-set}
 use lib.Count.{count_trailing_zeros}
 use lib.Seq.{get_or-set_same, get_or-set_other}
-use Rattle.basics.specs.Search.Laws.{not_both, true_or_false}
+use Rattle.basics.specs.Search.Laws.{not_both, true_or_false, or_true, or_false}
 use Rattle.graphs.specs.Paths.{here}
-use Rattle.stateset.specs.Set.{width, In, SetIs}
-use Rattle.stateset.specs.Set.Laws.{empty_in, lowest_in}
+use Rattle.stateset.specs.Set.{width, In, SetIs, below}
+use Rattle.stateset.specs.Set.Laws.{empty_in, lowest_in, below_is}
 use Rattle.fsbm.specs.Machine.{transition_at, final}
 use Rattle.fsbm.specs.Published.{config, begins_buffering, begins_emptying, returns_to_normal}
 use Rattle.fsbm.specs.declared.machine.Machine.{Machine}
@@ -32,7 +32,7 @@ use Rattle.fsbm.specs.Rules.{Rules, rules, matching_below}
 use Rattle.layers.specs.Costs.{none, Near, Go, at, Leads, RowReal, RowBest, Bounded, ChangeBound}
 use Rattle.layers.specs.Costs.Laws.{normal_yields, buffer_yields, empty_yields}
 use Rattle.layers.specs.Rows.{Given, weight, Lowering, Reads, Beside, Within, Closed}
-use Rattle.layers.specs.Rows.Laws.{through_bounded, through_real, reads_through, reads_same, beside_marked, beside_real, emptying_from}
+use Rattle.layers.specs.Rows.Laws.{through_bounded, through_real, reads_through, reads_none, reads_same, beside_marked, beside_real, emptying_from}
 use Rattle.layers.specs.Layers.{head_of, tail_of, blank_row, Seeded, FirstRow, EmptyingLayer, BufferingLayer, Begins, Sets, Storing, PositionReal, PositionBest, Settled, LowerPlace, Round, ClosedPlace, PositionLayer}
 use Rattle.layers.specs.Layers.Laws.{emptying_best, buffering_best, position_best, blank_at, blank_size, blank_none, blank_real, blank_bounded}
 
@@ -74,19 +74,19 @@ pub seed_joined : (m : Machine) (k : ℕ) (row : List ℕ) → k < 64 → Seeded
     → (b ≡ true → (row' : List ℕ) → row' ≡ set row k 0 → Seeded m (k + 1) row') × (b ≡ false → (row' : List ℕ) → row' ≡ row → Seeded m (k + 1) row')
 seed_joined m k row l s b is = (λ t row' e. subst (Seeded m (k + 1)) (sym e) (seed_final m k row l s b is t), λ f row' e. subst (Seeded m (k + 1)) (sym e) (seed_other m k row l s b is f))
 
-pub seed_end : (m : Machine) (k : ℕ) (row : List ℕ) → k ≤ m.states → m.states ≤ k → Seeded m k row → Seeded m m.states row
-seed_end m k row a b s = subst (λ (j : ℕ). Seeded m j row) (same k m.states a b) s
-  where
-    same : (i j : ℕ) → i ≤ j → j ≤ i → i ≡ j
-    same i j a b = omega arith
-
 pub first_last : (m : Machine) (last : Bool) (row : List ℕ) → last ≡ true → Seeded m m.states row → FirstRow m last row
 first_last m last row t s = record { at_end = λ h. s; before = λ h. absurd (not_both t h) }
 
 pub first_not : (m : Machine) (last : Bool) (row : List ℕ) → last ≡ false → row ≡ blank_row → FirstRow m last row
 first_not m last row f e = record { at_end = λ h. absurd (not_both h f); before = λ h. e }
 
--- a live layer says nothing of its row
+pub none_storing : (starts n : ℕ) → starts ≡ 0 → Storing starts n 0
+none_storing starts n z = record { inside = λ q i. absurd (empty_in q i); all = λ l. absurd (omega arith) }
+
+pub all_storing : (starts n r : ℕ) {v : ℕ} → (starts ≡ 0 → ⊥) → SetIs r v (λ p. (p < n) × (p < width)) → Storing starts n r
+all_storing starts n r some s = record { inside = λ q i. (((s.members q).0 i).0, omega arith); all = λ l q a b. (s.members q).1 (a, b) }
+
+-- where a number fell, nothing is said of a blank row
 pub lives : {A B : Type 0} → A → A × (true ≡ false → B)
 lives a = (a, λ h. absurd (false≢true (sym h)))
 
@@ -233,23 +233,23 @@ module _ (m : Machine) (list targets : List ℕ) (g h : ℕ) (given : Given m li
           back_to_normal = beside_marked ge;
         }
 
-    pub round_made : (s : Bool) → (s ≡ false → (x ≡ false) × (y ≡ false) × (z ≡ false)) → (s ≡ true → (x ≡ true) ⊎ ((y ≡ true) ⊎ (z ≡ true))) → Round m list near starts h n b e n₂ b₂ e₂ s
-    round_made s all some =
+    pub round_made : Round m list near starts h n b e n₂ b₂ e₂ ((x || y) || z)
+    round_made =
         record {
           lower = round_lower;
-          settled = λ i. let (a, b, c) = all i in round_settled a b c;
-          less = λ i. on (some i);
+          settled = λ i. let (a, c) = or_false (x || y) z i in let (a, b) = or_false x y a in round_settled a b c;
+          less = λ i. on (or_true (x || y) z i);
         }
       where
-        on : (x ≡ true) ⊎ ((y ≡ true) ⊎ (z ≡ true)) → weight n₂ + weight b₂ + weight e₂ < weight n + weight b + weight e
-        on (inl t) = omega (arith, gn.less t, gb.fewer, ge.fewer, fn.fewer, fb.fewer, fe.fewer)
-        on (inr (inl t)) = omega (arith, gn.fewer, gb.less t, ge.fewer, fn.fewer, fb.fewer, fe.fewer)
-        on (inr (inr t)) = omega (arith, gn.fewer, gb.fewer, ge.less t, fn.fewer, fb.fewer, fe.fewer)
+        first : (x ≡ true) ⊎ (y ≡ true) → weight n₂ + weight b₂ + weight e₂ < weight n + weight b + weight e
+        first (inl t) = omega (arith, gn.less t, gb.fewer, ge.fewer, fn.fewer, fb.fewer, fe.fewer)
+        first (inr t) = omega (arith, gn.fewer, gb.less t, ge.fewer, fn.fewer, fb.fewer, fe.fewer)
+
+        on : ((x || y) ≡ true) ⊎ (z ≡ true) → weight n₂ + weight b₂ + weight e₂ < weight n + weight b + weight e
+        on (inl t) = first (or_true x y t)
+        on (inr t) = omega (arith, gn.fewer, gb.fewer, ge.less t, fn.fewer, fb.fewer, fe.fewer)
 
   module _ (near starts : ℕ) where
-    pub lower_here : (n b e : List ℕ) → LowerPlace m list near starts h n b e n b e
-    lower_here n b e = record { real = λ N u sets real. real; normal = λ q. omega arith; buffering = λ q. omega arith; emptying = λ q. omega arith }
-
     pub lower_then : (n b e n₁ b₁ e₁ n₂ b₂ e₂ : List ℕ) → LowerPlace m list near starts h n b e n₁ b₁ e₁ → LowerPlace m list near starts h n₁ b₁ e₁ n₂ b₂ e₂ → LowerPlace m list near starts h n b e n₂ b₂ e₂
     lower_then n b e n₁ b₁ e₁ n₂ b₂ e₂ f g =
         record {
@@ -258,10 +258,6 @@ module _ (m : Machine) (list targets : List ℕ) (g h : ℕ) (given : Given m li
           buffering = λ q. omega (arith, f.buffering q, g.buffering q);
           emptying = λ q. omega (arith, f.emptying q, g.emptying q);
         }
-
-    pub closed_after : (n b e n₁ b₁ e₁ n₂ b₂ e₂ : List ℕ) (s : Bool) → LowerPlace m list near starts h n b e n₁ b₁ e₁ → Round m list near starts h n₁ b₁ e₁ n₂ b₂ e₂ s → s ≡ false
-        → ClosedPlace m list near starts h n b e n₂ b₂ e₂
-    closed_after n b e n₁ b₁ e₁ n₂ b₂ e₂ s f g i = record { lower = lower_then n b e n₁ b₁ e₁ n₂ b₂ e₂ f g.lower; settled = g.settled i }
 
   -- A position where no copy begins
 
@@ -288,9 +284,6 @@ module _ (m : Machine) (list targets : List ℕ) (g h : ℕ) (given : Given m li
             back_to_normal = marked_lower e₁ e₂ n₁ fe.lower (beside_marked ge);
           };
         }
-
-  pub shut_position : (near starts : ℕ) (n b e n₁ e₁ : List ℕ) → starts ≡ 0 → ((b : List ℕ) → ClosedPlace m list near 0 h n b e n₁ b e₁) → ClosedPlace m list near starts h n b e n₁ b e₁
-  shut_position near starts n b e n₁ e₁ z f = subst (λ (s : ℕ). ClosedPlace m list near s h n b e n₁ b e₁) (sym z) (f b)
 
   -- A position
 
@@ -347,8 +340,13 @@ module _ (m : Machine) (list targets : List ℕ) (g h : ℕ) (given : Given m li
           (λ some. read_bounded (λ q. q < m.states) all Buffering x next-b b₀ b₁ b d pb f.lower.buffering (λ k l i. every.all some (transition_at list k).from i (omega (arith, i, r.states_fit))))
           f.settled
 
-pub none_storing : (starts n : ℕ) → starts ≡ 0 → Storing starts n 0
-none_storing starts n z = record { inside = λ q i. absurd (empty_in q i); all = λ l. absurd (omega arith) }
+  pub end_made : (near starts : ℕ) {w : ℕ} (n₀ b₀ e₀ n b e : List ℕ) → SetIs starts w (λ q. In near q × In g q) → Seeded m m.states n₀ → b₀ ≡ blank_row → e₀ ≡ blank_row → ClosedPlace m list near starts h n₀ b₀ e₀ n b e
+      → (next-n next-b : List ℕ) → PositionLayer m list near true 0 next-n next-b n b e
+  end_made near starts n₀ b₀ e₀ n b e shared seeded blank-b blank-e f next-n next-b = on (dec_lt 0 starts)
+    where
+      made : (all : ℕ) → Storing starts m.states all → PositionLayer m list near true 0 next-n next-b n b e
+      made all every = position_made near starts all true 0 next-n next-b n₀ b₀ e₀ n₀ b₀ n b e false false shared every (first_last m true n₀ refl seeded) blank-b blank-e (reads_none n₀ refl) (reads_none b₀ refl) f
 
-pub all_storing : (starts n r : ℕ) {v : ℕ} → (starts ≡ 0 → ⊥) → SetIs r v (λ p. (p < n) × (p < width)) → Storing starts n r
-all_storing starts n r some s = record { inside = λ q i. (((s.members q).0 i).0, omega arith); all = λ l q a b. (s.members q).1 (a, b) }
+      on : Dec (0 < starts) → PositionLayer m list near true 0 next-n next-b n b e
+      on (yes l) = made (below m.states) (all_storing starts m.states (below m.states) (λ (z : starts ≡ 0). absurd (omega arith)) (below_is m.states))
+      on (no l) = made 0 (none_storing starts m.states (omega arith))

@@ -2,6 +2,7 @@
 --
 -- head_of u, tail_of u   == the first letter of a string, 0 where it is empty; the rest of it
 -- blank_row             == none everywhere
+-- row_of r              == the row that is there, else a blank one
 -- NoneBelow n row      == none at the states below n
 -- Seeded m k row       == 0 at the final states below k, none elsewhere
 -- FirstRow m last row  == 0 at the final states at the end of the word, none elsewhere
@@ -14,7 +15,7 @@
 -- Settled m list near starts h n b e == no move within a position that reads nothing would lower a number of its three rows
 -- ClosedPlace .. n b e n' b' e' == the three rows, lowered until they are Settled
 -- PositionLayer           == the three rows of a position, from those of the layers after it
-use Rattle.std.specs.Prelude.{ℕ, ◌+◌, ◌≤◌, ◌<◌, ◌≡◌, ◌↔◌, Bool, true, false, cond, List, [], ◌∷◌, ◌++◌, length, replicate}
+use Rattle.std.specs.Prelude.{Option, None, Some, ℕ, ◌+◌, ◌≤◌, ◌<◌, ◌≡◌, ◌↔◌, Bool, true, false, cond, List, [], ◌∷◌, ◌++◌, length, replicate}
 use Rattle.stateset.specs.Set.{In}
 use Rattle.fsbm.specs.Machine.{final, buffering, matching}
 use Rattle.fsbm.specs.declared.machine.Machine.{Machine}
@@ -33,6 +34,11 @@ tail_of (x ∷ u) = u
 
 unfoldable pub blank_row : List ℕ
 blank_row = replicate 64 none
+
+-- no row is a blank one
+abbrev pub row_of : Option (List ℕ) → List ℕ
+row_of None = blank_row
+row_of (Some row) = row
 
 abbrev pub NoneBelow : ℕ → List ℕ → Type 0
 NoneBelow n row = (q : ℕ) → q < n → none ≤ at row q

@@ -2,7 +2,6 @@
 --
 -- Given m list targets g h   == the table of target sets with its row of epsilon, and the sets of the buffering and the matching states
 -- weight row                 == the sum of its numbers
--- lesser_of v d               == the lesser of v + 1 and d
 -- Lowered row a v row' r     == row' is row with v + 1 at state a, where that is less; r says whether it is
 -- Lowering C row row' r      == row' is row, lowered to candidates as far as any of them is less; C q v says that v is a candidate for state q;
 --                               r says whether any number is less now
@@ -31,6 +30,7 @@ use Rattle.images.specs.Graph.{May}
 use Rattle.layers.specs.declared.row.Sum.{Sum}
 use Rattle.layers.specs.Costs.{none, at, Near, Leads, Bounded, RowReal}
 pub mod Laws
+pub mod Once
 
 pub record Given (m : Machine) (list targets : List ℕ) (g h : ℕ) : Type 0 where
   pub good : well_formed m list ≡ true
@@ -42,10 +42,6 @@ pub record Given (m : Machine) (list targets : List ℕ) (g h : ℕ) : Type 0 wh
 unfoldable pub weight : List ℕ → ℕ
 weight [] = 0
 weight (x ∷ l) = x + weight l
-
--- the lesser of v + 1 and d
-unfoldable pub lesser_of : ℕ → ℕ → ℕ
-lesser_of v d = cond (ltb (suc v) d) (suc v) d
 
 unfoldable pub lowered : List ℕ → ℕ → ℕ → Bool → List ℕ
 lowered row a v b = cond b (set row a (suc v)) row

@@ -1,88 +1,28 @@
-// Rows of numbers, one a state, lowered along transitions and changes of mode. Where the transitions lead stands in a table of target
-// sets: that of letter x and state a at 1 + x * states + a, the states with epsilon transitions at 0. g is the set of the buffering
-// states, h that of the matching states.
-ghost use Rattle.std.specs.Prelude.{ℕ, ◌+◌, ◌*◌, ◌≤◌, ◌<◌, ◌≡◌, true, false, ◌⊎◌};
+// Rows of numbers, one a state, lowered along transitions and changes of mode.
+ghost use Rattle.std.specs.Prelude.{ℕ, ◌+◌, ◌*◌, ◌≤◌, ◌<◌, ◌≡◌, true, false, get_or};
+ghost use Rattle.images.specs.Graph.{set_of};
 ghost use Rattle.stateset.specs.Set.{In};
-ghost use Rattle.fsbm.specs.declared.config.Mode.TheVariants.{Normal, Buffering, Emptying};
 ghost use Rattle.targets.specs.Prepared.{Row};
 ghost use Rattle.layers.specs.Costs.{none, at};
-ghost use Rattle.layers.specs.Rows.{Given, Lowered, Lowering, Through, Reads, Beside, Only, Within, Cut, Apart, Glance, Seen, LeastOf, Closed, lesser_of};
+ghost use Rattle.layers.specs.Rows.{Lowered, Lowering, Through, Reads, Beside, Only, Within, Cut, Apart, Glance, Seen, LeastOf, Closed};
 
+use crate::moves::Moves;
 use fsbm::config::Mode;
 use fsbm::limits::MAX_STATES;
-use fsbm::machine::Machine;
 use stateset::StateSet;
 
 // The number that says that there is no way to acceptance.
-pub const NONE: u32 = 4294967295;
+pub const NONE: u32 = u32::MAX;
 
 // A number for each state.
 pub type Row = [u32; MAX_STATES];
 
 // A row at a glance: the states that have a number, the least number, and the states that have it.
-#[derive(Clone, Copy)]
+#[derive(Clone, Copy, Debug, PartialEq, Eq)]
 struct Sum {
     live: StateSet,
     least: u32,
     lows: StateSet,
-}
-
-// The states of a set that a transition from a may lead to where both are matching or not: none of h where a is one of h.
-fn apart(h: StateSet, a: usize, set: StateSet) -> StateSet
-    ensures { Apart h a set result }
-{
-    if stateset::member(h, a) {
-        return stateset::difference(set, h);
-    }
-    set
-}
-
-// The states of a set that a transition from a may lead to in normal mode.
-fn normal_cut(g: StateSet, h: StateSet, a: usize, set: StateSet) -> StateSet
-    ensures { Cut g h Normal a set result }
-{
-    if stateset::member(g, a) {
-        return 0;
-    }
-    apart(h, a, set)
-}
-
-// The same in buffering mode.
-fn buffering_cut(g: StateSet, h: StateSet, a: usize, set: StateSet) -> StateSet
-    ensures { Cut g h Buffering a set result }
-{
-    stateset::difference(apart(h, a, set), g)
-}
-
-// The same in emptying mode.
-fn emptying_cut(h: StateSet, a: usize, set: StateSet) -> StateSet
-    ensures { Cut 0 h Emptying a set result }
-{
-    if stateset::member(h, a) {
-        return stateset::intersection(set, h);
-    }
-    0
-}
-
-// The same in a mode.
-fn cut(g: StateSet, h: StateSet, mode: Mode, a: usize, set: StateSet) -> StateSet
-    ensures { Cut g h mode a set result }
-{
-    match mode {
-        Mode::Normal => normal_cut(g, h, a, set),
-        Mode::Buffering => buffering_cut(g, h, a, set),
-        Mode::Emptying => emptying_cut(h, a, set),
-    }
-}
-
-// The lesser of two numbers.
-fn smaller(a: u32, b: u32) -> u32
-    ensures { (result ≤ a) × (result ≤ b) × ((result ≡ a) ⊎ (result ≡ b)) }
-{
-    if a < b {
-        return a;
-    }
-    b
 }
 
 // The least number of the states below a number.
@@ -91,10 +31,8 @@ fn least_below(row: &Row, states: usize) -> u32
     ensures { (q : ℕ) → q < states → result ≤ at row.now q }
 {
     let mut least = NONE;
-    let mut q: usize = 0;
-    while q < states {
-        least = smaller(row[q], least);
-        q += 1;
+    for q in 0..states {
+        least = least.min(row[q]);
     }
     least
 }
@@ -107,12 +45,10 @@ fn glance(row: &Row, states: usize) -> Sum
     let least = least_below(row, states);
     let mut live = stateset::empty();
     let mut lows = stateset::empty();
-    let mut q: usize = 0;
-    while q < states {
+    for q in 0..states {
         let v = row[q];
         live = images::add_if(live, q, v < NONE);
         lows = images::add_if(lows, q, v == least);
-        q += 1;
     }
     Sum { live, least, lows }
 }
@@ -122,11 +58,8 @@ fn least_of(row: &Row, set: StateSet) -> u32
     ensures { LeastOf row.now set result }
 {
     let mut least = NONE;
-    let mut rest = set;
-    while rest != 0 {
-        let a = stateset::lowest(rest) as usize;
-        rest = stateset::without_lowest(rest);
-        least = smaller(row[a], least);
+    for a in stateset::members(set) {
+        least = least.min(row[a]);
     }
     least
 }
@@ -142,136 +75,17 @@ fn least_in(row: &Row, s: Sum, set: StateSet) -> u32
     least_of(row, set)
 }
 
-// The lesser of v + 1 and d.
-fn lesser(v: u32, d: u32) -> u32
-    ensures { (result ≡ lesser_of v d) × (d ≤ none) }
-{
-    if d <= v {
-        return d;
-    }
-    let e = v + 1;
-    if d <= e {
-        return d;
-    }
-    e
-}
-
 // Lowers the number of state a to v + 1 where that is less, and says whether it was.
 fn lower(row: &mut Row, a: usize, v: u32) -> bool
     requires { a < 64 }
     ensures { Lowered row.old a v row.new result }
 {
-    let d = row[a];
-    let e = lesser(v, d);
-    if e == d {
+    let fewer = v.saturating_add(1);
+    if row[a] <= fewer {
         return false;
     }
-    row[a] = e;
+    row[a] = fewer;
     true
-}
-
-// Lowers the number of state a along its transitions that read x into the row `next`.
-fn visit(
-    m: Machine,
-    list: &[u16],
-    targets: &[StateSet],
-    g: StateSet,
-    h: StateSet,
-    mode: Mode,
-    x: u16,
-    next: &Row,
-    s: Sum,
-    a: usize,
-    row: &mut Row,
-) -> bool
-    requires { Given m list.now targets.now g h × Row m list.now targets.now x × (a < m.states) × Glance next.now m.states s }
-    ensures { Lowering (Only (Through m list.now mode x next.now) a) row.old row.new result }
-{
-    let set = targets[2 + m.states + x as usize * m.states + a];
-    let live = stateset::intersection(set, s.live);
-    if live == 0 {
-        return lower(row, a, NONE);
-    }
-    let v = least_in(next, s, cut(g, h, mode, a, live));
-    lower(row, a, v)
-}
-
-// Lowers the numbers of the states of a set along transitions that read x into the row `next`, and says whether any number fell.
-// Time: the states of the set, each once; and for each, where its targets do not have the least number of all, its targets.
-fn pass(
-    m: Machine,
-    list: &[u16],
-    targets: &[StateSet],
-    g: StateSet,
-    h: StateSet,
-    mode: Mode,
-    x: u16,
-    set: StateSet,
-    next: &Row,
-    row: &mut Row,
-) -> bool
-    requires { Given m list.now targets.now g h × Row m list.now targets.now x × ((q : ℕ) → In set q → q < m.states) }
-    ensures { Lowering (Within (Through m list.now mode x next.now) set) row.old row.new result }
-{
-    let s = glance(next, m.states);
-    let mut fell = false;
-    let mut rest = set;
-    while rest != 0 {
-        let a = stateset::lowest(rest) as usize;
-        rest = stateset::without_lowest(rest);
-        if visit(m, list, targets, g, h, mode, x, next, s, a, row) {
-            fell = true;
-        }
-    }
-    fell
-}
-
-// The same where x is a letter; where it is 0, nothing is read.
-pub fn read(
-    m: Machine,
-    list: &[u16],
-    targets: &[StateSet],
-    g: StateSet,
-    h: StateSet,
-    mode: Mode,
-    x: u16,
-    set: StateSet,
-    next: &Row,
-    row: &mut Row,
-) -> bool
-    requires { Given m list.now targets.now g h × Row m list.now targets.now x × ((q : ℕ) → In set q → q < m.states) }
-    ensures { Lowering (Within (Reads m list.now mode x next.now) set) row.old row.new result }
-{
-    if x == 0 {
-        return false;
-    }
-    pass(m, list, targets, g, h, mode, x, set, next, row)
-}
-
-// Lowers the numbers of the states of a set along transitions that read nothing until none of them would lower one.
-pub fn close(
-    m: Machine,
-    list: &[u16],
-    targets: &[StateSet],
-    g: StateSet,
-    h: StateSet,
-    mode: Mode,
-    set: StateSet,
-    row: &mut Row,
-)
-    requires { Given m list.now targets.now g h × ((q : ℕ) → In set q → q < m.states) }
-    ensures { Closed m list.now (In set) mode row.old row.new }
-{
-    let may = stateset::intersection(set, targets[0]);
-    if may == 0 {
-        return;
-    }
-    loop {
-        let old = *row;
-        if !pass(m, list, targets, g, h, mode, 0, may, &old, row) {
-            return;
-        }
-    }
 }
 
 // Lowers the numbers of the states of a set along the changes of mode into the row `next`, and says whether any number fell.
@@ -280,13 +94,8 @@ pub fn change(set: StateSet, next: &Row, row: &mut Row) -> bool
     ensures { Lowering (Within (Beside next.now) set) row.old row.new result }
 {
     let mut fell = false;
-    let mut rest = set;
-    while rest != 0 {
-        let q = stateset::lowest(rest) as usize;
-        rest = stateset::without_lowest(rest);
-        if lower(row, q, next[q]) {
-            fell = true;
-        }
+    for q in stateset::members(set) {
+        fell |= lower(row, q, next[q]);
     }
     fell
 }
@@ -296,6 +105,98 @@ pub fn is_blank(row: &Row, states: usize) -> bool
     requires { states ≤ 64 }
     ensures { result ≡ true → (q : ℕ) → q < states → none ≤ at row.now q }
 {
-    let s = glance(row, states);
-    s.least == NONE
+    least_below(row, states) == NONE
+}
+
+impl Moves<'_> {
+    // The states of a set that a transition from a may lead to where both are matching or not: none of the matching ones where a is one.
+    fn apart(&self, a: usize, set: StateSet) -> StateSet
+        ensures { Apart self.now.matching a set result }
+    {
+        if stateset::member(self.matching, a) {
+            return stateset::difference(set, self.matching);
+        }
+        set
+    }
+
+    // The states of a set that a transition from a may lead to in a mode.
+    fn cut(&self, mode: Mode, a: usize, set: StateSet) -> StateSet
+        ensures { Cut self.now.buffering self.now.matching mode a set result }
+    {
+        match mode {
+            Mode::Normal if stateset::member(self.buffering, a) => stateset::empty(),
+            Mode::Normal => self.apart(a, set),
+            Mode::Buffering => stateset::difference(self.apart(a, set), self.buffering),
+            Mode::Emptying if stateset::member(self.matching, a) => stateset::intersection(
+                set,
+                self.matching,
+            ),
+            Mode::Emptying => stateset::empty(),
+        }
+    }
+
+    // The states that the transitions of state a that read x lead to.
+    #[inline]
+    fn targets_of(&self, x: u8, a: usize) -> StateSet
+        requires { Row self.now.table.machine self.now.table.list.now self.now.targets.now x × (a < self.now.table.machine.states) }
+        ensures { result ≡ get_or self.now.targets.now (set_of self.now.table.machine.states x a) 0 }
+    {
+        let states = self.table.machine.states;
+        self.targets[2 + states + usize::from(x) * states + a]
+    }
+
+    // Lowers the number of state a along its transitions that read x into the row `next`.
+    fn visit(&self, mode: Mode, x: u8, next: &Row, s: Sum, a: usize, row: &mut Row) -> bool
+        requires { Row self.now.table.machine self.now.table.list.now self.now.targets.now x × (a < self.now.table.machine.states) × Glance next.now self.now.table.machine.states s }
+        ensures { Lowering (Only (Through self.now.table.machine self.now.table.list.now mode x next.now) a) row.old row.new result }
+    {
+        let live = stateset::intersection(self.targets_of(x, a), s.live);
+        if live == 0 {
+            return lower(row, a, NONE);
+        }
+        let v = least_in(next, s, self.cut(mode, a, live));
+        lower(row, a, v)
+    }
+
+    // Lowers the numbers of the states of a set along transitions that read x into the row `next`, and says whether any number fell. It is
+    // always inlined, as read and close are: each call names a mode, which is then not tested state by state.
+    // Time: the states of the set, each once; and for each, where its targets do not have the least number of all, its targets.
+    #[inline(always)]
+    fn pass(&self, mode: Mode, x: u8, set: StateSet, next: &Row, row: &mut Row) -> bool
+        requires { Row self.now.table.machine self.now.table.list.now self.now.targets.now x × ((q : ℕ) → In set q → q < self.now.table.machine.states) }
+        ensures { Lowering (Within (Through self.now.table.machine self.now.table.list.now mode x next.now) set) row.old row.new result }
+    {
+        let s = glance(next, self.table.machine.states);
+        let mut fell = false;
+        for a in stateset::members(set) {
+            fell |= self.visit(mode, x, next, s, a, row);
+        }
+        fell
+    }
+
+    // The same where x is a letter; where it is 0, nothing is read.
+    #[inline(always)]
+    pub fn read(&self, mode: Mode, x: u8, set: StateSet, next: &Row, row: &mut Row) -> bool
+        requires { Row self.now.table.machine self.now.table.list.now self.now.targets.now x × ((q : ℕ) → In set q → q < self.now.table.machine.states) }
+        ensures { Lowering (Within (Reads self.now.table.machine self.now.table.list.now mode x next.now) set) row.old row.new result }
+    {
+        x != 0 && self.pass(mode, x, set, next, row)
+    }
+
+    // Lowers the numbers of the states of a set along transitions that read nothing until none of them would lower one.
+    #[inline(always)]
+    pub fn close(&self, mode: Mode, set: StateSet, row: &mut Row)
+        requires { (q : ℕ) → In set q → q < self.now.table.machine.states }
+        ensures { Closed self.now.table.machine self.now.table.list.now (In set) mode row.old row.new }
+    {
+        let may = stateset::intersection(set, self.targets[0]);
+        if may == 0 {
+            return;
+        }
+        let mut old = *row;
+        // Until a pass changes nothing.
+        while self.pass(mode, 0, may, &old, row) {
+            old = *row;
+        }
+    }
 }

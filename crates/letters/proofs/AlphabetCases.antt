@@ -1,5 +1,6 @@
 -- The loops over the 256 letters of a record, by their turns.
 --
+-- greater, smaller, counted == the larger of two, the smaller, and a count that may rise, as definitions say it
 -- largest-..    == the largest letter: of none, of one more, of all
 -- lettered-..   == how many bytes have letters, likewise
 -- seen-..       == which letters are noted, likewise
@@ -15,6 +16,10 @@ use native.Mathlib.Numerals.{add-one}
 use native.Mathlib.Decide.{ℕ_discrete}
 use lib.ListN.{length, get_or, set, replicate, length-set, length-replicate}
 use lib.Dec.{leb, eqb}
+use mir.Val.{bool_byte}
+use Rattle.std.specs.Ordering.{nat_cmp, ord_max, ord_min}
+use Rattle.std.proofs.lemmas.Bool.Decides.{nat_tests}
+use Rattle.std.proofs.lemmas.Grind.{common_steps}
 use borrow.Author.Tests.{eq-eqb, ne_eqb, le-leb, lt-leb, leb-true, leb-false}
 use Rattle.basics.specs.Bools.{same_truth}
 use Rattle.basics.specs.Lists.Laws.{set_cases, zeros_at}
@@ -25,6 +30,20 @@ use Rattle.letters.specs.Alphabet.{byte_values, max_lines, letter_in, largest_of
 use Rattle.letters.specs.declared.alphabet.Alphabet.{Alphabet}
 use Rattle.letters.specs.Seen.{noted, Seen}
 use Rattle.letters.specs.Alphabet.Laws.{letter_in_lem, largest_more, lettered_more}
+
+pub greater : (a b : ℕ) → ord_max nat_cmp a b ≡ cond (leb a b) b a
+greater a b = grind (arith, common_steps, nat_tests)
+
+pub smaller : (a b : ℕ) → ord_min nat_cmp a b ≡ cond (leb a b) a b
+smaller a b = grind (arith, common_steps, nat_tests)
+
+pub counted : (m : ℕ) (b : Bool) → m + bool_byte (not b) ≡ cond b m (suc m)
+counted m true = omega arith
+counted m false = omega arith
+
+pub one_more : (b : Bool) → bool_byte b ≤ 1
+one_more true = omega arith
+one_more false = omega arith
 
 module _ (l : List ℕ) where
   pub largest_none : 0 ≡ largest_of 0 (letter_in l)

@@ -1,8 +1,7 @@
 -- A text of letters as the reader meets it.
 --
--- entry-..             == a line: too short, a bad column, a bad end, good
 -- kept_above, kept_same == a letter as it is kept is above 0; one that is kept as it is
--- LinesTo text i at letters == what holds once i lines are read
+-- LinesTo text i letters == what holds once i lines are read
 -- lines_none, line_next, lines_end == before the first line, one line more, after the last
 -- line_broken, line_many, line_byte, line_twice == a line has a fault: of its columns, the 251st, no byte value, a byte listed before
 -- load_fault_lem, load_large, load_gap, load_good == the answer: a fault of a line, a letter above 250 or 0, a gap, none
@@ -15,71 +14,28 @@ use native.Mathlib.Omega.{arith}
 use native.Mathlib.Numerals.{add-one}
 use native.Mathlib.Decide.{ℕ_discrete, dec_lt}
 use lib.ListN.{length, get_or, set, replicate, length-set, length-replicate}
-use lib.Dec.{ltb, eqb}
+use lib.Dec.{ltb}
 use borrow.Author.Tests.{lt-ltb, le-ltb, eq-eqb, ne_eqb}
 use Rattle.basics.specs.Lists.Laws.{set_cases, zeros_at}
 use Rattle.basics.specs.Search.{all_below}
 use Rattle.basics.specs.Search.Laws.{true_or_false, and_false_left, and_false_right, all_below_true, all_below_false}
 use Rattle.basics.specs.Each.{each_below}
-use Rattle.columns.specs.Column.{no_number}
 use Rattle.fsbm.specs.Machine.{max_letters}
+use Rattle.std.specs.Prelude.{Ok, Err}
 use Rattle.fsbm.specs.Answers.{refusal}
+use Rattle.fsbm.specs.Answers.Laws.{unless_refused, unless_done}
+use Rattle.fsbm.specs.declared.answer.Refusal.{Refusal}
+use Rattle.fsbm.specs.declared.answer.Refusal.TheVariants.{BadCount, BadByte, MissingLetter}
 use Rattle.sheet.specs.Series.{or_else, first_of}
 use Rattle.sheet.specs.Series.Laws.{or_none, or_fault, first_at, first_next}
 use Rattle.sheet.specs.Reading.{unless, column_at, line_fault}
-use Rattle.sheet.specs.Reading.Laws.{line_none}
-use Rattle.sheet.proofs.PartCases.{ColumnsRead, columns_none, columns_next, line_short, line_column, line_end, line_good}
+use Rattle.sheet.specs.Parts.{Numbers}
+use Rattle.sheet.proofs.PartCases.{Refused, refused_as}
 use Rattle.letters.specs.Alphabet.{byte_values, max_lines, letter_in, largest_of, gapless}
 use Rattle.letters.specs.Alphabet.Laws.{letter_in_lem, letters_list, largest_bound, largest_one, largest_same, gapless_same, gapless_true, gapless_few}
-use Rattle.letters.specs.Loading.{line_start, byte_at, letter_at, lines_begun, listed_before, entry_fault, letters_run, load_fault, last_of, letter_of, alphabet_of, no_alphabet, load_answer}
+use Rattle.letters.specs.Loading.{line_start, byte_at, letter_at, lines_begun, listed_before, entry_fault, letters_run, load_fault, last_of, letter_of, alphabet_of, load_answer}
 use Rattle.letters.specs.Loading.Laws.{last_here, last_before, last_none, last_some, last_same, largest_last, gapless_last, GoodEntry, entry_none, entries_apart, entries_below, entries_few}
-use Rattle.letters.specs.Lines.{kept, EntryRead, LinesRead}
-use Rattle.letters.specs.declared.loading.Entry.{Entry}
-use Rattle.letters.specs.declared.loading.Loaded.{Loaded}
-
--- One line
-
-module _ (text : List ℕ) (at : ℕ) where
-  pub entry_bad : (v : ℕ) (r : Entry) → r ≡ record { fault = v; byte = 0; letter = 0 } → (v ≡ 0 → ⊥) → line_fault text 2 at ≡ v → EntryRead text at r
-  entry_bad v r is z e =
-      subst (EntryRead text at) (sym is) (record { fault = sym e; byte = λ q. absurd (z q); letter = λ q. absurd (z q) })
-
-  pub entry_short : length text < at + 11 → line_fault text 2 at ≡ 1
-  entry_short h = line_short text at 2 (omega arith)
-
-  module _ (long : at + 11 ≤ length text) (b : ℕ) (b-is : b ≡ column_at text at) where
-    fits : at + 2 * 5 + 1 ≤ length text
-    fits = omega arith
-
-    first_is : b ≡ column_at text (at + 0 * 5)
-    first_is = b-is ∙ ap (column_at text) (omega arith)
-
-    pub entry_first : b ≡ no_number → line_fault text 2 at ≡ 2
-    entry_first e = line_column text at 2 fits 0 (0 ∷ 0 ∷ []) (columns_none text at (0 ∷ 0 ∷ [])) (omega arith) (sym first_is ∙ e)
-
-    module _ (good : b ≡ no_number → ⊥) (x : ℕ) (x_is : x ≡ column_at text (at + 5)) where
-      one : ColumnsRead text at 1 (b ∷ 0 ∷ [])
-      one = columns_next text at 0 b (0 ∷ 0 ∷ []) (columns_none text at (0 ∷ 0 ∷ [])) first_is good (omega arith)
-
-      second_is : x ≡ column_at text (at + 1 * 5)
-      second_is = x_is ∙ ap (column_at text) (omega arith)
-
-      pub entry_second : x ≡ no_number → line_fault text 2 at ≡ 2
-      entry_second e = line_column text at 2 fits 1 (b ∷ 0 ∷ []) one (omega arith) (sym second_is ∙ e)
-
-      module _ (fine : x ≡ no_number → ⊥) where
-        two : ColumnsRead text at 2 (b ∷ x ∷ [])
-        two = columns_next text at 1 x (b ∷ 0 ∷ []) one second_is fine (omega arith)
-
-        end_at : get_or text (at + 2 * 5) 0 ≡ get_or text (at + 10) 0
-        end_at = ap (λ (k : ℕ). get_or text k 0) (omega arith)
-
-        pub entry_end : (get_or text (at + 10) 0 ≡ 10 → ⊥) → line_fault text 2 at ≡ 2
-        entry_end d = line_end text at 2 fits 2 (b ∷ x ∷ []) two refl (λ (q : get_or text (at + 2 * 5) 0 ≡ 10). d (sym end_at ∙ q))
-
-        pub entry_good : get_or text (at + 10) 0 ≡ 10 → EntryRead text at (record { fault = 0; byte = b; letter = x })
-        entry_good e =
-            record { fault = sym (line_good text at 2 fits 2 (b ∷ x ∷ []) two refl (end_at ∙ e)); byte = λ q. b-is; letter = λ q. x_is }
+use Rattle.letters.specs.Lines.{kept, LinesRead}
 
 -- A letter as it is kept
 
@@ -115,156 +71,140 @@ kept_above x e = at (kept_cases x)
 
 -- All lines
 
-pub record LinesTo (text : List ℕ) (i at : ℕ) (letters : List ℕ) : Type 0 where
-  pub place : at ≡ 11 * i
+pub record LinesTo (text : List ℕ) (i : ℕ) (letters : List ℕ) : Type 0 where
   pub few : i ≤ max_lines
-  pub inside : at ≤ length text
   pub good : first_of i (entry_fault text) ≡ 0
   pub long : length letters ≡ byte_values
   pub are : (v : ℕ) → v < byte_values → get_or letters v 0 ≡ last_of (byte_at text) (λ j. kept (letter_at text j)) i v
 
+count_fault : Refused 3 BadCount
+unfolding refusal
+count_fault = (λ (q : 3 ≡ 0). omega arith, refl)
+
+byte_fault : Refused 21 BadByte
+unfolding refusal
+byte_fault = (λ (q : 21 ≡ 0). omega arith, refl)
+
 module _ (text : List ℕ) where
-  pub lines_none : (letters : List ℕ) → letters ≡ replicate byte_values 0 → LinesTo text 0 0 letters
+  pub lines_none : (letters : List ℕ) → letters ≡ replicate byte_values 0 → LinesTo text 0 letters
   unfolding first_of last_of
   lines_none letters e =
       record {
-        place = refl;
         few = omega arith;
-        inside = omega arith;
         good = refl;
         long = ap length e ∙ length-replicate {A = ℕ} byte_values 0;
         are = λ v h. ap (λ (l : List ℕ). get_or l v 0) e ∙ zeros_at byte_values v;
       }
 
-  module _ (i at : ℕ) (letters : List ℕ) (to : LinesTo text i at letters) where
-    pub lines_end : length text ≤ at → LinesRead text 0 letters
-    lines_end h =
-        let p = to.place in
-        let s = to.inside in
-        let q : i ≡ lines_begun text = omega arith in
-        record {
-          fault = sym (ap (λ (k : ℕ). first_of k (entry_fault text)) (sym q) ∙ to.good);
-          long = to.long;
-          letters = λ z v l. subst (λ (k : ℕ). get_or letters v 0 ≡ last_of (byte_at text) (λ j. kept (letter_at text j)) k v) q (to.are v l);
-        }
+  module _ (i : ℕ) (letters : List ℕ) (to : LinesTo text i letters) where
+    pub lines_end : i ≡ lines_begun text → LinesRead text (Ok tt) letters
+    lines_end q = (
+      ap (λ (k : ℕ). first_of k (entry_fault text)) (sym q) ∙ to.good,
+      record { long = to.long; letters = λ v l. subst (λ (k : ℕ). get_or letters v 0 ≡ last_of (byte_at text) (λ j. kept (letter_at text j)) k v) q (to.are v l) },
+    )
 
-    module _ (more : at < length text) where
-      begun : i < lines_begun text
-      begun = let p = to.place in omega arith
+    module _ (more : i < lines_begun text) where
+      faulty : (v : ℕ) (f : Refusal) → Refused v f → entry_fault text i ≡ v → LinesRead text (Err f) letters
+      faulty v f bad e = refused_as v _ f bad (sym (first_at (lines_begun text) (entry_fault text) i v bad.0 to.good e more))
 
-      faulty : (v : ℕ) → (v ≡ 0 → ⊥) → entry_fault text i ≡ v → LinesRead text v letters
-      faulty v z e =
-          record { fault = first_at (lines_begun text) (entry_fault text) i v z to.good e begun; long = to.long; letters = λ q. absurd (z q) }
+      pub line_broken : (f : Refusal) → Refused (line_fault text 2 (line_start i)) f → LinesRead text (Err f) letters
+      unfolding entry_fault
+      line_broken f bad = faulty (line_fault text 2 (line_start i)) f bad (or_fault _ _ bad.0)
 
-      module _ (r : Entry) (read : EntryRead text at r) where
-        line_is : r.fault ≡ line_fault text 2 (line_start i)
-        line_is = read.fault ∙ ap (line_fault text 2) to.place
+      module _ (numbers : List ℕ) (fine : line_fault text 2 (line_start i) ≡ 0) (read : Numbers text 2 (line_start i) numbers) where
+        abbrev byte : ℕ
+        byte = get_or numbers 0 0
 
-        pub line_broken : (r.fault ≡ 0 → ⊥) → LinesRead text r.fault letters
+        byte_is : byte ≡ byte_at text i
+        byte_is = let z : line_start i + 0 * 5 ≡ line_start i = omega arith in read.are 0 (omega arith) ∙ ap (column_at text) z
+
+        letter_is : get_or numbers 1 0 ≡ letter_at text i
+        letter_is = read.are 1 (omega arith)
+
+        rest_is : entry_fault text i ≡ or_else (unless (ltb i max_lines) 3) (unless (ltb (byte_at text i) byte_values && not (listed_before text i)) 21)
         unfolding entry_fault
-        line_broken z = faulty r.fault z (or_fault _ _ (λ (q : line_fault text 2 (line_start i) ≡ 0). z (line_is ∙ q)) ∙ sym line_is)
+        rest_is = or_none _ _ fine
 
-        module _ (fine : r.fault ≡ 0) where
-          byte_is : r.byte ≡ byte_at text i
-          byte_is = read.byte fine ∙ ap (column_at text) to.place
+        pub line_many : max_lines ≤ i → LinesRead text (Err BadCount) letters
+        line_many h =
+            faulty 3 BadCount count_fault
+            (rest_is ∙ (ap (λ (z : Bool). or_else (unless z 3) (unless (ltb (byte_at text i) byte_values && not (listed_before text i)) 21)) (le-ltb i max_lines h)
+            ∙ or_fault 3 _ (λ (q : 3 ≡ 0). omega arith)))
 
-          letter_is : r.letter ≡ letter_at text i
-          letter_is = let p = to.place in read.letter fine ∙ ap (column_at text) (omega arith)
+        module _ (one : i < max_lines) where
+          last_is : entry_fault text i ≡ unless (ltb (byte_at text i) byte_values && not (listed_before text i)) 21
+          last_is =
+              rest_is ∙ (ap (λ (z : Bool). or_else (unless z 3) (unless (ltb (byte_at text i) byte_values && not (listed_before text i)) 21)) (lt-ltb i max_lines one)
+              ∙ or_none 0 _ refl)
 
-          rest_is : entry_fault text i ≡ or_else (unless (ltb i max_lines) 3) (unless (ltb (byte_at text i) byte_values && not (listed_before text i)) 21)
-          unfolding entry_fault
-          rest_is = or_none _ _ (sym line_is ∙ fine)
+          pub line_byte : byte_values ≤ byte → LinesRead text (Err BadByte) letters
+          line_byte h =
+              faulty 21 BadByte byte_fault
+              (last_is ∙ ap (λ (z : Bool). unless z 21) (and_false_left _ _ (le-ltb (byte_at text i) byte_values (subst (λ (k : ℕ). byte_values ≤ k) byte_is h))))
 
-          pub line_many : max_lines ≤ i → LinesRead text 3 letters
-          line_many h =
-              faulty 3 (λ (q : 3 ≡ 0). omega arith)
-              (rest_is ∙ (ap (λ (z : Bool). or_else (unless z 3) (unless (ltb (byte_at text i) byte_values && not (listed_before text i)) 21)) (le-ltb i max_lines h)
-              ∙ or_fault 3 _ (λ (q : 3 ≡ 0). omega arith)))
+          module _ (small : byte < byte_values) where
+            kept_is : get_or letters byte 0 ≡ last_of (byte_at text) (λ j. kept (letter_at text j)) i (byte_at text i)
+            kept_is = to.are byte small ∙ ap (last_of (byte_at text) (λ j. kept (letter_at text j)) i) byte_is
 
-          module _ (one : i < max_lines) where
-            last_is : entry_fault text i ≡ unless (ltb (byte_at text i) byte_values && not (listed_before text i)) 21
-            last_is =
-                rest_is ∙ (ap (λ (z : Bool). or_else (unless z 3) (unless (ltb (byte_at text i) byte_values && not (listed_before text i)) 21)) (lt-ltb i max_lines one)
-                ∙ or_none 0 _ refl)
+            pub line_twice : (get_or letters byte 0 ≡ 0 → ⊥) → LinesRead text (Err BadByte) letters
+            line_twice d = faulty 21 BadByte byte_fault (at_none (ℕ_discrete (entry_fault text i) 0))
+              where
+                at_none : Dec (entry_fault text i ≡ 0) → entry_fault text i ≡ 21
+                at_none (yes e) =
+                    let g = (entry_none text i).0 e in
+                    absurd (d (kept_is ∙ last_none (byte_at text) (λ j. kept (letter_at text j)) i (byte_at text i) g.new))
+                at_none (no n) = by (true_or_false (ltb (byte_at text i) byte_values && not (listed_before text i)))
+                  where
+                    by : ((ltb (byte_at text i) byte_values && not (listed_before text i)) ≡ true) ⊎ ((ltb (byte_at text i) byte_values && not (listed_before text i)) ≡ false)
+                        → entry_fault text i ≡ 21
+                    by (inl t) = absurd (n (last_is ∙ ap (λ (z : Bool). unless z 21) t))
+                    by (inr t) = last_is ∙ ap (λ (z : Bool). unless z 21) t
 
-            pub line_byte : byte_values ≤ r.byte → LinesRead text 21 letters
-            line_byte h =
-                faulty 21 (λ (q : 21 ≡ 0). omega arith)
-                (last_is ∙ ap (λ (z : Bool). unless z 21) (and_false_left _ _ (le-ltb (byte_at text i) byte_values (subst (λ (k : ℕ). byte_values ≤ k) byte_is h))))
+            pub line_next : get_or letters byte 0 ≡ 0 → (k : ℕ) → k ≡ kept (get_or numbers 1 0) → LinesTo text (i + 1) (set letters byte k)
+            line_next e k k-is =
+                record {
+                  few = omega arith;
+                  good = first_next i (entry_fault text) to.good ((entry_none text i).1 entry);
+                  long = length-set letters byte k ∙ to.long;
+                  are = λ v l. subst (λ (n : ℕ). get_or (set letters byte k) v 0 ≡ last_of (byte_at text) (λ j. kept (letter_at text j)) n v) (sym (add-one i)) (changed v l);
+                }
+              where
+                entry : GoodEntry text i
+                entry =
+                    record {
+                      line = fine;
+                      few = one;
+                      byte = subst (λ (b : ℕ). b < byte_values) byte_is small;
+                      new = λ j l q. last_some (byte_at text) (λ j. kept (letter_at text j)) i (byte_at text i) j (λ m. kept_above (letter_at text m)) l q (sym kept_is ∙ e);
+                    }
 
-            module _ (small : r.byte < byte_values) where
-              kept_is : get_or letters r.byte 0 ≡ last_of (byte_at text) (λ j. kept (letter_at text j)) i (byte_at text i)
-              kept_is = to.are r.byte small ∙ ap (last_of (byte_at text) (λ j. kept (letter_at text j)) i) byte_is
+                new : k ≡ last_of (byte_at text) (λ j. kept (letter_at text j)) (suc i) byte
+                new = k-is ∙ (ap kept letter_is ∙ sym (last_here (byte_at text) (λ j. kept (letter_at text j)) i byte (sym byte_is)))
 
-              pub line_twice : (get_or letters r.byte 0 ≡ 0 → ⊥) → LinesRead text 21 letters
-              line_twice d = faulty 21 (λ (q : 21 ≡ 0). omega arith) (at_none (ℕ_discrete (entry_fault text i) 0))
-                where
-                  at_none : Dec (entry_fault text i ≡ 0) → entry_fault text i ≡ 21
-                  at_none (yes e) =
-                      let g = (entry_none text i).0 e in
-                      absurd (d (kept_is ∙ last_none (byte_at text) (λ j. kept (letter_at text j)) i (byte_at text i) g.new))
-                  at_none (no n) = by (true_or_false (ltb (byte_at text i) byte_values && not (listed_before text i)))
-                    where
-                      by : ((ltb (byte_at text i) byte_values && not (listed_before text i)) ≡ true) ⊎ ((ltb (byte_at text i) byte_values && not (listed_before text i)) ≡ false)
-                          → entry_fault text i ≡ 21
-                      by (inl t) = absurd (n (last_is ∙ ap (λ (z : Bool). unless z 21) t))
-                      by (inr t) = last_is ∙ ap (λ (z : Bool). unless z 21) t
-
-              pub line_next : get_or letters r.byte 0 ≡ 0 → (k : ℕ) → k ≡ kept r.letter → LinesTo text (i + 1) (at + 11) (set letters r.byte k)
-              line_next e k k-is =
-                  let p = to.place in
-                  record {
-                    place = omega arith;
-                    few = omega arith;
-                    inside = enough;
-                    good = first_next i (entry_fault text) to.good ((entry_none text i).1 entry);
-                    long = length-set letters r.byte k ∙ to.long;
-                    are = λ v l. subst (λ (n : ℕ). get_or (set letters r.byte k) v 0 ≡ last_of (byte_at text) (λ j. kept (letter_at text j)) n v) (sym (add-one i)) (changed v l);
-                  }
-                where
-                  entry : GoodEntry text i
-                  entry =
-                      record {
-                        line = sym line_is ∙ fine;
-                        few = one;
-                        byte = subst (λ (b : ℕ). b < byte_values) byte_is small;
-                        new = λ j l q. last_some (byte_at text) (λ j. kept (letter_at text j)) i (byte_at text i) j (λ m. kept_above (letter_at text m)) l q (sym kept_is ∙ e);
-                      }
-
-                  enough : at + 11 ≤ length text
-                  enough = let g = line_long entry.line in let p = to.place in omega arith
-                    where
-                      line_long : line_fault text 2 (line_start i) ≡ 0 → line_start i + 2 * 5 + 1 ≤ length text
-                      line_long z = ((line_none text 2 (line_start i)).0 z).long
-
-                  new : k ≡ last_of (byte_at text) (λ j. kept (letter_at text j)) (suc i) r.byte
-                  new = k-is ∙ (ap kept letter_is ∙ sym (last_here (byte_at text) (λ j. kept (letter_at text j)) i r.byte (sym byte_is)))
-
-                  changed : (v : ℕ) → v < byte_values → get_or (set letters r.byte k) v 0 ≡ last_of (byte_at text) (λ j. kept (letter_at text j)) (suc i) v
-                  changed =
-                      set_cases letters r.byte k 0 (let w = to.long in omega arith)
-                      (λ v a. v < byte_values → a ≡ last_of (byte_at text) (λ j. kept (letter_at text j)) (suc i) v)
-                      (λ l. new)
-                      (λ v d l. to.are v l ∙ sym (last_before (byte_at text) (λ j. kept (letter_at text j)) i v (λ (q : byte_at text i ≡ v). d (sym q ∙ sym byte_is))))
+                changed : (v : ℕ) → v < byte_values → get_or (set letters byte k) v 0 ≡ last_of (byte_at text) (λ j. kept (letter_at text j)) (suc i) v
+                changed =
+                    set_cases letters byte k 0 (let w = to.long in omega arith)
+                    (λ v a. v < byte_values → a ≡ last_of (byte_at text) (λ j. kept (letter_at text j)) (suc i) v)
+                    (λ l. new)
+                    (λ v d l. to.are v l ∙ sym (last_before (byte_at text) (λ j. kept (letter_at text j)) i v (λ (q : byte_at text i ≡ v). d (sym q ∙ sym byte_is))))
 
 -- The answer
 
-abbrev answered : ℕ → Loaded
-answered v = record { refusal = record { number = v; needed = 0 }; alphabet = no_alphabet }
-
-refused_is : (text : List ℕ) (v : ℕ) → (v ≡ 0 → ⊥) → load_fault text ≡ v → answered v ≡ load_answer text
+refused_is : (text : List ℕ) (v : ℕ) (f : Refusal) → Refused v f → load_fault text ≡ v → Err f ≡ load_answer text
 unfolding load_answer
-refused_is text v z e =
-    ap (λ (y : Bool). record { refusal = refusal v; alphabet = cond y (alphabet_of text) no_alphabet }) (sym (ne_eqb v 0 z))
-    ∙ ap (λ (f : ℕ). record { refusal = refusal f; alphabet = cond (eqb f 0) (alphabet_of text) no_alphabet }) (sym e)
+refused_is text v f bad e =
+    ap (λ (x : Refusal). Err x) (bad.1 ∙ ap refusal (sym e)) ∙ unless_refused (load_fault text) (Ok (alphabet_of text)) (λ (q : load_fault text ≡ 0). bad.0 (sym e ∙ q))
 
-pub load_fault_lem : (text : List ℕ) (v : ℕ) (after : List ℕ) (r : Loaded) → LinesRead text v after → (v ≡ 0 → ⊥) → r ≡ answered v → r ≡ load_answer text
+pub load_fault_lem : (text after : List ℕ) (f : Refusal) → LinesRead text (Err f) after → Err f ≡ load_answer text
 unfolding load_fault
-load_fault_lem text v after r h z e =
-    e ∙ refused_is text v z (or_fault _ _ (λ (q : first_of (lines_begun text) (entry_fault text) ≡ 0). z (h.fault ∙ q)) ∙ sym h.fault)
+load_fault_lem text after f bad = refused_is text (first_of (lines_begun text) (entry_fault text)) f bad (or_fault _ _ bad.0)
+
+gap_fault : Refused 22 MissingLetter
+unfolding refusal
+gap_fault = (λ (q : 22 ≡ 0). omega arith, refl)
 
 -- what is read where no line has a fault
-module _ (text after : List ℕ) (read : LinesRead text 0 after) (m : ℕ) (m-is : m ≡ largest_of byte_values (letter_in after)) where
+module _ (text after : List ℕ) (read : LinesRead text (Ok tt) after) (m : ℕ) (m-is : m ≡ largest_of byte_values (letter_in after)) where
   abbrev n : ℕ
   n = lines_begun text
 
@@ -278,13 +218,13 @@ module _ (text after : List ℕ) (read : LinesRead text 0 after) (m : ℕ) (m-is
   y i = kept (x i)
 
   none : first_of (lines_begun text) (entry_fault text) ≡ 0
-  none = sym read.fault
+  none = read.0
 
   few : n ≤ max_lines
   few = entries_few text none
 
   after_is : (v : ℕ) → v < byte_values → letter_in after v ≡ last_of b y n v
-  after_is v h = letter_in_lem after v h ∙ read.letters refl v h
+  after_is v h = letter_in_lem after v h ∙ read.1.letters v h
 
   largest_is : m ≡ largest_of n y
   largest_is =
@@ -294,8 +234,8 @@ module _ (text after : List ℕ) (read : LinesRead text 0 after) (m : ℕ) (m-is
   unfolding load_fault
   run_is = or_none _ _ none
 
-  no_run : (r : Loaded) → letters_run text ≡ false → r ≡ answered 22 → r ≡ load_answer text
-  no_run r f e = e ∙ refused_is text 22 (λ (q : 22 ≡ 0). omega arith) (run_is ∙ ap (λ (z : Bool). unless z 22) f)
+  no_run : letters_run text ≡ false → Err MissingLetter ≡ load_answer text
+  no_run f = refused_is text 22 MissingLetter gap_fault (run_is ∙ ap (λ (z : Bool). unless z 22) f)
 
   -- a letter that is not kept as it is: 0, or above 250 and so above the number of lines
   wrong : (i : ℕ) → i < n → (x i ≡ 0) ⊎ (max_letters < x i) → letters_run text ≡ false
@@ -312,8 +252,8 @@ module _ (text after : List ℕ) (read : LinesRead text 0 after) (m : ℕ) (m-is
           absurd (omega arith)
       at (inr f) = f
 
-  pub load_large : (r : Loaded) → max_letters < m → r ≡ answered 22 → r ≡ load_answer text
-  load_large r h e = no_run r (at (largest_one y n)) e
+  pub load_large : max_letters < m → Err MissingLetter ≡ load_answer text
+  load_large h = no_run (at (largest_one y n))
     where
       at : (largest_of n y ≡ 0) ⊎ ((i : ℕ) × (i < n) × (largest_of n y ≡ y i)) → letters_run text ≡ false
       at (inl z) = let q = largest_is in absurd (omega arith)
@@ -342,16 +282,15 @@ module _ (text after : List ℕ) (read : LinesRead text 0 after) (m : ℕ) (m-is
         ∙ (gapless_last b x n (entries_apart text none) byte_values (entries_below text none)
         ∙ sym (ap (λ (z : Bool). z && gapless n x) ((all_below_true (λ i. ltb 0 (letter_at text i)) n).1 (λ i l. lt-ltb 0 (x i) (same i l).1))))
 
-    pub load_gap : (r : Loaded) → gapless byte_values (letter_in after) ≡ false → r ≡ answered 22 → r ≡ load_answer text
-    load_gap r f e = no_run r (sym gapless_is ∙ f) e
+    pub load_gap : gapless byte_values (letter_in after) ≡ false → Err MissingLetter ≡ load_answer text
+    load_gap f = no_run (sym gapless_is ∙ f)
 
-    pub load_good : gapless byte_values (letter_in after) ≡ true
-        → record { refusal = record { number = 0; needed = 0 }; alphabet = record { letters = after; count = m } } ≡ load_answer text
+    pub load_good : gapless byte_values (letter_in after) ≡ true → Ok (record { letters = after; count = m }) ≡ load_answer text
     unfolding load_answer alphabet_of
     load_good t =
-        ap (λ (l : List ℕ). record { refusal = refusal 0; alphabet = record { letters = l; count = m } }) list_is
-        ∙ (ap (λ (c : ℕ). record { refusal = refusal 0; alphabet = record { letters = each_below byte_values (λ v. letter_of text v ∷ []); count = c } }) count_is
-        ∙ ap (λ (f : ℕ). record { refusal = refusal f; alphabet = cond (eqb f 0) (alphabet_of text) no_alphabet }) (sym no_fault))
+        ap (λ (l : List ℕ). Ok (record { letters = l; count = m })) list_is
+        ∙ (ap (λ (c : ℕ). Ok (record { letters = each_below byte_values (λ v. letter_of text v ∷ []); count = c })) count_is
+        ∙ unless_done (load_fault text) _ no_fault)
       where
         no_fault : load_fault text ≡ 0
         no_fault = run_is ∙ ap (λ (z : Bool). unless z 22) (sym gapless_is ∙ t)
@@ -360,7 +299,4 @@ module _ (text after : List ℕ) (read : LinesRead text 0 after) (m : ℕ) (m-is
         count_is = largest_is ∙ largest_same y x n (λ i l. (same i l).0)
 
         list_is : after ≡ each_below byte_values (λ v. letter_of text v ∷ [])
-        list_is = letters_list after (letter_of text) read.long (λ v h. sym (letter_in_lem after v h) ∙ letters_are v h)
-
-pub lines_zero : (text : List ℕ) (v : ℕ) (after : List ℕ) → LinesRead text v after → v ≡ 0 → LinesRead text 0 after
-lines_zero text v after h z = subst (λ (f : ℕ). LinesRead text f after) z h
+        list_is = letters_list after (letter_of text) read.1.long (λ v h. sym (letter_in_lem after v h) ∙ letters_are v h)

@@ -11,15 +11,15 @@
 -- letter_of text v      == the letter that the text gives to byte v; 0 where no line lists it
 -- alphabet_of text      == the record of a text without fault
 -- load_answer text      == what load_letters answers
-use Rattle.std.specs.Prelude.{ℕ, zero, suc, ◌+◌, ◌*◌, ◌/◌, List, [], ◌∷◌, Bool, cond, not, ◌&&◌, length, replicate, leb, ltb, eqb}
+use Rattle.std.specs.Prelude.{ℕ, zero, suc, ◌+◌, ◌*◌, ◌/◌, List, [], ◌∷◌, Result, Ok, Bool, cond, not, ◌&&◌, length, leb, ltb, eqb}
 use Rattle.basics.specs.Search.{any_below, all_below}
 use Rattle.basics.specs.Each.{each_below}
-use Rattle.fsbm.specs.Answers.{refusal}
+use Rattle.fsbm.specs.Answers as answers
+use Rattle.fsbm.specs.declared.answer.Refusal.{Refusal}
 use Rattle.sheet.specs.Series.{or_else, first_of}
 use Rattle.sheet.specs.Reading.{unless, column_at, line_fault}
 use Rattle.letters.specs.Alphabet.{byte_values, max_lines, largest_of, gapless}
 use Rattle.letters.specs.declared.alphabet.Alphabet.{Alphabet}
-use Rattle.letters.specs.declared.loading.Loaded.{Loaded}
 pub mod Laws
 
 -- a line has two columns and so 11 bytes
@@ -64,10 +64,5 @@ unfoldable pub alphabet_of : List ℕ → Alphabet
 alphabet_of text =
     record { letters = each_below byte_values (λ v. letter_of text v ∷ []); count = largest_of (lines_begun text) (letter_at text) }
 
--- the record in the answer of a refusal
-abbrev pub no_alphabet : Alphabet
-no_alphabet = record { letters = replicate byte_values 0; count = 0 }
-
-unfoldable pub load_answer : List ℕ → Loaded
-load_answer text =
-    record { refusal = refusal (load_fault text); alphabet = cond (eqb (load_fault text) 0) (alphabet_of text) no_alphabet }
+unfoldable pub load_answer : List ℕ → Result Alphabet Refusal
+load_answer text = answers.unless (load_fault text) (Ok (alphabet_of text))

@@ -23,7 +23,12 @@ use Rattle.basics.specs.Search.Laws.{all_below_false, and_both_true, and_false_r
 use Rattle.basics.specs.Search.Loops.{pass, stop, first, second}
 use Rattle.basics.specs.Lists.{put}
 use Rattle.basics.specs.Lists.Laws.{put_put, put_next}
-use Rattle.columns.specs.Column.{no_number, column_of}
+use Rattle.std.specs.Prelude.{None, Some, Ok, Err}
+use Rattle.columns.specs.Column.{no_number, some_number, column_of}
+use Rattle.columns.specs.Column.Laws.{none_answered, number_answered}
+use Rattle.fsbm.specs.Answers.{refusal, passed}
+use Rattle.fsbm.specs.Answers.Laws.{unless_refused}
+use Rattle.fsbm.specs.declared.answer.Refusal.{Refusal}
 use Rattle.columns.specs.Column.Laws.{column_length}
 use Rattle.fsbm.specs.Answers.{good_letter}
 use Rattle.lines.specs.Line.{longest_line, letter_at, tabulate, holds_number, line_refusal, answer_line}
@@ -62,13 +67,15 @@ pub read_none : (line : List ℕ) (n : ℕ) (word : List ℕ) → 255 ≤ length
 unfolding all_below tabulate
 read_none line n word room = record { within = omega arith; numbers = refl; word_so_far = refl; room = room }
 
-module _ (line : List ℕ) (n : ℕ) (word : List ℕ) (k : ℕ) (sofar : Read line n word k) (inside : k < n) (v : ℕ) (at-v : v ≡ letter_at line k) where
-  pub read_stops : v ≡ no_number → all_below n (holds_number line) ≡ false
-  read_stops h = (all_below_false (holds_number line) n).1 (k, inside, ap not (eq-eqb _ _ (sym at-v ∙ h)))
+module _ (line : List ℕ) (n : ℕ) (word : List ℕ) (k : ℕ) (sofar : Read line n word k) (inside : k < n) where
+  pub read_stops : None ≡ some_number (letter_at line k) → all_below n (holds_number line) ≡ false
+  read_stops e = (all_below_false (holds_number line) n).1 (k, inside, ap not (eq-eqb _ _ (none_answered (letter_at line k) e)))
 
-  pub read_more : (v ≡ no_number → ⊥) → n ≤ 255 → (b : ℕ) → b ≡ as_byte v → Read line n (set word k b) (k + 1)
+  pub read_more : (v : ℕ) → Some v ≡ some_number (letter_at line k) → n ≤ 255 → (b : ℕ) → b ≡ as_byte v → Read line n (set word k b) (k + 1)
   unfolding all_below tabulate
-  read_more h fits b at_b =
+  read_more v e fits b at_b =
+      let at-v : v ≡ letter_at line k = (number_answered (letter_at line k) v e).0 in
+      let h : v ≡ no_number → ⊥ = (number_answered (letter_at line k) v e).1 in
       record {
         within = omega arith;
         numbers = ap (λ (z : ℕ). all_below z (holds_number line)) (add-one k)
@@ -81,15 +88,17 @@ module _ (line : List ℕ) (n : ℕ) (word : List ℕ) (k : ℕ) (sofar : Read l
         room = let d = length-set word k b in omega (arith, sofar.room);
       }
 
--- a refusal that is not 0 says nothing of the buffer
-pub word_refused : (line : List ℕ) (r : ℕ) (word : List ℕ) → 0 < r → r ≡ columns_fault line → WordRead line r word
-word_refused line r word p e = record { refusal = e; word_read = λ (z : r ≡ 0). absurd (omega arith) }
+-- a refusal says nothing of the buffer
+pub word_refused : (line : List ℕ) (r : ℕ) (word : List ℕ) → 0 < r → r ≡ columns_fault line → (f : Refusal) → f ≡ refusal r → WordRead line (Err f) word
+word_refused line r word p e f is =
+    let some : columns_fault line ≡ 0 → ⊥ = λ (z : columns_fault line ≡ 0). omega arith in
+    record { refusal = ap (λ (x : Refusal). Err x) (is ∙ ap refusal e) ∙ unless_refused (columns_fault line) (Ok tt) some; word_read = λ z. absurd (some z) }
 
-pub word_taken : (line word : List ℕ) (k : ℕ) → Read line (length line / 5) word k → length line / 5 ≤ k → length line ≤ longest_line → length line % 5 ≡ 0 → WordRead line 0 word
+pub word_taken : (line word : List ℕ) (k : ℕ) → Read line (length line / 5) word k → length line / 5 ≤ k → length line ≤ longest_line → length line % 5 ≡ 0 → WordRead line (Ok tt) word
 word_taken line word k sofar done h z =
     let e : k ≡ length line / 5 = let w = sofar.within in omega arith in
     record {
-      refusal = no_fault line h z (ap (λ (j : ℕ). all_below j (holds_number line)) (sym e) ∙ sofar.numbers);
+      refusal = ap passed (no_fault line h z (ap (λ (j : ℕ). all_below j (holds_number line)) (sym e) ∙ sofar.numbers));
       word_read = λ r. ap (λ (j : ℕ). take j word) (sym e) ∙ (sofar.word_so_far ∙ ap (λ (j : ℕ). tabulate j (λ i. as_byte (letter_at line i))) e);
     }
 

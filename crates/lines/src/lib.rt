@@ -12,7 +12,7 @@ ghost use Rattle.lines.specs.Line.{line_answer, answer_line};
 ghost use Rattle.lines.specs.Steps.{as_byte, answer_of, WordRead};
 
 use accepts::prepared;
-use accepts::prepared::Decided;
+use fsbm::answer::Refusal;
 use fsbm::limits::{LONGEST_WORD, POSITIONS};
 use fsbm::machine::Machine;
 use images::Kinds;
@@ -21,8 +21,9 @@ use stateset::StateSet;
 // The most bytes of a word's line: 255 letters in columns of five.
 pub const LONGEST: usize = 1275;
 
-// What is printed for a word: 1 yes, 0 no, 2 turned down; and the refusal's number or 0.
-#[derive(Clone, Copy)]
+// What is printed for a word: 1 yes, 0 no, 2 turned down; and the refusal's number or 0. These are the numbers of the listing's columns,
+// as the definition of a line has them, and so no enum.
+#[derive(Clone, Copy, Debug, PartialEq, Eq)]
 pub struct Answer {
     pub answer: u8,
     pub refusal: u8,
@@ -38,29 +39,26 @@ fn byte(v: usize) -> u8
     v as u8
 }
 
-// The refusal of a word's line before its letters are looked at, or 0 and its numbers at the front of word: 9 more than 1,275 bytes, 2 a
-// column that holds no number or a part of one.
-fn read_word(line: &[u8], word: &mut [u8]) -> u8
+// Reads the numbers of a word's line to the front of word, before its letters are looked at. It refuses 9 (more than 1,275 bytes) and 2 (a
+// column that holds no number, or a part of one).
+fn read_word(line: &[u8], word: &mut [u8]) -> Result<(), Refusal>
     requires { 255 ≤ length word.old }
     ensures { WordRead line.now result word.new }
 {
     if LONGEST < line.len() {
-        return 9;
+        return Err(Refusal::TooLong);
     }
     if line.len() % 5 != 0 {
-        return 2;
+        return Err(Refusal::BadColumn);
     }
     let n = line.len() / 5;
-    let mut k: usize = 0;
-    while k < n {
-        let v = columns::number(line, k * 5, 5);
-        if v == columns::NO_NUMBER {
-            return 2;
-        }
+    for k in 0..n {
+        let Some(v) = columns::number(line, k * 5, 5) else {
+            return Err(Refusal::BadColumn);
+        };
         word[k] = byte(v);
-        k += 1;
     }
-    0
+    Ok(())
 }
 
 // Writes the line of a word's number and answer, 16 bytes, from byte at on.
@@ -75,21 +73,21 @@ pub fn write_line(out: &mut [u8], at: usize, number: usize, a: Answer)
 }
 
 // What is printed for the answer to a word.
-fn answer_of(d: Decided) -> Answer
-    ensures { result ≡ answer_of d }
+fn answer_of(decided: Result<bool, Refusal>) -> Answer
+    ensures { result ≡ answer_of decided }
 {
-    match d {
-        Decided::Refused(refusal) => Answer {
-            answer: 2,
-            refusal: refusal.number,
+    match decided {
+        Ok(true) => Answer {
+            answer: 1,
+            refusal: 0,
         },
-        Decided::No => Answer {
+        Ok(false) => Answer {
             answer: 0,
             refusal: 0,
         },
-        Decided::Yes => Answer {
-            answer: 1,
-            refusal: 0,
+        Err(refusal) => Answer {
+            answer: 2,
+            refusal: refusal.number(),
         },
     }
 }
@@ -112,9 +110,8 @@ pub fn answer_line(
     ensures { (result ≡ line_answer m list.now line.now) × Working m targets.now kinds rows.new steps.new sets.new }
 {
     let mut word = [0u8; LONGEST_WORD];
-    let refusal = read_word(line, &mut word);
-    if refusal != 0 {
-        return Answer { answer: 2, refusal };
+    if let Err(refusal) = read_word(line, &mut word) {
+        return answer_of(Err(refusal));
     }
     let n = line.len() / 5;
     let decided = prepared::accepts_next(m, list, targets, kinds, rows, steps, sets, &word[..n]);

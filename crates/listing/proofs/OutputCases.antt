@@ -19,17 +19,20 @@ use lib.ListN.{length, take}
 use lib.Seq.{take_at}
 use lib.Dec.{leb, eqb}
 use borrow.Author.Tests.{eqb-true, eq-eqb, ne_eqb}
-use Rattle.basics.specs.Search.Laws.{or_true_right, or_false}
+use Rattle.basics.specs.Search.Laws.{true_or_false, or_true_right, or_false}
 use Rattle.basics.specs.Lists.{put}
 use Rattle.basics.specs.Lists.Laws.{put_zero, put_length}
 use Rattle.fsbm.specs.Machine.{well_formed}
 use Rattle.fsbm.specs.declared.machine.Machine.{Machine}
-use Rattle.sheet.specs.Reading.{first_fault, machine_of, transitions_of, read_answer, read_list}
+use Rattle.sheet.specs.Reading.{first_fault, machine_of, transitions_of, read_list}
+use Rattle.fsbm.specs.Answers.Laws.{unless_done}
+use Rattle.std.specs.Prelude.{None, Some, Ok, cond, ◌⊎◌}
+use Rattle.std.proofs.Common.{inl, inr}
 use Rattle.sheet_laws.proofs.Obeys.{read_obeys}
 use Rattle.stream.specs.Listing.{most_words}
 use Rattle.stream.specs.Pieces.{Pending, most_kept, nothing_yet, after_piece, piece_prints, end_prints, opening}
 use Rattle.stream.specs.Pieces.Laws.{after_cut, prints_length, end_length, opening_length}
-use Rattle.stream.specs.Whole.{prints_read, end_read, number_read}
+use Rattle.stream.specs.Whole.{prints_read, end_read, read_taken}
 use Rattle.stream.specs.Calls.{pending_of, open_answer, PieceTaken}
 use Rattle.stream.specs.declared.Held.{Held}
 use Rattle.stream.specs.declared.Taken.{Taken}
@@ -121,7 +124,7 @@ module _ (m : Machine) (list line out out' : List ℕ) (t : Turn) (used : ℕ)
       }
 
 module _ (sheet entry list out out' : List ℕ) (r : Opened)
-    (opened : (r ≡ open_answer sheet (length entry)) × (list ≡ read_list sheet entry) × (out' ≡ put 0 out (opening sheet))) where
+    (opened : (r ≡ open_answer sheet) × (list ≡ read_list sheet entry) × (out' ≡ put 0 out (opening sheet))) where
   used_is : r.used ≡ length (opening sheet)
   unfolding open_answer
   used_is = ap (λ (z : Opened). z.used) opened.0
@@ -132,19 +135,23 @@ module _ (sheet entry list out out' : List ℕ) (r : Opened)
   pub opening_bytes : take r.used out' ≡ opening sheet
   opening_bytes = front out out' (opening sheet) r.used opened.2 used_is
 
-  module _ (long : 12000 ≤ length entry) (good : r.good ≡ true) where
-    no_fault : first_fault sheet ≡ 0
+  module _ (long : 12000 ≤ length entry) (m : Machine) (some : r.table ≡ Some m) where
+    sound : (first_fault sheet ≡ 0) × (m ≡ machine_of sheet)
     unfolding open_answer
-    no_fault = eqb-true _ _ (sym (ap (λ (z : Opened). z.good) opened.0) ∙ good)
+    sound = at (true_or_false (eqb (first_fault sheet) 0))
+      where
+        table_is : (b : Bool) → eqb (first_fault sheet) 0 ≡ b → Some m ≡ cond b (Some (machine_of sheet)) None
+        table_is b e = sym some ∙ (ap (λ (z : Opened). z.table) opened.0 ∙ ap (λ (z : Bool). cond z (Some (machine_of sheet)) None) e)
 
-    machine_is : r.machine ≡ (read_answer sheet (length entry)).machine
-    unfolding open_answer
-    machine_is = ap (λ (z : Opened). z.machine) opened.0
+        at : (eqb (first_fault sheet) 0 ≡ true) ⊎ (eqb (first_fault sheet) 0 ≡ false) → (first_fault sheet ≡ 0) × (m ≡ machine_of sheet)
+        at (inl t) = let h = table_is true t in (eqb-true _ _ t, cc)
+        at (inr f) = let h = table_is false f in absurd (cc)
 
-    pub opened_table : ReadFrom sheet r.machine list
-    opened_table = record { good = no_fault; entry = entry; long = long; machine = machine_is; transitions = opened.1 }
+    pub opened_table : ReadFrom sheet m list
+    opened_table = record { good = sound.0; entry = entry; long = long; machine = sound.1; transitions = opened.1 }
 
-    pub opened_obeys : well_formed r.machine list ≡ true
+    pub opened_obeys : well_formed m list ≡ true
     opened_obeys =
-        ap (λ (z : Machine). well_formed z list) machine_is
-        ∙ (ap (well_formed (read_answer sheet (length entry)).machine) opened.1 ∙ read_obeys sheet entry (number_read sheet (length entry) long ∙ no_fault))
+        ap (λ (z : Machine). well_formed z list) sound.1
+        ∙ (ap (well_formed (machine_of sheet)) opened.1
+        ∙ read_obeys sheet entry (machine_of sheet) (read_taken sheet (length entry) long ∙ sym (unless_done (first_fault sheet) (Ok (machine_of sheet)) sound.0)))

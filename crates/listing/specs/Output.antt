@@ -15,7 +15,7 @@
 use Rattle.std.specs.Prelude.{ℕ, ◌*◌, ◌≤◌, ◌≡◌, List, Bool, true, false, ◌||◌, length, take, leb, eqb}
 use Rattle.basics.specs.Lists.{put}
 use Rattle.fsbm.specs.declared.machine.Machine.{Machine}
-use Rattle.sheet.specs.Reading.{first_fault, machine_of, transitions_of, read_answer, read_list}
+use Rattle.sheet.specs.Reading.{first_fault, machine_of, transitions_of, read_list}
 use Rattle.stream.specs.Listing.{most_words}
 use Rattle.stream.specs.Pieces.{most_kept, nothing_yet, after_piece, piece_prints, end_prints}
 use Rattle.stream.specs.Calls.{pending_of}
@@ -33,7 +33,7 @@ pub record ReadFrom (sheet : List ℕ) (m : Machine) (list : List ℕ) : Type 0 
   pub good : first_fault sheet ≡ 0
   pub entry : List ℕ
   pub long : 12000 ≤ length entry
-  pub machine : m ≡ (read_answer sheet (length entry)).machine
+  pub machine : m ≡ machine_of sheet
   pub transitions : list ≡ read_list sheet entry
 
 pub record HeldAfter (line : List ℕ) (held : Held) : Type 0 where

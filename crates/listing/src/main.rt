@@ -121,11 +121,9 @@ fn list_piece(
         steps,
         sets,
     );
-    let used = taken.used;
-    let after = taken.held;
-    let written = write_piece(rt, sheet, &input[..count], &out[..used]);
+    let written = write_piece(rt, sheet, &input[..count], &out[..taken.used]);
     Turn {
-        held: after,
+        held: taken.held,
         count,
         closed: !written,
     }
@@ -135,14 +133,7 @@ fn list_piece(
 fn is_done(t: Turn) -> bool
     ensures { result ≡ done t }
 {
-    if t.count == 0 {
-        return true;
-    }
-    let held = t.held;
-    if stream::is_full(held) {
-        return true;
-    }
-    t.closed
+    t.count == 0 || stream::is_full(t.held) || t.closed
 }
 
 // Reads standard input to its end and lists its words. A loop that is proved ends, so it counts its turns down from a number that no
@@ -172,22 +163,15 @@ fn take_input(
         count: 0,
         closed: false,
     };
-    let mut turns = u64::MAX;
-    while 0 < turns {
+    for _ in 0..u64::MAX {
         t = list_piece(
             rt, sheet, m, list, targets, kinds, input, line, out, t, rows, steps, sets,
         );
         if is_done(t) {
             return t;
         }
-        turns -= 1;
     }
-    let held = t.held;
-    Turn {
-        held,
-        count: t.count,
-        closed: true,
-    }
+    Turn { closed: true, ..t }
 }
 
 // Lists the last line, unless the output is closed.
@@ -212,8 +196,9 @@ fn end_input(
     if t.closed {
         return;
     }
-    let held = t.held;
-    let used = stream::finish(m, list, targets, kinds, line, out, held, rows, steps, sets);
+    let used = stream::finish(
+        m, list, targets, kinds, line, out, t.held, rows, steps, sets,
+    );
     write_end(rt, sheet, line, t, &out[..used]);
 }
 
@@ -231,11 +216,12 @@ fn list_words(
     requires read_from { ReadFrom sheet.now m list.now }
     requires in_bounds { 65536 ≤ length out.old }
 {
-    let mut input = piece_buffer();
-    let mut line = line_buffer();
-    let mut rows = row_buffer();
-    let mut steps = step_buffer();
-    let mut sets = set_buffer();
+    let mut input = [0; PIECE];
+    let mut line = [0; LINE];
+    let mut rows: [StateSet; ROWS] = [0; ROWS];
+    rows[0] = 1;
+    let mut steps = [0; STEPS];
+    let mut sets: [StateSet; POSITIONS] = [0; POSITIONS];
     let t = take_input(
         rt, sheet, m, list, targets, kinds, &mut input, &mut line, out, &mut rows, &mut steps,
         &mut sets,
@@ -245,89 +231,28 @@ fn list_words(
     );
 }
 
-// Room for a piece of the input.
-fn piece_buffer() -> [u8; PIECE]
-    ensures { 4096 ≡ length result }
-{
-    [0; PIECE]
-}
-
-// Room for a table or for the output of a piece.
-fn large_buffer() -> [u8; LARGE]
-    ensures { 65536 ≡ length result }
-{
-    [0; LARGE]
-}
-
-// Room for a line and one byte more.
-fn line_buffer() -> [u8; LINE]
-    ensures { 1276 ≡ length result }
-{
-    [0; LINE]
-}
-
-// Room for the transitions of the largest table.
-fn transition_buffer() -> [u16; LIST_LENGTH]
-    ensures { 12000 ≡ length result }
-{
-    [0; LIST_LENGTH]
-}
-
-// Room for the sets of the largest prepared table.
-fn target_buffer() -> [StateSet; MOST_SETS]
-    ensures { (16130 ≡ length result) × ((i : ℕ) → get_or result i 0 ≡ 0) }
-{
-    [0; MOST_SETS]
-}
-
-// Room for rows of the subset construction, of which none is taken.
-fn row_buffer() -> [StateSet; ROWS]
-    ensures { (1024 ≡ length result) × (get_or result 0 0 ≡ 1) }
-{
-    let mut rows: [StateSet; ROWS] = [0; ROWS];
-    rows[0] = 1;
-    rows
-}
-
-// Room for the steps of these rows, of which none is kept.
-fn step_buffer() -> [u16; STEPS]
-    ensures { (32768 ≡ length result) × ((i : ℕ) → get_or result i 0 ≡ 0) }
-{
-    [0; STEPS]
-}
-
-// Room for the set of each position of a word.
-fn set_buffer() -> [StateSet; POSITIONS]
-    ensures { (256 ≡ length result) × ((i : ℕ) → get_or result i 0 ≡ 0) }
-{
-    [0; POSITIONS]
-}
-
 // Prepares the table once, and lists the words of standard input over it.
 fn list_prepared(rt: &HostRuntime, sheet: &[u8], m: Machine, list: &[u16], out: &mut [u8])
     requires list_value { well_formed m list.now ≡ true }
     requires read_from { ReadFrom sheet.now m list.now }
     requires in_bounds { 65536 ≤ length out.old }
 {
-    let mut targets = target_buffer();
+    let mut targets: [StateSet; MOST_SETS] = [0; MOST_SETS];
     let kinds = prepared::prepare(m, list, &mut targets);
     list_words(rt, sheet, m, list, &targets, kinds, out);
 }
 
 // Prints the listing of a sheet and standard input.
 fn list_sheet(rt: &HostRuntime, sheet: &[u8]) {
-    let mut list = transition_buffer();
-    let mut out = large_buffer();
+    let mut list = [0; LIST_LENGTH];
+    let mut out = [0; LARGE];
     let opened = stream::open(sheet, &mut list, &mut out);
-    let used = opened.used;
-    if !write_opening(rt, sheet, &out[..used]) {
+    if !write_opening(rt, sheet, &out[..opened.used]) {
         return;
     }
-    if !opened.good {
-        return;
+    if let Some(machine) = opened.table {
+        list_prepared(rt, sheet, machine, &list, &mut out);
     }
-    let machine = opened.machine;
-    list_prepared(rt, sheet, machine, &list, &mut out);
 }
 
 // Reads a file from where it stands until the buffer is full, the file ends or a read fails; answers how many bytes came.
@@ -335,6 +260,7 @@ fn read_full(file: &mut File, table: &mut [u8]) -> usize
     ensures { result ≤ length table.new }
 {
     let mut n: usize = 0;
+    // No range: a read says how many bytes came.
     while n < table.len() {
         let got = read_some(file, &mut table[n..]);
         if got == 0 {
@@ -357,7 +283,7 @@ fn read_table(rt: &HostRuntime, table: &mut [u8]) -> usize
 
 // Reads the table and lists the words of standard input.
 fn main(rt: HostRuntime) {
-    let mut table = large_buffer();
+    let mut table = [0; LARGE];
     let n = read_table(&rt, &mut table);
     list_sheet(&rt, &table[..n]);
 }

@@ -1,6 +1,5 @@
 -- The functions of src/lib.rt case by case, over plain variables: what each turn of the loop and each way through a function gives.
 --
--- counted_normal, counted_buffering, counted_emptying == the tally after a move in each mode
 -- taken, turned          == where an allowed entry leads: by a transition, by a change of mode
 -- entry_line_lem, last_line  == columns put one by one, and byte 10, are the line
 -- Following c t i        == what the loop has done before entry i: the configuration, the tally, the rest of the run
@@ -23,9 +22,9 @@ use native.Mathlib.Omega.{arith}
 use native.Mathlib.Numerals.{add-one}
 use lib.ListN.{length, get_or, drop, set, drop_of_length-le}
 use lib.Seq.{drop-cons}
-use lib.Dec.{leb, eqb}
-use borrow.Author.Tests.{le-leb, ne_eqb}
-use Rattle.basics.specs.Search.Loops.{first, second}
+use lib.Dec.{leb}
+use borrow.Author.Tests.{le-leb}
+use Rattle.basics.specs.Search.Loops.{first}
 use Rattle.basics.specs.Lists.{put}
 use Rattle.basics.specs.Lists.Laws.{put_more, put_zero}
 use Rattle.basics.specs.Each.{each_below}
@@ -35,10 +34,11 @@ use Rattle.columns.specs.Line.{line_of}
 use Rattle.columns.specs.Line.Laws.{columns_of, columns_none, columns_more, columns_end, line_length}
 use Rattle.fsbm.specs.Machine.{well_formed, transition_at}
 use Rattle.fsbm.specs.Rules.{rules, Placed}
-use Rattle.fsbm.specs.Moves.{mode_number, after, changes, move, start_at, accepting}
+use Rattle.fsbm.specs.Moves.{after, changes, move, start_at, accepting}
 use Rattle.fsbm.specs.Moves.Laws.{move_elim}
 use Rattle.fsbm.specs.Reaches.{same_mode}
-use Rattle.fsbm.specs.Answers.{good_letters, word_fault, refusal}
+use Rattle.fsbm.specs.Answers.{number_of, needed_of, by_refusal, passed, good_letters, word_fault, count_values}
+use Rattle.fsbm.specs.Answers.Laws.{passed_ok, passed_err, run_numbers}
 use Rattle.fsbm.specs.declared.machine.Machine.{Machine}
 use Rattle.fsbm.specs.declared.machine.Transition.{Transition}
 use Rattle.fsbm.specs.declared.config.Config.{Config}
@@ -48,9 +48,8 @@ use Rattle.fsbm.specs.declared.config.Mode.TheVariants.{Normal, Buffering, Empty
 use Rattle.fsbm.specs.declared.answer.Refusal.{Refusal}
 use Rattle.copies.specs.Letters.{letters_at, letters_from, letters_in, plain_letters, stored_letters}
 use Rattle.copies.specs.Letters.Laws.{move_forward}
-use Rattle.sheet.specs.Writing.{written_values}
-use Rattle.sheet.specs.declared.answers.Written.{Written}
-use Rattle.sheet.specs.declared.answers.Written.TheVariants.{Refused, Bytes}
+use Rattle.fsbm.specs.declared.answer.Refusal.TheVariants.{NotAccepting, ShortSheet}
+use Rattle.std.specs.Prelude.{Option, None, Some, Result, Ok, Err}
 use Rattle.page.specs.declared.Tally.{Tally}
 use Rattle.page.specs.Page.{longest_word, longest_run, page_column, after_entry, entry_numbers, entry_line, last_numbers, page_of, page_length, page_fault, page_refusal, page_answer, page_after, page_values}
 use Rattle.page.specs.Page.Laws.{entry_wide, page_long, reached, entry_allowed, some_entry, fault_none, Leaves}
@@ -59,33 +58,6 @@ use Rattle.page.specs.Page.Laws as laws
 -- The tally
 
 module _ (from next : Config) where
-  -- n is the number of the mode
-  module _ (n : ℕ) (at_n : n ≡ mode_number from.mode) where
-    letters_by : (s : Mode) (k : ℕ) → n ≡ k → letters_at s from next ≡ cond (eqb k (mode_number s)) (next.position - from.position) 0
-    letters_by s k e = ap (λ (z : ℕ). cond (eqb z (mode_number s)) (next.position - from.position) 0) (sym at_n ∙ e)
-
-    letters_none : (s : Mode) → (n ≡ mode_number s → ⊥) → letters_at s from next ≡ 0
-    letters_none s ne = letters_by s n refl ∙ sym (second _ (ne_eqb n (mode_number s) ne) refl)
-
-    module _ (plain stored : ℕ) where
-      pub counted_normal : n ≡ 0 → (plain + (next.position - from.position) ≡ plain + letters_at Normal from next) × (stored ≡ stored + letters_at Buffering from next)
-      counted_normal e = (
-        ap (λ (z : ℕ). plain + z) (sym (letters_by Normal 0 e)),
-        (let none : letters_at Buffering from next ≡ 0 = letters_by Buffering 0 e in omega arith),
-      )
-
-      pub counted_buffering : n ≡ 1 → (plain ≡ plain + letters_at Normal from next) × (stored + (next.position - from.position) ≡ stored + letters_at Buffering from next)
-      counted_buffering e = (
-        (let none : letters_at Normal from next ≡ 0 = letters_by Normal 1 e in omega arith),
-        ap (λ (z : ℕ). stored + z) (sym (letters_by Buffering 1 e)),
-      )
-
-      pub counted_emptying : (n ≡ 0 → ⊥) → (n ≡ 1 → ⊥) → (plain ≡ plain + letters_at Normal from next) × (stored ≡ stored + letters_at Buffering from next)
-      counted_emptying not-normal not_buffering = (
-        (let none = letters_none Normal not-normal in omega arith),
-        (let none = letters_none Buffering not_buffering in omega arith),
-      )
-
   -- no letter is counted twice
   letters_once : letters_at Normal from next + letters_at Buffering from next ≤ next.position - from.position
   letters_once = at from.mode
@@ -97,22 +69,21 @@ module _ (from next : Config) where
 
 -- One entry
 
--- transitions and marks are those of m
-module _ (transitions : ℕ) (marks list : List ℕ) (c : Config) (e : ℕ) where
-  pub taken : e < transitions → (t : Transition) → t ≡ transition_at list e → (next : Config) → next ≡ after c t c.mode
-      → (m : Machine) (w : List ℕ) → m.transitions ≡ transitions → m.marks ≡ marks → (move m list w c e).allowed ≡ true → next ≡ (move m list w c e).config
-  taken lt t at-t next is m w same_transitions same-marks =
+module _ (m : Machine) (list w : List ℕ) (c : Config) (e : ℕ) (allowed : (move m list w c e).allowed ≡ true) where
+  pub taken : e < m.transitions → (t : Transition) → t ≡ transition_at list e → (next : Config) → next ≡ after c t c.mode → next ≡ (move m list w c e).config
+  taken lt t at-t next is =
       move_elim m list w c e (λ (d : Config). next ≡ d)
       (λ p lt₂ took. is ∙ ap (λ (z : Transition). after c z c.mode) at-t)
       (λ p ge h. absurd (omega arith))
+      allowed
 
-  pub turned : transitions ≤ e → (v : Move) → v ≡ changes marks c e c.mode
-      → (m : Machine) (w : List ℕ) → m.transitions ≡ transitions → m.marks ≡ marks → (move m list w c e).allowed ≡ true → v.config ≡ (move m list w c e).config
+  pub turned : m.transitions ≤ e → (v : Move) → v ≡ changes m.marks c e c.mode → v.config ≡ (move m list w c e).config
   unfolding changes
-  turned ge v is m w same_transitions same-marks =
+  turned ge v is =
       move_elim m list w c e (λ (d : Config). v.config ≡ d)
       (λ p lt took. absurd (omega arith))
-      (λ p ge₂ h. ap (λ (z : Move). z.config) (is ∙ ap (λ (l : List ℕ). changes l c e c.mode) (sym same-marks)) ∙ sym (first _ h refl))
+      (λ p ge₂ h. ap (λ (z : Move). z.config) is ∙ sym (first _ h refl))
+      allowed
 
 -- The lines
 
@@ -266,9 +237,9 @@ module _ (m : Machine) (list w run : List ℕ) where
 -- The first refusals
 
 module _ (m : Machine) (list w run : List ℕ) where
-  pub fault_word : well_formed m list ≡ true → length run ≤ longest_run → (n : ℕ) → n ≡ word_fault longest_word m.letters w → n ≡ page_fault m list w run
+  pub fault_word : well_formed m list ≡ true → length run ≤ longest_run → word_fault longest_word m.letters w ≡ page_fault m list w run
   unfolding page_fault
-  fault_word h short n is = first _ h (is ∙ at (leb (length w) longest_word) (leb (length run) longest_run) (le-leb (length run) longest_run short))
+  fault_word h short = first _ h (at (leb (length w) longest_word) (leb (length run) longest_run) (le-leb (length run) longest_run short))
     where
       at : (b d : Bool) → d ≡ true → ◌≡◌ {A = ℕ} (cond b (cond (good_letters m.letters w) 0 8) 9) (cond (b && d) (cond (good_letters m.letters w) 0 8) 9)
       at true d e = first _ e refl
@@ -277,35 +248,45 @@ module _ (m : Machine) (list w run : List ℕ) where
 -- The answer
 
 module _ (m : Machine) (list w run slice : List ℕ) where
-  pub page_says : (r : Written) (after : List ℕ) → Leaves m list w run slice r after
-      → (r ≡ page_answer m list w run (length slice)) × (after ≡ page_after m list w run slice) × (written_values r ≡ page_values m list w run (length slice))
-  unfolding page_answer page_values
-  page_says r after (a, s) =
-      (a, s, ap written_values a ∙ by (eqb (page_refusal m list w run (length slice)).number 0) (page_refusal m list w run (length slice)) (page_length (length run)))
+  pub page_says : (r : Result ℕ Refusal) (after : List ℕ) → Leaves m list w run slice r after
+      → (r ≡ page_answer m list w run (length slice)) × (after ≡ page_after m list w run slice) × (count_values r ≡ page_values m list w run (length slice))
+  unfolding page_answer page_values page_refusal
+  page_says r after (a, s) = (
+    a,
+    s,
+    ap count_values a
+        ∙ (by (page_refusal m list w run (length slice))
+        ∙ run_numbers (page_fault m list w run) (accepting m list w run) (ShortSheet (page_length (length run))) (length slice) (record { refusal = 0; needed = 0; count = page_length (length run) })
+        (λ n l. record { refusal = n; needed = l; count = 0 }) (laws.page_numbered m list w run)),
+  )
     where
-      by : (b : Bool) (f : Refusal) (n : ℕ)
-          → written_values (cond b (Bytes n) (Refused f)) ≡ cond b (record { refusal = 0; needed = 0; bytes = n }) (record { refusal = f.number; needed = f.needed; bytes = 0 })
-      by true f n = refl
-      by false f n = refl
+      by : (o : Option Refusal)
+          → count_values (by_refusal o (Ok (page_length (length run))) (λ f. Err f))
+          ≡ by_refusal o (record { refusal = 0; needed = 0; count = page_length (length run) }) (λ f. record { refusal = number_of f; needed = needed_of f; count = 0 })
+      by None = refl
+      by (Some f) = refl
 
-  module _ (n : ℕ) (at_n : n ≡ page_fault m list w run) where
-    pub early : (n ≡ 0 → ⊥) → Leaves m list w run slice (Refused (refusal n)) slice
-    early h =
-        let (a, s) = laws.refused_first m list w run slice (λ (z : page_fault m list w run ≡ 0). h (at_n ∙ z)) in
-        (ap (λ (z : ℕ). Refused (refusal z)) at_n ∙ a, s)
+  pub early : (f : Refusal) → Err f ≡ passed (page_fault m list w run) → Leaves m list w run slice (Err f) slice
+  early f e =
+      let h = passed_err (page_fault m list w run) f e in
+      let (a, s) = laws.refused_first m list w run slice h.0 in
+      (ap (λ (z : Refusal). Err z) h.1 ∙ a, s)
 
-    module _ (good : n ≡ 0) where
-      pub tested : (well_formed m list ≡ true) × (length w ≤ longest_word) × (length run ≤ longest_run)
-      tested = let all = (fault_none m list w run).0 (sym at_n ∙ good) in (all.0, all.1, all.2)
+  module _ (passes : Ok tt ≡ passed (page_fault m list w run)) where
+    none : page_fault m list w run ≡ 0
+    none = passed_ok (page_fault m list w run) passes
 
-      pub not_accepting : accepting m list w run ≡ false → Leaves m list w run slice (Refused (refusal 14)) slice
-      not_accepting h = laws.refused_run m list w run slice (sym at_n ∙ good) h
+    pub tested : (well_formed m list ≡ true) × (length w ≤ longest_word) × (length run ≤ longest_run)
+    tested = let all = (fault_none m list w run).0 none in (all.0, all.1, all.2)
 
-      module _ (a : accepting m list w run ≡ true) where
-        pub no_room : length slice < page_length (length run) → Leaves m list w run slice (Refused (record { number = 19; needed = page_length (length run) })) slice
-        no_room h = laws.refused_room m list w run slice (sym at_n ∙ good) a h
+    pub not_accepting : accepting m list w run ≡ false → Leaves m list w run slice (Err NotAccepting) slice
+    not_accepting h = laws.refused_run m list w run slice none h
 
-        pub laid : page_length (length run) ≤ length slice → (after : List ℕ) → after ≡ put 0 slice (page_of m list w run) → Leaves m list w run slice (Bytes (page_length (length run))) after
-        laid h after is =
-            let (answer, left) = laws.written_all m list w run slice (sym at_n ∙ good) a h in
-            (answer, is ∙ (put_zero slice (page_of m list w run) ∙ (ap (λ (k : ℕ). page_of m list w run ++ drop k slice) (page_long m list w run) ∙ left)))
+    module _ (a : accepting m list w run ≡ true) where
+      pub no_room : length slice < page_length (length run) → Leaves m list w run slice (Err (ShortSheet (page_length (length run)))) slice
+      no_room h = laws.refused_room m list w run slice none a h
+
+      pub laid : page_length (length run) ≤ length slice → (after : List ℕ) → after ≡ put 0 slice (page_of m list w run) → Leaves m list w run slice (Ok (page_length (length run))) after
+      laid h after is =
+          let (answer, left) = laws.written_all m list w run slice none a h in
+          (answer, is ∙ (put_zero slice (page_of m list w run) ∙ (ap (λ (k : ℕ). page_of m list w run ++ drop k slice) (page_long m list w run) ∙ left)))

@@ -5,7 +5,7 @@
 -- abab_written        == write_page answers 329 bytes to a slice of 330, and leaves its last byte
 -- abab_short          == a slice of 328 bytes is refused by 19 with the length needed
 -- no_run              == the empty run is refused by 14
-use Rattle.std.specs.Prelude.{ℕ, ◌≡◌, refl, List, [], ◌∷◌, ◌++◌, replicate}
+use Rattle.std.specs.Prelude.{ℕ, ◌≡◌, refl, List, [], ◌∷◌, ◌++◌, Ok, Err, replicate}
 use Rattle.basics.specs.Each.{each_below}
 use Rattle.basics.specs.Search.{all_below, all_in}
 use Rattle.columns.specs.Column.{column_of, padded, digit_or}
@@ -15,7 +15,7 @@ use Rattle.fsbm.specs.Answers.{run_refusal}
 use Rattle.fsbm.specs.Moves.{well_placed, reads_letter, passes, reads_stored, may_take, after, changes, move, accepts, accepting_from, accepting}
 use Rattle.copies.specs.Examples.{t_machine, t_list, abab}
 use Rattle.copies.specs.Letters.{letters_from, letters_in}
-use Rattle.sheet.specs.declared.answers.Written.TheVariants.{Refused, Bytes}
+use Rattle.fsbm.specs.declared.answer.Refusal.TheVariants.{NotAccepting, ShortSheet}
 use Rattle.page.specs.Page.{after_entry, entry_line, page_of, page_fault, page_refusal, page_answer, page_after}
 
 unfoldable pub abab_page : List ℕ
@@ -36,14 +36,14 @@ pub abab_page_lem : page_of t_machine t_list (1 ∷ 2 ∷ 1 ∷ 2 ∷ []) abab �
 unfolding t_machine t_list abab abab_page page_of each_below entry_line after_entry letters_in letters_from line_of column_of padded digit_or move may_take passes reads_letter reads_stored after changes well_placed
 abab_page_lem = refl
 
-pub abab_written : (page_answer t_machine t_list (1 ∷ 2 ∷ 1 ∷ 2 ∷ []) abab 330 ≡ Bytes 329) × (page_after t_machine t_list (1 ∷ 2 ∷ 1 ∷ 2 ∷ []) abab (replicate 330 7) ≡ abab_page ++ (7 ∷ []))
+pub abab_written : (page_answer t_machine t_list (1 ∷ 2 ∷ 1 ∷ 2 ∷ []) abab 330 ≡ Ok 329) × (page_after t_machine t_list (1 ∷ 2 ∷ 1 ∷ 2 ∷ []) abab (replicate 330 7) ≡ abab_page ++ (7 ∷ []))
 unfolding t_machine t_list abab abab_page page_answer page_after page_refusal run_refusal page_fault well_formed all_below all_in accepting accepting_from accepts page_of each_below entry_line after_entry letters_in letters_from line_of column_of padded digit_or move may_take passes reads_letter reads_stored after changes well_placed
 abab_written = (refl, refl)
 
-pub abab_short : page_answer t_machine t_list (1 ∷ 2 ∷ 1 ∷ 2 ∷ []) abab 328 ≡ Refused (record { number = 19; needed = 329 })
+pub abab_short : page_answer t_machine t_list (1 ∷ 2 ∷ 1 ∷ 2 ∷ []) abab 328 ≡ Err (ShortSheet 329)
 unfolding t_machine t_list abab page_answer page_refusal run_refusal page_fault well_formed all_below all_in accepting accepting_from accepts move may_take passes reads_letter reads_stored after changes well_placed
 abab_short = refl
 
-pub no_run : page_answer t_machine t_list [] [] 328 ≡ Refused (record { number = 14; needed = 0 })
+pub no_run : page_answer t_machine t_list [] [] 328 ≡ Err NotAccepting
 unfolding t_machine t_list page_answer page_refusal run_refusal page_fault well_formed all_below all_in accepting
 no_run = refl

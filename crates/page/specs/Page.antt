@@ -9,23 +9,21 @@
 -- page_of m list w run         == the page: a line for each entry, and the last line
 -- page_length n                == the length of the page of a run of n entries
 -- page_fault m list w run      == the first refusal of a table, a word and the length of a run: 16, 9, 8; 0 where there is none
--- page_refusal                 == the first refusal of write_page, number 0 where there is none
+-- page_refusal                 == the first refusal of write_page, if there is one
 -- page_answer, page_after       == what write_page answers, and what the caller's slice holds afterwards
--- page_values                  == the number and values that the rules give; those of an answer are written_values, as for a sheet
-use Rattle.std.specs.Prelude.{ℕ, zero, suc, ◌+◌, ◌*◌, List, [], ◌∷◌, ◌++◌, cond, ◌&&◌, length, get_or, drop, leb, eqb}
+-- page_values                  == the number and values that the rules give
+use Rattle.std.specs.Prelude.{ℕ, zero, suc, ◌+◌, ◌*◌, List, [], ◌∷◌, ◌++◌, Option, Result, Ok, Err, cond, ◌&&◌, length, get_or, drop, leb, eqb}
 use Rattle.basics.specs.Each.{each_below}
 use Rattle.columns.specs.Line.{line_of}
 use Rattle.fsbm.specs.Machine.{well_formed}
 use Rattle.fsbm.specs.Moves.{mode_number, move, start_at, accepting}
-use Rattle.fsbm.specs.Answers.{good_letters, run_refusal}
+use Rattle.fsbm.specs.Answers.{number_of, needed_of, by_refusal, good_letters, run_refusal, CountValues, count_values}
 use Rattle.fsbm.specs.declared.machine.Machine.{Machine}
 use Rattle.fsbm.specs.declared.config.Config.{Config}
 use Rattle.fsbm.specs.declared.answer.Refusal.{Refusal}
+use Rattle.fsbm.specs.declared.answer.Refusal.TheVariants.{ShortSheet}
 use Rattle.copies.specs.Letters.{in_buffer, plain_letters, stored_letters}
 use Rattle.sheet.specs.Format.{sheet_column}
-use Rattle.sheet.specs.Writing.{WrittenValues}
-use Rattle.sheet.specs.declared.answers.Written.{Written}
-use Rattle.sheet.specs.declared.answers.Written.TheVariants.{Refused, Bytes}
 pub mod Laws
 
 abbrev pub longest_word : ℕ
@@ -66,21 +64,22 @@ page_fault m list w run =
     cond (well_formed m list) (cond (leb (length w) longest_word && leb (length run) longest_run) (cond (good_letters m.letters w) 0 8) 9) 16
 
 -- 16, 9 and 8; 14 the run does not accept; 19 the slice of this length is too short
-unfoldable pub page_refusal : Machine → List ℕ → List ℕ → List ℕ → ℕ → Refusal
+unfoldable pub page_refusal : Machine → List ℕ → List ℕ → List ℕ → ℕ → Option Refusal
 page_refusal m list w run room =
-    run_refusal (page_fault m list w run) (accepting m list w run) (record { number = 19; needed = page_length (length run) }) room
+    run_refusal (page_fault m list w run) (accepting m list w run) (ShortSheet (page_length (length run))) room
 
-unfoldable pub page_answer : Machine → List ℕ → List ℕ → List ℕ → ℕ → Written
-page_answer m list w run room =
-    cond (eqb (page_refusal m list w run room).number 0) (Bytes (page_length (length run))) (Refused (page_refusal m list w run room))
+unfoldable pub page_answer : Machine → List ℕ → List ℕ → List ℕ → ℕ → Result ℕ Refusal
+page_answer m list w run room = by_refusal (page_refusal m list w run room) (Ok (page_length (length run))) (λ f. Err f)
 
 -- the slice as it was, or the page at its front
 unfoldable pub page_after : Machine → List ℕ → List ℕ → List ℕ → List ℕ → List ℕ
 page_after m list w run slice =
-    cond (eqb (page_refusal m list w run (length slice)).number 0) (page_of m list w run ++ drop (page_length (length run)) slice) slice
+    by_refusal (page_refusal m list w run (length slice)) (page_of m list w run ++ drop (page_length (length run)) slice) (λ f. slice)
 
-unfoldable pub page_values : Machine → List ℕ → List ℕ → List ℕ → ℕ → WrittenValues
+unfoldable pub page_values : Machine → List ℕ → List ℕ → List ℕ → ℕ → CountValues
 page_values m list w run room =
-    cond (eqb (page_refusal m list w run room).number 0)
-    (record { refusal = 0; needed = 0; bytes = page_length (length run) })
-    (record { refusal = (page_refusal m list w run room).number; needed = (page_refusal m list w run room).needed; bytes = 0 })
+    cond (eqb (page_fault m list w run) 0)
+    (cond (accepting m list w run)
+    (cond (leb (page_length (length run)) room) (record { refusal = 0; needed = 0; count = page_length (length run) }) (record { refusal = 19; needed = page_length (length run); count = 0 }))
+    (record { refusal = 14; needed = 0; count = 0 }))
+    (record { refusal = page_fault m list w run; needed = 0; count = 0 })

@@ -4,23 +4,22 @@
 
 #![tactic(auto)]
 
-ghost use Rattle.std.specs.Prelude.{ℕ, ◌+◌, ◌*◌, ◌<◌, ◌≤◌, ◌-◌, ◌≡◌, true, List, [], ◌∷◌, length};
+ghost use Rattle.fsbm.specs.Answers.{count_values};
+ghost use Rattle.std.specs.Prelude.{ℕ, ◌+◌, ◌*◌, ◌<◌, ◌≤◌, ◌≡◌, true, List, [], ◌∷◌, length};
 ghost use Rattle.basics.specs.Lists.{put};
 ghost use Rattle.columns.specs.Line.{line_of};
-ghost use Rattle.fsbm.specs.Machine.{well_formed};
+ghost use Rattle.fsbm.specs.Answers.{passed};
 ghost use Rattle.fsbm.specs.Moves.{move, accepting};
-ghost use Rattle.fsbm.specs.declared.machine.Machine.{Machine};
 ghost use Rattle.fsbm.specs.declared.config.Mode.TheVariants.{Normal, Buffering};
 ghost use Rattle.copies.specs.Letters.{letters_at};
-ghost use Rattle.sheet.specs.Writing.{written_values};
 ghost use Rattle.page.specs.Page.{longest_word, longest_run, page_column, entry_numbers, page_of, page_length, page_fault, page_answer, page_after, page_values};
 
 use fsbm::answer::Refusal;
-use fsbm::config::Config;
+use fsbm::config::{Config, Mode};
 use fsbm::limits::LONGEST_WORD;
-use fsbm::machine::{Machine, Marks};
+use fsbm::machine::Machine;
+use fsbm::table::Table;
 use fsbm::{answer, machine, run};
-use sheet::answers::Written;
 
 // The most entries of a run that is laid out.
 const LONGEST_RUN: usize = 99999;
@@ -31,14 +30,8 @@ const ENTRY_LENGTH: usize = 31;
 // The bytes of the last line: three columns of six and the line's end.
 const LAST_LENGTH: usize = 19;
 
-// The number of normal mode, in which letters are plain.
-const NORMAL: u8 = 0;
-
-// The number of buffering mode, in which letters are stored.
-const BUFFERING: u8 = 1;
-
 // The letters that a run has read so far in normal mode, and those that it has stored.
-#[derive(Clone, Copy)]
+#[derive(Clone, Copy, Debug, PartialEq, Eq)]
 struct Tally {
     plain: usize,
     stored: usize,
@@ -51,36 +44,30 @@ impl Tally {
         ensures { (result.plain ≡ self.plain + letters_at Normal from next) × (result.stored ≡ self.stored + letters_at Buffering from next) }
     {
         let letters = next.position - from.position;
-        let mode = from.mode;
-        let number = mode.number();
-        if number == NORMAL {
-            return Tally {
+        match from.mode {
+            Mode::Normal => Tally {
                 plain: self.plain + letters,
-                stored: self.stored,
-            };
-        }
-        if number == BUFFERING {
-            return Tally {
-                plain: self.plain,
+                ..self
+            },
+            Mode::Buffering => Tally {
                 stored: self.stored + letters,
-            };
+                ..self
+            },
+            Mode::Emptying => self,
         }
-        self
     }
 }
 
-// Where an entry leads from a configuration that it is allowed in, for every machine with these transitions and marks.
-fn after_entry(transitions: usize, marks: &Marks, list: &[u16], c: Config, entry: u16) -> Config
-    requires { (transitions * 3 ≤ length list.now) × (c.position ≤ longest_word) × (c.start ≤ c.end) × (c.end ≤ c.position) }
-    ensures { (m : Machine) (w : List ℕ) → m.transitions ≡ transitions → m.marks ≡ marks.now
-        → (move m list.now w c entry).allowed ≡ true → result ≡ (move m list.now w c entry).config }
+// Where an entry leads from a configuration that it is allowed in.
+fn after_entry(t: &Table, c: Config, entry: u16) -> Config
+    requires { (c.position ≤ longest_word) × (c.start ≤ c.end) × (c.end ≤ c.position) }
+    ensures { (w : List ℕ) → (move t.now.machine t.now.list.now w c entry).allowed ≡ true → result ≡ (move t.now.machine t.now.list.now w c entry).config }
 {
-    let k = entry as usize;
-    if transitions <= k {
-        let v = c.change_mode(marks, entry);
-        return v.config;
+    let k = usize::from(entry);
+    if t.machine.transitions <= k {
+        return c.change_mode(&t.machine.marks, entry).config;
     }
-    c.after(machine::present_transition(list, k))
+    c.after(t.transition(k))
 }
 
 // The line of entry i, after which the run is in this configuration, written from byte at on.
@@ -88,13 +75,12 @@ fn write_entry(page: &mut [u8], at: usize, i: usize, c: Config)
     requires { (at + 31 ≤ length page.old) × (i < longest_run) × (c.state < 100) × (c.position ≤ longest_word) × (c.start ≤ c.end) × (c.end ≤ c.position) }
     ensures { page.new ≡ put at page.old (line_of page_column (entry_numbers i c)) }
 {
-    let mode = c.mode;
-    columns::write_wide(page, at, i);
-    columns::write_wide_shorter(page, at + 6, c.state as u16);
-    columns::write_wide_shorter(page, at + 12, mode.number() as u16);
-    columns::write_wide_short(page, at + 18, c.position as u16);
-    columns::write_wide_short(page, at + 24, (c.end - c.start) as u16);
-    page[at + 30] = 10;
+    columns::write::<6, 5>(page, at, i as u32);
+    columns::write::<6, 2>(page, at + 6, c.state as u32);
+    columns::write::<6, 1>(page, at + 12, u32::from(c.mode.number()));
+    columns::write::<6, 3>(page, at + 18, c.position as u32);
+    columns::write::<6, 3>(page, at + 24, (c.end - c.start) as u32);
+    page[at + 30] = b'\n';
 }
 
 // The last line, written from byte at on: letters read in normal mode, letters stored, and the word's length.
@@ -102,49 +88,45 @@ fn write_last(page: &mut [u8], at: usize, t: Tally, letters: usize)
     requires { (at + 19 ≤ length page.old) × (t.plain ≤ longest_word) × (t.stored ≤ longest_word) × (letters ≤ longest_word) }
     ensures { page.new ≡ put at page.old (line_of page_column (t.plain ∷ t.stored ∷ letters ∷ [])) }
 {
-    columns::write_wide_short(page, at, t.plain as u16);
-    columns::write_wide_short(page, at + 6, t.stored as u16);
-    columns::write_wide_short(page, at + 12, letters as u16);
-    page[at + 18] = 10;
+    columns::write::<6, 3>(page, at, t.plain as u32);
+    columns::write::<6, 3>(page, at + 6, t.stored as u32);
+    columns::write::<6, 3>(page, at + 12, letters as u32);
+    page[at + 18] = b'\n';
 }
 
 // The page of a run that accepts, written to the front of a slice that has room for it. Time: the run once.
-fn write_lines(m: Machine, list: &[u16], word: &[u8], run: &[u16], page: &mut [u8])
-    requires { (well_formed m list.now ≡ true) × (length word.now ≤ longest_word) × (length run.now ≤ longest_run)
-        × (accepting m list.now word.now run.now ≡ true) × (page_length (length run.now) ≤ length page.old) }
-    ensures { page.new ≡ put 0 page.old (page_of m list.now word.now run.now) }
+fn write_lines(t: &Table, word: &[u8], run: &[u16], page: &mut [u8])
+    requires { (length word.now ≤ longest_word) × (length run.now ≤ longest_run)
+        × (accepting t.now.machine t.now.list.now word.now run.now ≡ true) × (page_length (length run.now) ≤ length page.old) }
+    ensures { page.new ≡ put 0 page.old (page_of t.now.machine t.now.list.now word.now run.now) }
 {
-    let mut c = Config::start_at(run[0] as usize);
-    let mut t = Tally {
+    let mut c = Config::start_at(usize::from(run[0]));
+    let mut tally = Tally {
         plain: 0,
         stored: 0,
     };
     write_entry(page, 0, 0, c);
-    let mut at: usize = ENTRY_LENGTH;
-    let mut i: usize = 1;
-    while i < run.len() {
-        let next = after_entry(m.transitions, &m.marks, list, c, run[i]);
-        let counted = t.counted(c, next);
-        write_entry(page, at, i, next);
-        t = counted;
+    for i in 1..run.len() {
+        let next = after_entry(t, c, run[i]);
+        tally = tally.counted(c, next);
+        write_entry(page, ENTRY_LENGTH * i, i, next);
         c = next;
-        at += ENTRY_LENGTH;
-        i += 1;
     }
-    write_last(page, at, t, word.len());
+    write_last(page, ENTRY_LENGTH * run.len(), tally, word.len());
 }
 
-// The first refusal of a table, a word and the length of a run, or 0: 16 the record and its list break the rules of a table, 9 the
-// word or the run is too long, 8 the word has a letter that is not there.
+// The first refusal of a table, a word and the length of a run: 16 the record and its list break the rules of a table, 9 the word or the
+// run is too long, 8 the word has a letter that is not there.
 // Time: the table and the word, each once.
-fn fault(m: Machine, list: &[u16], word: &[u8], run: &[u16]) -> u8
-    ensures { result ≡ page_fault m list.now word.now run.now }
+#[tactic(auto, unfolding(crate::specs::Page::page_fault, fsbm::specs::Answers::refusal))]
+fn fault(m: Machine, list: &[u16], word: &[u8], run: &[u16]) -> Result<(), Refusal>
+    ensures { result ≡ passed (page_fault m list.now word.now run.now) }
 {
     if !machine::is_well_formed(m, list) {
-        return 16;
+        return Err(Refusal::BadTable);
     }
     if LONGEST_RUN < run.len() {
-        return 9;
+        return Err(Refusal::TooLong);
     }
     answer::word_fault(LONGEST_WORD, m.letters, word)
 }
@@ -157,26 +139,27 @@ fn fault(m: Machine, list: &[u16], word: &[u8], run: &[u16]) -> u8
 // entries), 8 (a letter that is not there), 14 (the run does not accept), 19 (the slice is too short) with the length needed,
 // 31 bytes for each entry and 19, in this order. A refusal leaves the slice as it was; what stands past the page stays.
 // Time: the table and the word once, the run twice. Memory: none beside its arguments.
-pub fn write_page(m: Machine, list: &[u16], word: &[u8], run: &[u16], page: &mut [u8]) -> Written
+pub fn write_page(
+    m: Machine,
+    list: &[u16],
+    word: &[u8],
+    run: &[u16],
+    page: &mut [u8],
+) -> Result<usize, Refusal>
     ensures { (result ≡ page_answer m list.now word.now run.now (length page.old))
         × (page.new ≡ page_after m list.now word.now run.now page.old)
-        × (written_values result ≡ page_values m list.now word.now run.now (length page.old)) }
+        × (count_values result ≡ page_values m list.now word.now run.now (length page.old)) }
 {
-    let number = fault(m, list, word, run);
-    if number != 0 {
-        return Written::Refused(Refusal { number, needed: 0 });
-    }
-    let accepts = run::is_accepting_run(m, list, word, run);
+    fault(m, list, word, run)?;
+    let t = Table { machine: m, list };
+    let accepts = run::is_accepting_run(&t, word, run);
     let needed = ENTRY_LENGTH * run.len() + LAST_LENGTH;
     if !accepts {
-        return Written::Refused(Refusal {
-            number: 14,
-            needed: 0,
-        });
+        return Err(Refusal::NotAccepting);
     }
     if page.len() < needed {
-        return Written::Refused(Refusal { number: 19, needed });
+        return Err(Refusal::ShortSheet(needed));
     }
-    write_lines(m, list, word, run, page);
-    Written::Bytes(needed)
+    write_lines(&t, word, run, page);
+    Ok(needed)
 }

@@ -2,13 +2,16 @@
 --
 -- flat_append, flat_each  == a flat list of parts
 -- threes_length           == the length of parts of three numbers
+-- lower_is                == the first transition whose key is not below a number, as find answers it
 -- letter_next, letter_end, letter_room == the loop over the transitions of the second by one letter
 -- Letters, letters        == the transitions of the second with one letter are those from lo up to hi
 -- epsilon_is, epsilon_writes, letters_is, letters_write, letters_fit == what write_moves writes
 -- nothing_given           == a transition of the first whose letter does not leave the state of the second gives nothing
+-- noted, indexed          == what is noted of a table, as a fact with one proof, and back
 -- starts_lower            == where the transitions of a key begin
 -- next_none, next_here, next_end, next_jump == the ways through next_move
--- keys_sorted, table_key  == the keys of a table's transitions do not fall, and are below 16,384
+-- keys_sorted             == the keys of a table's transitions do not fall
+-- place                   == where the next transition of a block stands, or its end
 -- from_block              == the transitions from a pair, over the block of the first
 -- meeting-..              == what is known of a pair of states
 -- pairing-.., rowing-.., writing-.. == the loops of write_pair, write_row and write_product
@@ -17,6 +20,8 @@ use mathlib.Core.Path.{◌≡◌, refl, sym, ap, ◌∙◌, subst}
 use mathlib.Core.Logic.{inl, inr}
 use mathlib.Core.Bool.{cond, ◌&&◌}
 use mathlib.Core.List.{List, [], ◌∷◌, ◌++◌}
+use Rattle.std.specs.Prelude.{Option, None, Some, MatchOption, ⊤}
+use Rattle.std.specs.Option.{unwrap_or}
 use native.Mathlib.Omega.{arith}
 use native.Mathlib.Decide.{dec_lt, ℕ_discrete}
 use lib.ListN.{length, get_or}
@@ -33,12 +38,13 @@ use Rattle.basics.specs.Lists.{put}
 use Rattle.product.specs.Each.{each}
 use Rattle.product.specs.Each.Laws.{each_step, each_over, each_same, each_none, each_block, each_skip, length_each, Putting, putting_start, putting_room, putting_step, putting_at, putting_end}
 use Rattle.product.specs.Each.Sums.{sum_const}
-use Rattle.product.specs.Letters.{HasKey, MayPair, Occurs, Starts, Indexed, Common, Least, Searching, NextMove}
+use Rattle.product.specs.Letters.{HasKey, MayPair, Occurs, KeySet, Starts, Indexed, Noted, Common, Least, Searching, NextMove}
 use Rattle.product.specs.Order.{letter_key, Lower, Block, Moving}
 use Rattle.product.specs.Product.{joint, joint_moves, joined_from, joined, flat, joined_transitions}
 use Rattle.product.specs.Steps.{letter_move}
 use Rattle.basics.specs.Pairs.{pair_below, pair_same}
-use Rattle.product.specs.Tables.{rising, Joinable}
+use Rattle.product.specs.Tables.{rising, Joinable, joinable}
+use Rattle.product.specs.declared.factors.Factors.{Factors}
 
 pub flat_append : (a b : List Transition) → flat (a ++ b) ≡ flat a ++ flat b
 unfolding flat
@@ -52,6 +58,17 @@ flat_each i (suc n) f = flat_append (f i) (each (suc i) n f) ∙ ap (λ (l : Lis
 
 pub threes_length : (i n a b : ℕ) (g : ℕ → ℕ) → length (each i n (λ u. a ∷ b ∷ g u ∷ [])) ≡ n * 3
 threes_length i n a b g = length_each i n (λ u. a ∷ b ∷ g u ∷ []) ∙ sum_const i n 3
+
+-- the first transition whose key is not below y
+module _ (list : List ℕ) (n j y : ℕ) (inside : j ≤ n) where
+  abbrev pub Found : Option ℕ → Type 0
+  Found o =
+      MatchOption o ((k : ℕ) → j ≤ k → k < n → letter_key list k < y)
+      (λ i. (j ≤ i) × (i < n) × (y ≤ letter_key list i) × ((k : ℕ) → j ≤ k → k < i → letter_key list k < y))
+
+  pub lower_is : (o : Option ℕ) → Found o → Lower list n j y (unwrap_or o n)
+  lower_is None h = record { low = inside; high = omega arith; below = h; reached = λ (l : n < n). absurd (omega arith) }
+  lower_is (Some i) h = let below = h.1 in record { low = h.0; high = omega arith; below = h.3; reached = λ l. h.2 }
 
 -- The transitions of the second by one letter
 
@@ -116,8 +133,15 @@ module _ (n count : ℕ) (second : List ℕ) (r : ℕ) (t : Transition) where
       sym (Rattle.basics.specs.Search.Loops.second (joint n t.from r 0 t.to r ∷ []) (ne_eqb t.letter 0 some) refl)
       ∙ each_none 0 count (letter_move n count second r t) (λ u a b. no_move_lem u (none u (omega arith)))
 
-  module _ {starts : List ℕ} {lo hi : ℕ} (m : Moving n count second starts r t) (some : t.letter ≡ 0 → ⊥)
-      (from_start : Lower second count 0 (r * 256 + t.letter) lo) (from-lo : Lower second count lo (r * 256 + t.letter + 1) hi) where
+  -- lo and hi as the code finds them: a is the state and b the letter
+  module _ {starts : List ℕ} {lo hi a b : ℕ} (m : Moving n count second starts r t) (some : t.letter ≡ 0 → ⊥) (at_a : a ≡ r) (at_b : b ≡ t.letter)
+      (at_lo : lo ≡ get_or starts (a * 256 + b) 0) (up : Lower second count lo (a * 256 + b + 1) hi) where
+    pub from_start : Lower second count 0 (r * 256 + t.letter) lo
+    from_start = subst (λ (z : ℕ). Lower second count 0 (r * 256 + t.letter) z) (sym (at_lo ∙ (λ i. get_or starts (at_a i * 256 + at_b i) 0))) (m.start some)
+
+    from-lo : Lower second count lo (r * 256 + t.letter + 1) hi
+    from-lo = subst (λ (z : ℕ). Lower second count lo (z + 1) hi) (λ i. at_a i * 256 + at_b i) up
+
     before_lo : (u : ℕ) → u < lo → letter_key second u < r * 256 + t.letter
     before_lo u lt = from_start.below u (omega arith) lt
 
@@ -201,22 +225,29 @@ module _ (list : List ℕ) (n : ℕ) (starts : List ℕ) (y : ℕ) (sorted : (u 
           absurd (omega arith)
       below k lt (no d) = let inside = start_in in let up = sorted k (get_or starts y 0) (omega arith) inside in let e = start_key in omega arith
 
-module _ {list starts letters : List ℕ} {p i hi : ℕ} (s : Searching list starts letters p i hi) where
-  pub next_none : hi ≤ i → NextMove list letters i hi hi
-  next_none le =
+  start_of : (get_or starts y 0 < n) × (letter_key list (get_or starts y 0) ≡ y)
+  start_of = (start_in, start_key)
+
+-- what is noted of a table, with one proof, and back
+module _ (list : List ℕ) (n : ℕ) (starts words : List ℕ) where
+  pub noted : ((u v : ℕ) → u ≤ v → v < n → letter_key list u ≤ letter_key list v) → KeySet list n words → Starts list n starts → Noted list n starts words
+  noted sorted k f = (k.all, λ y lt m. start_of list n starts y sorted f (k.only y lt m), f.before, f.same)
+
+  pub indexed : Noted list n starts words → Indexed list n starts words
+  indexed h =
       record {
-        low = s.high;
-        high = omega arith;
-        passed = λ (k : ℕ) (a : i ≤ k) (b : k < hi) m. absurd (omega arith);
-        reached = λ (h : hi < hi). absurd (omega arith);
+        keys = record { all = h.0; only = λ y lt m. let (a, e) = h.1 y lt m in record { place = get_or starts y 0; within = a; keyed = e } };
+        firsts = record { before = h.2; same = h.3 };
       }
 
-  module _ (lt : i < hi) (t : Transition) (at-t : t ≡ transition_at list i) (b : ℕ) (l : Least letters t.letter b) where
+module _ {list starts letters : List ℕ} {p i hi : ℕ} (s : Searching list starts letters p i hi) where
+  pub next_none : hi ≤ i → NextMove list letters i hi None
+  next_none le = λ (k : ℕ) (a : i ≤ k) (b : k < hi) m. absurd (omega arith)
+
+  -- x is the letter of transition i
+  module _ (lt : i < hi) (x : ℕ) (at_x : x ≡ (transition_at list i).letter) where
     abbrev letter : ℕ → ℕ
     letter k = (transition_at list k).letter
-
-    same_letter : t.letter ≡ letter i
-    same_letter = ap (λ (z : Transition). z.letter) at-t
 
     keyed : (k : ℕ) → i ≤ k → k < hi → letter_key list k ≡ p * 256 + letter k
     keyed k a c =
@@ -227,95 +258,80 @@ module _ {list starts letters : List ℕ} {p i hi : ℕ} (s : Searching list sta
         let small = s.letters_small k (omega arith) in
         omega arith
 
-    letter_up : (k : ℕ) → i ≤ k → k < hi → t.letter ≤ letter k
+    letter_up : (k : ℕ) → i ≤ k → k < hi → x ≤ letter k
     letter_up k a c =
         let top = s.block.high in
         let up = s.sorted i k a (omega arith) in
         let one = keyed i (omega arith) lt in
         let two = keyed k a c in
-        let e = same_letter in
         omega arith
 
-    pub next_here : b ≡ t.letter → NextMove list letters i hi i
-    next_here e =
-        let top = s.block.high in
-        let small = s.letters_small i (omega arith) in
-        let same = same_letter in
-        record {
-          low = omega arith;
-          high = omega arith;
-          passed = λ (k : ℕ) (a : i ≤ k) (c : k < i) m. absurd (omega arith);
-          reached = λ h. subst (λ (z : ℕ). HasKey letters z) (e ∙ same_letter) (l.member (omega arith));
-        }
+    pub next_end : Least letters x None → NextMove list letters i hi None
+    next_end l k a c m = let top = s.block.high in l (letter k) (letter_up k a c) (s.letters_small k (omega arith)) m
 
-    pub next_end : b ≡ 256 → NextMove list letters i hi hi
-    next_end e =
-        let top = s.block.high in
-        record {
-          low = s.high;
-          high = omega arith;
-          passed = λ k a c m. let small = s.letters_small k (omega arith) in l.none (letter k) (letter_up k a c) (omega arith) m;
-          reached = λ (h : hi < hi). absurd (omega arith);
-        }
-
-    module _ (other : b ≡ t.letter → ⊥) (some : b ≡ 256 → ⊥) where
-      small_b : b < 256
-      small_b = omega (arith, l.high)
-
-      occurs : Occurs list s.count (p * 256 + b)
-      occurs = s.only b small_b (l.member small_b)
-
-      abbrev next : ℕ
-      next = get_or starts (p * 256 + b) 0
-
-      next_in : next < s.count
-      next_in = start_in list s.count starts (p * 256 + b) s.sorted s.firsts occurs
-
-      next_key : letter_key list next ≡ p * 256 + b
-      next_key = start_key list s.count starts (p * 256 + b) s.sorted s.firsts occurs
-
-      next_after : i ≤ next
-      next_after = at (dec_lt next i)
-        where
-          at : Dec (next < i) → i ≤ next
-          at (no h) = omega arith
-          at (yes h) =
-              let top = s.block.high in
-              let up = s.sorted next i (omega arith) (omega arith) in
-              let one = keyed i (omega arith) lt in
-              let e = same_letter in
-              let key = next_key in
-              let low = l.low in
-              absurd (omega arith)
-
-      next_before : next < hi
-      next_before = at (dec_lt next hi)
-        where
-          at : Dec (next < hi) → next < hi
-          at (yes h) = h
-          at (no h) =
-              let past = s.block.after next (omega arith) next_in in
-              let key = next_key in
-              let few = small_b in
-              absurd (omega arith)
-
-      pub next_jump : NextMove list letters i hi next
-      next_jump =
-          let after = next_after in
-          let before = next_before in
+    module _ (b : ℕ) (l : Least letters x (Some b)) where
+      pub next_here : b ≡ x → NextMove list letters i hi (Some i)
+      next_here e =
           record {
-            low = after;
-            high = omega arith;
-            passed = λ k a c m.
-                let lower = (starts_lower list s.count starts (p * 256 + b) s.sorted s.firsts occurs).below k (omega arith) c in
-                let key = keyed k a (omega arith) in
-                l.none (letter k) (letter_up k a (omega arith)) (omega arith) m;
-            reached = λ h.
-                let key = keyed next after before in
-                let found = next_key in
-                let e : b ≡ letter next = omega arith in
-                subst (λ (z : ℕ). HasKey letters z) e (l.member small_b);
+            low = omega arith;
+            high = lt;
+            passed = λ (k : ℕ) (a : i ≤ k) (c : k < i) m. absurd (omega arith);
+            reached = subst (λ (z : ℕ). HasKey letters z) (e ∙ at_x) l.member;
           }
+
+      module _ (other : b ≡ x → ⊥) where
+        occurs : Occurs list s.count (p * 256 + b)
+        occurs = s.only b l.high l.member
+
+        abbrev next : ℕ
+        next = get_or starts (p * 256 + b) 0
+
+        next_in : next < s.count
+        next_in = start_in list s.count starts (p * 256 + b) s.sorted s.firsts occurs
+
+        next_key : letter_key list next ≡ p * 256 + b
+        next_key = start_key list s.count starts (p * 256 + b) s.sorted s.firsts occurs
+
+        next_after : i ≤ next
+        next_after = at (dec_lt next i)
+          where
+            at : Dec (next < i) → i ≤ next
+            at (no h) = omega arith
+            at (yes h) =
+                let top = s.block.high in
+                let up = s.sorted next i (omega arith) (omega arith) in
+                let one = keyed i (omega arith) lt in
+                let key = next_key in
+                let low = l.low in
+                absurd (omega arith)
+
+        next_before : next < hi
+        next_before = at (dec_lt next hi)
+          where
+            at : Dec (next < hi) → next < hi
+            at (yes h) = h
+            at (no h) =
+                let past = s.block.after next (omega arith) next_in in
+                let key = next_key in
+                let few = l.high in
+                absurd (omega arith)
+
+        pub next_jump : NextMove list letters i hi (Some next)
+        next_jump =
+            record {
+              low = next_after;
+              high = next_before;
+              passed = λ k a c m.
+                  let before = next_before in
+                  let lower = (starts_lower list s.count starts (p * 256 + b) s.sorted s.firsts occurs).below k (omega arith) c in
+                  let key = keyed k a (omega arith) in
+                  l.none (letter k) (letter_up k a (omega arith)) (omega arith) m;
+              reached =
+                  let key = keyed next next_after next_before in
+                  let found = next_key in
+                  let e : b ≡ letter next = omega arith in
+                  subst (λ (z : ℕ). HasKey letters z) e l.member;
+            }
 
 -- Tables
 
@@ -326,29 +342,56 @@ keys_sorted m list t i k le lt = at (ℕ_discrete i k)
     at (yes e) = let same = ap (letter_key list) e in omega arith
     at (no d) = let up = rising m list t i k (omega arith) lt in let small = t.to_below k lt in let few = t.states_fit in omega arith
 
-pub table_key : (m : Machine) (list : List ℕ) → Rules m list → (k : ℕ) → k < m.transitions → letter_key list k < 16384
-table_key m list t k lt = omega (arith, t.from_below k lt, t.letter_below k lt, t.states_fit, t.letters_fit)
+-- where the next transition stands, or the end of the block
+abbrev pub place : ℕ → Option ℕ → ℕ
+place hi None = hi
+place hi (Some i) = i
 
-module _ {m₁ : Machine} {l₁ : List ℕ} {m₂ : Machine} {l₂ : List ℕ} (j : Joinable m₁ l₁ m₂ l₂) where
+module _ (f : Factors) where
+  abbrev pub m₁ : Machine
+  m₁ = f.first.table.now.machine
+
+  abbrev pub l₁ : List ℕ
+  l₁ = f.first.table.now.list.now
+
+  abbrev pub m₂ : Machine
+  m₂ = f.second.table.now.machine
+
+  abbrev pub l₂ : List ℕ
+  l₂ = f.second.table.now.list.now
+
+  abbrev pub j : Joinable m₁ l₁ m₂ l₂
+  j = joinable m₁ l₁ m₂ l₂ f.fine
+
+  first_index : Indexed l₁ m₁.transitions f.first.starts.now f.first.keys.now
+  first_index = indexed l₁ m₁.transitions f.first.starts.now f.first.keys.now f.first.noted
+
+  second_index : Indexed l₂ m₂.transitions f.second.starts.now f.second.keys.now
+  second_index = indexed l₂ m₂.transitions f.second.starts.now f.second.keys.now f.second.noted
+
   abbrev pub moves : ℕ → ℕ → List Transition
   moves r i = joint_moves m₂.states m₂.transitions l₂ r (transition_at l₁ i)
 
   -- The loop over the transitions of the first from p
 
   -- what is known of a pair (p, r): the transitions from p are those from lo up to hi
-  pub record Meeting (starts₁ keys₁ starts₂ keys₂ letters : List ℕ) (p r lo hi : ℕ) : Type 0 where
-    pub first_index : Indexed l₁ m₁.transitions starts₁ keys₁
-    pub second_index : Indexed l₂ m₂.transitions starts₂ keys₂
+  pub record Meeting (letters : List ℕ) (p r lo hi : ℕ) : Type 0 where
     pub block : Block l₁ m₁.transitions p lo hi
-    pub first_state : p < m₁.states
-    pub second_state : r < m₂.states
-    pub common : Common keys₁ p keys₂ r letters
+    pub states : (p < m₁.states) × (r < m₂.states)
+    pub common : Common f.first.keys.now p f.second.keys.now r letters
 
-  pub record Pairing (letters : List ℕ) (p r lo hi : ℕ) (entry : List ℕ) (k : ℕ) (list : List ℕ) (at i : ℕ) : Type 0 where
-    pub low : lo ≤ i
-    pub high : i ≤ hi
-    pub putting : Putting entry k (flat (joined_from m₁ l₁ m₂ l₂ p r)) list at (flat (each i (hi - i) (moves r)))
-    pub reached : i < hi → HasKey letters (transition_at l₁ i).letter
+  pub meet : (letters : List ℕ) {p r lo hi : ℕ} → Block l₁ m₁.transitions p lo hi → (p < m₁.states) × (r < m₂.states) → Common f.first.keys.now p f.second.keys.now r letters
+      → Meeting letters p r lo hi
+  meet letters block states common = record { block = block; states = states; common = common }
+
+  abbrev pub Reached : List ℕ → ℕ → ℕ → Type 0
+  Reached letters i hi = (i < hi) × HasKey letters (transition_at l₁ i).letter
+
+  pub record Pairing (letters : List ℕ) (p r lo hi : ℕ) (entry : List ℕ) (k : ℕ) (list : List ℕ) (at : ℕ) (next : Option ℕ) : Type 0 where
+    pub low : lo ≤ place hi next
+    pub high : place hi next ≤ hi
+    pub putting : Putting entry k (flat (joined_from m₁ l₁ m₂ l₂ p r)) list at (flat (each (place hi next) (hi - place hi next) (moves r)))
+    pub reached : MatchOption next ⊤ (λ i. Reached letters i hi)
 
   from_block : (p r lo hi : ℕ) → Block l₁ m₁.transitions p lo hi → joined_from m₁ l₁ m₂ l₂ p r ≡ each lo (hi - lo) (moves r)
   unfolding joined_from
@@ -382,7 +425,7 @@ module _ {m₁ : Machine} {l₁ : List ℕ} {m₂ : Machine} {l₂ : List ℕ} (
   second_small : (u : ℕ) → u < m₂.transitions → (transition_at l₂ u).letter < 256
   second_small u lt = omega (arith, j.second.letter_below u lt, j.second.letters_fit)
 
-  module _ {starts₁ keys₁ starts₂ keys₂ letters : List ℕ} {p r lo hi : ℕ} (g : Meeting starts₁ keys₁ starts₂ keys₂ letters p r lo hi) where
+  module _ {letters : List ℕ} {p r lo hi : ℕ} (g : Meeting letters p r lo hi) where
     first_key : (i : ℕ) → lo ≤ i → i < hi → letter_key l₁ i ≡ p * 256 + (transition_at l₁ i).letter
     first_key i a c =
         let from = g.block.from i a c in
@@ -397,13 +440,13 @@ module _ {m₁ : Machine} {l₁ : List ℕ} {m₂ : Machine} {l₂ : List ℕ} (
         let top = g.block.high in
         let inside : i < m₁.transitions = omega arith in
         let small = first_small i inside in
-        let own : HasKey keys₁ (p * 256 + (transition_at l₁ i).letter) =
-        subst (λ (y : ℕ). HasKey keys₁ y) (first_key i a c) (g.first_index.keys.all i inside) in
+        let own : HasKey f.first.keys.now (p * 256 + (transition_at l₁ i).letter) =
+        subst (λ (y : ℕ). HasKey f.first.keys.now y) (first_key i a c) (first_index.keys.all i inside) in
         nothing_given m₂.states m₂.transitions l₂ r (transition_at l₁ i)
         (λ e. none ((g.common (transition_at l₁ i).letter small).1 (own, inl e)))
-        (λ u lt e. none ((g.common (transition_at l₁ i).letter small).1 (own, inr (subst (λ (y : ℕ). HasKey keys₂ y) e (g.second_index.keys.all u lt)))))
+        (λ u lt e. none ((g.common (transition_at l₁ i).letter small).1 (own, inr (subst (λ (y : ℕ). HasKey f.second.keys.now y) e (second_index.keys.all u lt)))))
 
-    pub meeting_searching : (i : ℕ) → lo ≤ i → i ≤ hi → Searching l₁ starts₁ letters p i hi
+    pub meeting_searching : (i : ℕ) → lo ≤ i → i ≤ hi → Searching l₁ f.first.starts.now letters p i hi
     meeting_searching i a c =
         record {
           count = m₁.transitions;
@@ -411,35 +454,62 @@ module _ {m₁ : Machine} {l₁ : List ℕ} {m₂ : Machine} {l₂ : List ℕ} (
           block = g.block;
           low = a;
           high = c;
-          state = omega (arith, g.first_state, j.first.states_fit);
+          state = omega (arith, g.states.0, j.first.states_fit);
           sorted = keys_sorted m₁ l₁ j.first;
           letters_small = first_small;
-          firsts = g.first_index.firsts;
-          only = λ b lt m. g.first_index.keys.only (p * 256 + b) (omega (arith, g.first_state, j.first.states_fit)) ((g.common b lt).0 m).0;
+          firsts = first_index.firsts;
+          only = λ b lt m. first_index.keys.only (p * 256 + b) (omega (arith, g.states.0, j.first.states_fit)) ((g.common b lt).0 m).0;
         }
 
-    pub pairing_start : (k i : ℕ) (entry : List ℕ) → k + length (flat (joined_from m₁ l₁ m₂ l₂ p r)) ≤ length entry → NextMove l₁ letters lo hi i → Pairing letters p r lo hi entry k entry k i
-    pairing_start k i entry room next =
+    -- from a transition to the next one
+    module _ (i : ℕ) (a : lo ≤ i) (c : i ≤ hi) where
+      pub next_low : (o : Option ℕ) → NextMove l₁ letters i hi o → i ≤ place hi o
+      next_low None n = c
+      next_low (Some i') n = n.low
+
+      next_high : (o : Option ℕ) → NextMove l₁ letters i hi o → place hi o ≤ hi
+      next_high None n = omega arith
+      next_high (Some i') n = let h = n.high in omega arith
+
+      next_reached : (o : Option ℕ) → NextMove l₁ letters i hi o → MatchOption o ⊤ (λ k. Reached letters k hi)
+      next_reached None n = tt
+      next_reached (Some i') n = (n.high, n.reached)
+
+      next_passed : (o : Option ℕ) → NextMove l₁ letters i hi o → (k : ℕ) → i ≤ k → k < place hi o → HasKey letters (transition_at l₁ k).letter → ⊥
+      next_passed None n = n
+      next_passed (Some i') n = n.passed
+
+      skipped : (o : Option ℕ) → NextMove l₁ letters i hi o → each i (hi - i) (moves r) ≡ each (place hi o) (hi - place hi o) (moves r)
+      skipped o n =
+          let high = next_high o n in
+          each_skip i (place hi o) hi (moves r) (next_low o n) high (λ u b d. not_common u (omega arith) (omega arith) (next_passed o n u b d))
+
+    pub pairing_start : (k : ℕ) (entry : List ℕ) → k + length (flat (joined_from m₁ l₁ m₂ l₂ p r)) ≤ length entry → (o : Option ℕ) → NextMove l₁ letters lo hi o
+        → Pairing letters p r lo hi entry k entry k o
+    pairing_start k entry room o n =
         record {
-          low = next.low;
-          high = next.high;
+          low = next_low lo (omega arith) g.block.low o n;
+          high = next_high lo (omega arith) g.block.low o n;
           putting = subst (λ (z : List Transition). Putting entry k (flat (joined_from m₁ l₁ m₂ l₂ p r)) entry k (flat z))
-              (from_block p r lo hi g.block
-              ∙ each_skip lo i hi (moves r) next.low next.high (λ u a c. not_common u a (omega (arith, next.high)) (next.passed u a c)))
+              (from_block p r lo hi g.block ∙ skipped lo (omega arith) g.block.low o n)
               (putting_start room);
-          reached = next.reached;
+          reached = next_reached lo (omega arith) g.block.low o n;
         }
 
-    module _ {k at i : ℕ} {entry list : List ℕ} (s : Pairing letters p r lo hi entry k list at i) where
-      pub pairing_moving : i < hi → (t : Transition) → t ≡ transition_at l₁ i → Moving m₂.states m₂.transitions l₂ starts₂ r t
-      pairing_moving lt t e =
+    module _ {k at i : ℕ} {entry list : List ℕ} (s : Pairing letters p r lo hi entry k list at (Some i)) where
+      pub pairing_below : i < hi
+      pairing_below = s.reached.0
+
+      pub pairing_moving : (t : Transition) → t ≡ transition_at l₁ i → Moving m₂.states m₂.transitions l₂ f.second.starts.now r t
+      pairing_moving t e =
           let top = g.block.high in
+          let lt = pairing_below in
           let inside : i < m₁.transitions = omega arith in
-          let lr = g.second_state in
+          let lr = g.states.1 in
           let few = j.few_states in
           let from = pair_below m₁.states m₂.states (transition_at l₁ i).from r (j.first.from_below i inside) lr in
           let to = pair_below m₁.states m₂.states (transition_at l₁ i).to r (j.first.to_below i inside) lr in
-          subst (λ (z : Transition). Moving m₂.states m₂.transitions l₂ starts₂ r z) (sym e)
+          subst (λ (z : Transition). Moving m₂.states m₂.transitions l₂ f.second.starts.now r z) (sym e)
           (record {
             from_small = omega arith;
             to_small = omega arith;
@@ -448,48 +518,54 @@ module _ {m₁ : Machine} {l₁ : List ℕ} {m₂ : Machine} {l₂ : List ℕ} (
             letter_small = first_small i inside;
             letters_small = second_small;
             sorted = keys_sorted m₂ l₂ j.second;
-            start = λ some. begin some ((g.common (transition_at l₁ i).letter (first_small i inside)).0 (s.reached lt)).1;
+            start = λ some. begin some ((g.common (transition_at l₁ i).letter (first_small i inside)).0 s.reached.1).1;
           })
         where
-          begin : ((transition_at l₁ i).letter ≡ 0 → ⊥) → MayPair keys₂ r (transition_at l₁ i).letter
-              → Lower l₂ m₂.transitions 0 (r * 256 + (transition_at l₁ i).letter) (get_or starts₂ (r * 256 + (transition_at l₁ i).letter) 0)
+          begin : ((transition_at l₁ i).letter ≡ 0 → ⊥) → MayPair f.second.keys.now r (transition_at l₁ i).letter
+              → Lower l₂ m₂.transitions 0 (r * 256 + (transition_at l₁ i).letter) (get_or f.second.starts.now (r * 256 + (transition_at l₁ i).letter) 0)
           begin some (inl z) = absurd (some z)
           begin some (inr m) =
               let top = g.block.high in
+              let lt = pairing_below in
               let small = first_small i (omega arith) in
-              starts_lower l₂ m₂.transitions starts₂ (r * 256 + (transition_at l₁ i).letter) (keys_sorted m₂ l₂ j.second) g.second_index.firsts
-              (g.second_index.keys.only (r * 256 + (transition_at l₁ i).letter) (omega (arith, g.second_state, j.second.states_fit)) m)
+              starts_lower l₂ m₂.transitions f.second.starts.now (r * 256 + (transition_at l₁ i).letter) (keys_sorted m₂ l₂ j.second) second_index.firsts
+              (second_index.keys.only (r * 256 + (transition_at l₁ i).letter) (omega (arith, g.states.1, j.second.states_fit)) m)
 
-      rest_step : i < hi → (t : Transition) → t ≡ transition_at l₁ i
+      rest_step : (t : Transition) → t ≡ transition_at l₁ i
           → flat (each i (hi - i) (moves r)) ≡ flat (joint_moves m₂.states m₂.transitions l₂ r t) ++ flat (each (i + 1) (hi - (i + 1)) (moves r))
-      rest_step lt t e =
-          ap flat (each_step i hi (moves r) lt)
+      rest_step t e =
+          ap flat (each_step i hi (moves r) pairing_below)
           ∙ flat_append (moves r i) (each (i + 1) (hi - (i + 1)) (moves r))
           ∙ ap (λ (z : Transition). flat (joint_moves m₂.states m₂.transitions l₂ r z) ++ flat (each (i + 1) (hi - (i + 1)) (moves r))) (sym e)
 
-      pub pairing_room : i < hi → (t : Transition) → t ≡ transition_at l₁ i → at + length (flat (joint_moves m₂.states m₂.transitions l₂ r t)) ≤ length list
-      pairing_room lt t e =
-          putting_room (flat (joint_moves m₂.states m₂.transitions l₂ r t)) (flat (each (i + 1) (hi - (i + 1)) (moves r))) s.putting (rest_step lt t e)
+      pub pairing_room : (t : Transition) → t ≡ transition_at l₁ i → at + length (flat (joint_moves m₂.states m₂.transitions l₂ r t)) ≤ length list
+      pairing_room t e =
+          putting_room (flat (joint_moves m₂.states m₂.transitions l₂ r t)) (flat (each (i + 1) (hi - (i + 1)) (moves r))) s.putting (rest_step t e)
 
-      pub pairing_next : i < hi → (t : Transition) → t ≡ transition_at l₁ i → (list' : List ℕ) (at' i' : ℕ)
+      pub pairing_next : (t : Transition) → t ≡ transition_at l₁ i → (list' : List ℕ) (at' : ℕ) (o : Option ℕ)
           → list' ≡ put at list (flat (joint_moves m₂.states m₂.transitions l₂ r t)) → at' ≡ at + length (flat (joint_moves m₂.states m₂.transitions l₂ r t))
-          → NextMove l₁ letters (i + 1) hi i' → Pairing letters p r lo hi entry k list' at' i'
-      pairing_next lt t e list' at' i' el ea next =
+          → NextMove l₁ letters (i + 1) hi o → Pairing letters p r lo hi entry k list' at' o
+      pairing_next t e list' at' o el ea n =
           let low = s.low in
-          let on = next.low in
+          let lt = pairing_below in
+          let on = next_low (i + 1) (omega arith) (omega arith) o n in
           record {
             low = omega arith;
-            high = next.high;
+            high = next_high (i + 1) (omega arith) (omega arith) o n;
             putting = subst (λ (z : List Transition). Putting entry k (flat (joined_from m₁ l₁ m₂ l₂ p r)) list' at' (flat z))
-                (each_skip (i + 1) i' hi (moves r) next.low next.high (λ u a c. not_common u (omega arith) (omega (arith, next.high)) (next.passed u a c)))
-                (putting_at (putting_step (flat (joint_moves m₂.states m₂.transitions l₂ r t)) (flat (each (i + 1) (hi - (i + 1)) (moves r))) s.putting (rest_step lt t e) el) (sym ea));
-            reached = next.reached;
+                (skipped (i + 1) (omega arith) (omega arith) o n)
+                (putting_at (putting_step (flat (joint_moves m₂.states m₂.transitions l₂ r t)) (flat (each (i + 1) (hi - (i + 1)) (moves r))) s.putting (rest_step t e) el) (sym ea));
+            reached = next_reached (i + 1) (omega arith) (omega arith) o n;
           }
 
-  pub pairing_end : {letters : List ℕ} {p r lo hi k at i : ℕ} {entry list : List ℕ} → Pairing letters p r lo hi entry k list at i → hi ≤ i
+  pub pairing_at : {letters : List ℕ} {p r lo hi k at : ℕ} {entry list : List ℕ} {o o' : Option ℕ} → o ≡ o' → Pairing letters p r lo hi entry k list at o
+      → Pairing letters p r lo hi entry k list at o'
+  pairing_at {letters} {p} {r} {lo} {hi} {k} {at} {entry} {list} e s = subst (λ (o : Option ℕ). Pairing letters p r lo hi entry k list at o) e s
+
+  pub pairing_end : {letters : List ℕ} {p r lo hi k at : ℕ} {entry list : List ℕ} → Pairing letters p r lo hi entry k list at None
       → (list ≡ put k entry (flat (joined_from m₁ l₁ m₂ l₂ p r))) × (at ≡ k + length (flat (joined_from m₁ l₁ m₂ l₂ p r)))
   unfolding flat
-  pairing_end {r = r} {hi = hi} {i = i} s le = putting_end s.putting (ap flat (each_over i hi (moves r) le))
+  pairing_end {r = r} {hi = hi} s = putting_end s.putting (ap flat (each_over hi hi (moves r) (omega arith)))
 
   -- The loop over the states of the second
 

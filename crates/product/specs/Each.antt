@@ -2,8 +2,7 @@
 --
 -- each i n f          == f i, f (i + 1), .. , n parts in a row
 -- sum_over i n f       == f i + f (i + 1) + .. , n numbers
--- zeros_of n           == n zeros
-use Rattle.std.specs.Prelude.{ℕ, zero, suc, ◌+◌, List, [], ◌++◌, replicate}
+use Rattle.std.specs.Prelude.{ℕ, zero, suc, ◌+◌, List, [], ◌++◌}
 pub mod Laws
 pub mod Sums
 
@@ -15,6 +14,3 @@ module _ {A : Type 0} where
 unfoldable pub sum_over : ℕ → ℕ → (ℕ → ℕ) → ℕ
 sum_over i zero f = 0
 sum_over i (suc n) f = f i + sum_over (suc i) n f
-
-unfoldable pub zeros_of : ℕ → List ℕ
-zeros_of n = replicate n 0

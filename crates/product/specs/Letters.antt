@@ -6,13 +6,14 @@
 -- KeySet list n words     == the set of the keys of the first n transitions
 -- Starts list n starts    == starts has at the key of each of the first n transitions the first of them with this key
 -- Indexed list n starts words == both
+-- Noted list n starts words == the same as a fact that has one proof: a key of the set occurs where starts says
 -- MayPair words r c       == letter c is epsilon, or state r can be left by it
 -- Common first p second r letters == the letters of p that match at r
--- LeastFrom word x b      == b is the least member of a word that is not below x, 64 where there is none
--- Least letters x b       == b is the least letter of the set that is not below x, 256 where there is none
+-- LeastFrom word x o      == o is the least member of a word that is not below x (LeastMember), or there is none
+-- Least letters x o       == o is the least letter of the set that is not below x (LeastLetter), or there is none
 -- Searching list starts letters p i hi == the transitions from i up to hi are the last ones of p, and the set has only letters of p
--- NextMove list letters i hi r == r is the first transition from i on whose letter is in the set, hi where there is none
-use Rattle.std.specs.Prelude.{ℕ, ◌+◌, ◌*◌, ◌/◌, ◌%◌, ◌≤◌, ◌<◌, ◌≡◌, ◌⊎◌, ◌↔◌, List, get_or}
+-- NextMove list letters i hi o == o is the first transition from i up to hi whose letter is in the set (FirstMove), or there is none
+use Rattle.std.specs.Prelude.{ℕ, ◌+◌, ◌*◌, ◌/◌, ◌%◌, ◌≤◌, ◌<◌, ◌≡◌, ◌⊎◌, ◌↔◌, List, get_or, Option, None, Some}
 use Rattle.fsbm.specs.Machine.{transition_at}
 use Rattle.stateset.specs.Set.{In}
 use Rattle.product.specs.Order.{letter_key, Block}
@@ -37,23 +38,38 @@ pub record Indexed (list : List ℕ) (n : ℕ) (starts words : List ℕ) : Type 
   pub keys : KeySet list n words
   pub firsts : Starts list n starts
 
+abbrev pub Noted : List ℕ → ℕ → List ℕ → List ℕ → Type 0
+Noted list n starts words =
+    ((k : ℕ) → k < n → HasKey words (letter_key list k))
+    × ((y : ℕ) → y < 16384 → HasKey words y → (get_or starts y 0 < n) × (letter_key list (get_or starts y 0) ≡ y))
+    × ((k : ℕ) → k < n → get_or starts (letter_key list k) 0 ≤ k)
+    × ((k : ℕ) → k < n → letter_key list (get_or starts (letter_key list k) 0) ≡ letter_key list k)
+
 abbrev pub MayPair : List ℕ → ℕ → ℕ → Type 0
 MayPair words r c = (c ≡ 0) ⊎ HasKey words (r * 256 + c)
 
 abbrev pub Common : List ℕ → ℕ → List ℕ → ℕ → List ℕ → Type 0
 Common first p second r letters = (c : ℕ) → c < 256 → HasKey letters c ↔ (HasKey first (p * 256 + c) × MayPair second r c)
 
-pub record LeastFrom (word x b : ℕ) : Type 0 where
+pub record LeastMember (word x b : ℕ) : Type 0 where
   pub low : x ≤ b
-  pub high : b ≤ 64
+  pub high : b < 64
   pub none : (c : ℕ) → x ≤ c → c < b → In word c → ⊥
-  pub member : b < 64 → In word b
+  pub member : In word b
 
-pub record Least (letters : List ℕ) (x b : ℕ) : Type 0 where
+abbrev pub LeastFrom : ℕ → ℕ → Option ℕ → Type 0
+LeastFrom word x None = (c : ℕ) → x ≤ c → In word c → ⊥
+LeastFrom word x (Some b) = LeastMember word x b
+
+pub record LeastLetter (letters : List ℕ) (x b : ℕ) : Type 0 where
   pub low : x ≤ b
-  pub high : b ≤ 256
+  pub high : b < 256
   pub none : (c : ℕ) → x ≤ c → c < b → HasKey letters c → ⊥
-  pub member : b < 256 → HasKey letters b
+  pub member : HasKey letters b
+
+abbrev pub Least : List ℕ → ℕ → Option ℕ → Type 0
+Least letters x None = (c : ℕ) → x ≤ c → c < 256 → HasKey letters c → ⊥
+Least letters x (Some b) = LeastLetter letters x b
 
 pub record Searching (list starts letters : List ℕ) (p i hi : ℕ) : Type 0 where
   pub count : ℕ
@@ -67,8 +83,12 @@ pub record Searching (list starts letters : List ℕ) (p i hi : ℕ) : Type 0 wh
   pub firsts : Starts list count starts
   pub only : (b : ℕ) → b < 256 → HasKey letters b → Occurs list count (p * 256 + b)
 
-pub record NextMove (list letters : List ℕ) (i hi r : ℕ) : Type 0 where
+pub record FirstMove (list letters : List ℕ) (i hi r : ℕ) : Type 0 where
   pub low : i ≤ r
-  pub high : r ≤ hi
+  pub high : r < hi
   pub passed : (k : ℕ) → i ≤ k → k < r → HasKey letters (transition_at list k).letter → ⊥
-  pub reached : r < hi → HasKey letters (transition_at list r).letter
+  pub reached : HasKey letters (transition_at list r).letter
+
+abbrev pub NextMove : List ℕ → List ℕ → ℕ → ℕ → Option ℕ → Type 0
+NextMove list letters i hi None = (k : ℕ) → i ≤ k → k < hi → HasKey letters (transition_at list k).letter → ⊥
+NextMove list letters i hi (Some r) = FirstMove list letters i hi r

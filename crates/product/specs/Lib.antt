@@ -1,3 +1,4 @@
+pub mod Answers
 pub mod Common
 pub mod Count
 pub mod Each

@@ -9,15 +9,17 @@
 -- joined_count ..          == how many transitions the product has, by document 01's formula
 -- joined_machine ..        == the product's record
 -- join_fault ..            == the first refusal of two tables that are joined, 0 where there is none
--- join_refusal, join_answer, join_after == the refusal and the answer of join, and what the caller's list holds afterwards
-use Rattle.std.specs.Prelude.{ℕ, zero, suc, ◌+◌, ◌*◌, ◌/◌, ◌%◌, List, [], ◌∷◌, ◌++◌, Bool, cond, not, ◌&&◌, length, drop, leb, ltb, eqb}
+-- join_refusal, join_answer, join_after == the refusal, if there is one, and the answer of join, and what the caller's list holds afterwards
+-- answered o a            == the answer of a call that refuses by o, or answers a where it does not
+-- join_values ..          == those that the rules give
+use Rattle.std.specs.Prelude.{ℕ, zero, suc, ◌+◌, ◌*◌, ◌/◌, ◌%◌, List, [], ◌∷◌, ◌++◌, Bool, cond, not, ◌&&◌, length, drop, leb, ltb, eqb, Option, None, Some, Result, Ok, Err}
 use Rattle.basics.specs.Search.{all_below}
 use Rattle.fsbm.specs.Machine.{max_states, max_transitions, initial, final, buffering, matching, transition_at, well_formed}
-use Rattle.fsbm.specs.Answers.{refusal, no_machine}
+use Rattle.fsbm.specs.Answers.{refusal, no_machine, MachineValues}
 use Rattle.fsbm.specs.declared.machine.Machine.{Machine}
 use Rattle.fsbm.specs.declared.machine.Transition.{Transition}
 use Rattle.fsbm.specs.declared.answer.Refusal.{Refusal}
-use Rattle.product.specs.declared.Product.{Product}
+use Rattle.fsbm.specs.declared.answer.Refusal.TheVariants.{ShortList}
 use Rattle.product.specs.Each.{each, sum_over}
 
 -- a plain machine is a finite automaton
@@ -115,23 +117,31 @@ module _ (m₁ : Machine) (l₁ : List ℕ) (m₂ : Machine) (l₂ : List ℕ) w
       16
 
   -- last 15: a list of this length is too short
-  unfoldable pub join_refusal : ℕ → Refusal
+  unfoldable pub join_refusal : ℕ → Option Refusal
   join_refusal room =
       cond (eqb join_fault 0)
-      (cond (leb (joined_count m₁ l₁ m₂ l₂ * 3) room) (refusal 0) (record { number = 15; needed = joined_count m₁ l₁ m₂ l₂ * 3 }))
-      (refusal join_fault)
+      (cond (leb (joined_count m₁ l₁ m₂ l₂ * 3) room) None (Some (ShortList (joined_count m₁ l₁ m₂ l₂ * 3))))
+      (Some (refusal join_fault))
+
+abbrev pub answered : {A : Type 0} → Option Refusal → A → Result A Refusal
+answered None a = Ok a
+answered (Some f) a = Err f
 
 module _ (m₁ : Machine) (l₁ : List ℕ) (m₂ : Machine) (l₂ : List ℕ) where
-  unfoldable pub join_answer : ℕ → Product
-  join_answer room =
-      record {
-        refusal = join_refusal m₁ l₁ m₂ l₂ room;
-        machine = cond (eqb (join_refusal m₁ l₁ m₂ l₂ room).number 0) (joined_machine m₁ l₁ m₂ l₂) no_machine;
-      }
+  unfoldable pub join_answer : ℕ → Result Machine Refusal
+  join_answer room = answered (join_refusal m₁ l₁ m₂ l₂ room) (joined_machine m₁ l₁ m₂ l₂)
+
+  unfoldable pub join_values : ℕ → MachineValues
+  join_values room =
+      cond (eqb (join_fault m₁ l₁ m₂ l₂) 0)
+      (cond (leb (joined_count m₁ l₁ m₂ l₂ * 3) room)
+      (record { refusal = 0; needed = 0; machine = joined_machine m₁ l₁ m₂ l₂ })
+      (record { refusal = 15; needed = joined_count m₁ l₁ m₂ l₂ * 3; machine = no_machine }))
+      (record { refusal = join_fault m₁ l₁ m₂ l₂; needed = 0; machine = no_machine })
 
   -- the list as it was, or the transitions at its front
   unfoldable pub join_after : List ℕ → List ℕ
   join_after list =
-      cond (eqb (join_refusal m₁ l₁ m₂ l₂ (length list)).number 0)
+      cond (eqb (join_values (length list)).refusal 0)
       (joined_transitions m₁ l₁ m₂ l₂ ++ drop (joined_count m₁ l₁ m₂ l₂ * 3) list)
       list

@@ -3,17 +3,16 @@
 //
 // key              the key of a transition
 // key_set          the keys of all transitions: by which letters each state is left
-// no_starts        a list for the next
 // note_starts      the first transition of each key
 // common_letters   the letters by which a state of the first moves at a state of the second
 // next_letter      the next letter of a set
-ghost use Rattle.std.specs.Prelude.{ℕ, ◌+◌, ◌*◌, ◌≤◌, ◌<◌, ◌≡◌, ◌↔◌, length};
+ghost use Rattle.std.specs.Prelude.{ℕ, ◌+◌, ◌*◌, ◌≤◌, ◌<◌, ◌≡◌, ◌↔◌};
 ghost use Rattle.stateset.specs.Set.{In};
-ghost use Rattle.product.specs.Each.{zeros_of};
 ghost use Rattle.product.specs.Letters.{HasKey, MayPair, KeySet, Starts, Common, Least, LeastFrom};
-ghost use Rattle.product.specs.Order.{letter_key};
 
-use fsbm::machine;
+use fsbm::machine::Transition;
+use fsbm::table::Table;
+use std::array;
 
 // The keys of a state and a letter, 256 for each state.
 pub const KEYS: usize = 16384;
@@ -21,53 +20,32 @@ pub const KEYS: usize = 16384;
 // The sets of 64 keys that hold them.
 pub const KEY_SETS: usize = 256;
 
-// The key of transition k: its from_state and letter as one number.
-pub fn key(list: &[u16], k: usize) -> usize
-    ensures { result ≡ letter_key list.now k }
+// The key of a transition: its from_state and letter as one number.
+pub fn key(t: Transition) -> usize
+    ensures { result ≡ t.from * 256 + t.letter }
 {
-    let t = machine::transition_at(list, k);
-    t.from as usize * 256 + t.letter as usize
+    usize::from(t.from) * 256 + usize::from(t.letter)
 }
 
-// The set of no keys.
-fn no_keys() -> [u64; KEY_SETS]
-    ensures { result ≡ zeros_of 256 }
+// The set of the keys of all transitions.
+pub fn key_set(t: &Table) -> [u64; KEY_SETS]
+    ensures { KeySet t.now.list.now t.now.machine.transitions result }
 {
-    [0; KEY_SETS]
-}
-
-// The set of the keys of the first n transitions.
-pub fn key_set(list: &[u16], n: usize) -> [u64; KEY_SETS]
-    requires { (k : ℕ) → k < n → letter_key list.now k < 16384 }
-    ensures { KeySet list.now n result }
-{
-    let mut words = no_keys();
-    let mut k: usize = 0;
-    while k < n {
-        let y = key(list, k);
+    let mut words = [0; KEY_SETS];
+    for k in 0..t.machine.transitions {
+        let y = key(t.transition(k));
         words[y / 64] = stateset::add(words[y / 64], y % 64);
-        k += 1;
     }
     words
 }
 
-// A number for each key, all 0.
-pub fn no_starts() -> [u16; KEYS]
-    ensures { result ≡ zeros_of 16384 }
+// Notes at the key of each transition the first that has it: the last transition is noted first.
+pub fn note_starts(t: &Table, starts: &mut [u16; KEYS])
+    ensures { Starts t.now.list.now t.now.machine.transitions starts.new }
 {
-    [0; KEYS]
-}
-
-// Notes at the key of each of the first n transitions the first of them that has it: the last transition is noted first.
-pub fn note_starts(list: &[u16], n: usize, starts: &mut [u16; KEYS])
-    requires starts_len { length starts.old ≡ 16384 }
-    requires n_bound { (n ≤ 4000) × ((k : ℕ) → k < n → letter_key list.now k < 16384) }
-    ensures { Starts list.now n starts.new }
-{
-    let mut k = n;
-    while 0 < k {
-        k -= 1;
-        starts[key(list, k)] = k as u16;
+    for k in (0..t.machine.transitions).rev() {
+        let y = key(t.transition(k));
+        starts[y] = k as u16;
     }
 }
 
@@ -101,40 +79,33 @@ pub fn common_letters(
     requires { (p < 64) × (r < 64) }
     ensures { Common first.now p second.now r result }
 {
-    [
-        common_word(first, p, second, r, 0),
-        common_word(first, p, second, r, 1),
-        common_word(first, p, second, r, 2),
-        common_word(first, p, second, r, 3),
-    ]
+    array::from_fn(|w| common_word(first, p, second, r, w))
 }
 
-// The least member of a word that is not below x, or 64 where there is none.
-fn least_from(word: u64, x: usize) -> usize
+// The least member of a word that is not below x, if there is one.
+fn least_from(word: u64, x: usize) -> Option<usize>
     requires { x < 64 }
     ensures { LeastFrom word x result }
 {
     let rest = word >> x;
     if rest == 0 {
-        return 64;
+        return None;
     }
-    x + stateset::lowest(rest) as usize
+    Some(x + stateset::lowest(rest) as usize)
 }
 
-// The least letter of the set that is not below x, or 256 where there is none.
+// The least letter of the set that is not below x, if there is one.
 // Time: a step a word, at most four.
-pub fn next_letter(letters: &[u64; 4], x: usize) -> usize
+pub fn next_letter(letters: &[u64; 4], x: usize) -> Option<usize>
     requires { x ≤ 256 }
     ensures { Least letters.now x result }
 {
-    let mut b = x;
-    while b < 256 {
-        let w = b / 64;
-        let c = least_from(letters[w], b % 64);
-        if c < 64 {
-            return w * 64 + c;
+    let mut from = x % 64;
+    for w in x / 64..4 {
+        if let Some(c) = least_from(letters[w], from) {
+            return Some(w * 64 + c);
         }
-        b = w * 64 + 64;
+        from = 0;
     }
-    b
+    None
 }

@@ -3,45 +3,25 @@
 // join      the public call: the product's record, its transitions in the caller's list
 // fault     the refusals of two tables that are joined, and the number of joined transitions
 // letters   the transitions of a table by state and letter
+// factors   the two tables that are joined, with what is noted of them
 // write     the joined transitions, written in order
 // marks     the marks of the product
 
 #![tactic(auto)]
 
+ghost use Rattle.fsbm.specs.Answers.{machine_values};
 ghost use Rattle.std.specs.Prelude.{◌≡◌, length};
-ghost use Rattle.fsbm.specs.Answers.{no_machine};
-ghost use Rattle.product.specs.Product.{join_answer, join_after};
+ghost use Rattle.product.specs.Product.{join_answer, join_values, join_after};
 
 use fsbm::answer::Refusal;
-use fsbm::limits::MAX_STATES;
 use fsbm::machine::Machine;
+use fsbm::table::Table;
 
+mod factors;
 pub mod fault;
 mod letters;
 mod marks;
 mod write;
-
-// The answer of join: refusal.number is 0 on success; on a refusal every field of machine is 0.
-#[derive(Clone, Copy)]
-pub struct Product {
-    pub refusal: Refusal,
-    pub machine: Machine,
-}
-
-// The answer of a refusal.
-fn refused(number: u8, needed: usize) -> Product
-    ensures { result ≡ record { refusal = record { number = number; needed = needed }; machine = no_machine } }
-{
-    Product {
-        refusal: Refusal { number, needed },
-        machine: Machine {
-            states: 0,
-            letters: 0,
-            transitions: 0,
-            marks: [0; MAX_STATES],
-        },
-    }
-}
 
 // The public call: the product of a machine with a plain machine. Its record is the answer, and its transitions stand at the front
 // of the caller's list, strictly rising. It refuses 16 (a record and its list break the rules of a table, the first or the second),
@@ -56,32 +36,30 @@ pub fn join(
     second: Machine,
     second_list: &[u16],
     list: &mut [u16],
-) -> Product
+) -> Result<Machine, Refusal>
     ensures answer { result ≡ join_answer first first_list.now second second_list.now (length list.old) }
+    ensures values { machine_values result ≡ join_values first first_list.now second second_list.now (length list.old) }
     ensures written { list.new ≡ join_after first first_list.now second second_list.now list.old }
 {
-    let joint = fault::first_fault(first, first_list, second, second_list);
-    let number = joint.fault;
-    if number != 0 {
-        return refused(number, 0);
-    }
-    let transitions = joint.transitions;
+    let transitions = fault::first_fault(first, first_list, second, second_list)?;
     let needed = transitions * 3;
     if list.len() < needed {
-        return refused(15, needed);
+        return Err(Refusal::ShortList(needed));
     }
-    write::write_product(first, first_list, second, second_list, list);
+    let one = Table {
+        machine: first,
+        list: first_list,
+    };
+    let two = Table {
+        machine: second,
+        list: second_list,
+    };
+    write::write_product(&one, &two, list);
     let marks = marks::joined_marks(first, second);
-    Product {
-        refusal: Refusal {
-            number: 0,
-            needed: 0,
-        },
-        machine: Machine {
-            states: first.states * second.states,
-            letters: first.letters,
-            transitions,
-            marks,
-        },
-    }
+    Ok(Machine {
+        states: first.states * second.states,
+        letters: first.letters,
+        transitions,
+        marks,
+    })
 }

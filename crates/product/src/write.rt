@@ -1,6 +1,7 @@
 // The transitions of the product, written in order.
 //
-// write_product   all of them: for each state of the first
+// write_product   all of them
+// write_rows      for each state of the first
 // write_row       for each state of the second
 // write_pair      for each transition of the first from its state that gives something
 // next_move       the next such transition
@@ -9,35 +10,27 @@ ghost use Rattle.std.specs.Prelude.{ℕ, ◌+◌, ◌*◌, ◌-◌, ◌≤◌, �
 ghost use Rattle.fsbm.specs.Machine.{transition_at};
 ghost use Rattle.basics.specs.Lists.{put};
 ghost use Rattle.product.specs.Each.{each};
-ghost use Rattle.product.specs.Letters.{Indexed, Searching, NextMove};
+ghost use Rattle.product.specs.Letters.{Searching, NextMove};
 ghost use Rattle.product.specs.Order.{Lower, Block, Moving};
 ghost use Rattle.product.specs.Product.{joint_moves, flat, joined_from, joined_transitions, join_fault};
 
+use crate::factors::{Factors, Indexed};
 use crate::letters;
-use crate::letters::{KEY_SETS, KEYS};
+use crate::letters::KEYS;
 use fsbm::machine;
-use fsbm::machine::{Machine, Transition};
+use fsbm::machine::Transition;
+use fsbm::table::Table;
+use std::ops::Range;
 
-// The transitions from lo up to, not including, hi.
-#[derive(Clone, Copy)]
-struct Span {
-    lo: usize,
-    hi: usize,
-}
-
-// The first transition from j on, of n, whose key is not below y; n where there is none.
-fn lower(list: &[u16], n: usize, j: usize, y: usize) -> usize
-    requires { j ≤ n }
-    ensures { Lower list.now n j y result }
+// The first transition from j on whose key is not below y; the number of transitions where there is none.
+fn lower(t: &Table, j: usize, y: usize) -> usize
+    requires { j ≤ t.now.machine.transitions }
+    ensures { Lower t.now.list.now t.now.machine.transitions j y result }
 {
-    let mut u = j;
-    while u < n {
-        if y <= letters::key(list, u) {
-            return u;
-        }
-        u += 1;
-    }
-    u
+    let n = t.machine.transitions;
+    (j..n)
+        .find(|u| y <= letters::key(t.transition(*u)))
+        .unwrap_or(n)
 }
 
 // The number of the pair (q, s), s one of n states.
@@ -61,60 +54,51 @@ fn put(list: &mut [u16], k: usize, from: u16, letter: u16, to: u16)
 // Writes for each transition of the second in the span one with its to-state added to base.
 fn write_letter(
     second_list: &[u16],
-    span: Span,
+    span: Range<usize>,
     from: u16,
     letter: u16,
     base: u16,
     list: &mut [u16],
     k: usize,
 )
-    requires lo_le_hi { span.lo ≤ span.hi }
-    requires by_index { (u : ℕ) → u < span.hi → base + (transition_at second_list.now u).to < 2 ^ 16 }
-    requires lo_in_bounds { k + (span.hi - span.lo) * 3 ≤ length list.old }
+    requires lo_le_hi { span.start ≤ span.end }
+    requires by_index { (u : ℕ) → u < span.end → base + (transition_at second_list.now u).to < 2 ^ 16 }
+    requires lo_in_bounds { k + (span.end - span.start) * 3 ≤ length list.old }
     ensures { list.new
         ≡ put k list.old
-        (each span.lo (span.hi - span.lo) (λ u. from ∷ letter ∷ (base + (transition_at second_list.now u).to) ∷ [])) }
+        (each span.start (span.end - span.start) (λ u. from ∷ letter ∷ (base + (transition_at second_list.now u).to) ∷ [])) }
 {
-    let lo = span.lo;
-    let hi = span.hi;
     let mut at = k;
-    let mut u = lo;
-    while u < hi {
+    for u in span.start..span.end {
         let t = machine::transition_at(second_list, u);
         put(list, at, from, letter, base + t.to);
         at += 3;
-        u += 1;
     }
 }
 
-// Writes what transition t of the first gives at state r of the second, which has n states and count transitions; starts has where
-// those by each letter begin.
-fn write_moves(
-    t: Transition,
-    second_list: &[u16],
-    starts: &[u16; KEYS],
-    count: usize,
-    n: u16,
-    r: u16,
-    list: &mut [u16],
-    at: usize,
-) -> usize
-    requires moving { Moving n count second_list.now starts.now r t }
-    requires t_in_bounds { at + length (flat (joint_moves n count second_list.now r t)) ≤ length list.old }
-    ensures list_after { list.new ≡ put at list.old (flat (joint_moves n count second_list.now r t)) }
-    ensures value { result ≡ at + length (flat (joint_moves n count second_list.now r t)) }
+// Writes what transition t of the first gives at state r of the second. Returns the place behind it.
+fn write_moves(t: Transition, second: &Indexed, r: u16, list: &mut [u16], at: usize) -> usize
+    requires moving { Moving second.now.table.now.machine.states second.now.table.now.machine.transitions second.now.table.now.list.now second.now.starts.now r t }
+    requires t_in_bounds { at
+        + length (flat (joint_moves second.now.table.now.machine.states second.now.table.now.machine.transitions second.now.table.now.list.now r t))
+        ≤ length list.old }
+    ensures list_after { list.new
+        ≡ put at list.old (flat (joint_moves second.now.table.now.machine.states second.now.table.now.machine.transitions second.now.table.now.list.now r t)) }
+    ensures value { result
+        ≡ at + length (flat (joint_moves second.now.table.now.machine.states second.now.table.now.machine.transitions second.now.table.now.list.now r t)) }
 {
+    let n = second.table.machine.states as u16;
     let from = pair(n, t.from, r);
     if t.letter == 0 {
         put(list, at, from, 0, pair(n, t.to, r));
         return at + 3;
     }
-    let y = r as usize * 256 + t.letter as usize;
-    let lo = starts[y] as usize;
-    let hi = lower(second_list, count, lo, y + 1);
+    let y = usize::from(r) * 256 + usize::from(t.letter);
+    let lo = usize::from(second.starts[y]);
+    let hi = lower(second.table, lo, y + 1);
     write_letter(
-        second_list,
-        Span { lo, hi },
+        second.table.list,
+        lo..hi,
         from,
         t.letter,
         pair(n, t.to, 0),
@@ -124,170 +108,128 @@ fn write_moves(
     at + (hi - lo) * 3
 }
 
-// The first transition from i up to hi, all from state p, whose letter is in the set; hi where there is none.
-fn next_move(
-    list: &[u16],
-    starts: &[u16; KEYS],
-    letters: &[u64; 4],
-    p: usize,
-    i: usize,
-    hi: usize,
-) -> usize
-    requires { Searching list.now starts.now letters.now p i hi }
-    ensures { NextMove list.now letters.now i hi result }
+// The first transition from i up to hi, all from state p, whose letter is in the set, if there is one.
+fn next_move(first: &Indexed, letters: &[u64; 4], p: usize, i: usize, hi: usize) -> Option<usize>
+    requires { Searching first.now.table.now.list.now first.now.starts.now letters.now p i hi }
+    ensures { NextMove first.now.table.now.list.now letters.now i hi result }
 {
     if hi <= i {
-        return hi;
+        return None;
     }
-    let t = machine::transition_at(list, i);
-    let x = t.letter as usize;
-    let b = letters::next_letter(letters, x);
+    let t = machine::transition_at(first.table.list, i);
+    let x = usize::from(t.letter);
+    let b = letters::next_letter(letters, x)?;
     if b == x {
-        return i;
+        return Some(i);
     }
-    if b == 256 {
-        return hi;
-    }
-    starts[p * 256 + b] as usize
+    Some(usize::from(first.starts[p * 256 + b]))
 }
 
-// Writes the transitions of the product from the pair (p, r); those of the first from p are the span.
+// Writes the transitions of the product from the pair (p, r); those of the first from p are the span. Returns the place behind them.
 fn write_pair(
-    first: Machine,
-    first_list: &[u16],
-    first_starts: &[u16; KEYS],
-    first_keys: &[u64; KEY_SETS],
-    second: Machine,
-    second_list: &[u16],
-    second_starts: &[u16; KEYS],
-    second_keys: &[u64; KEY_SETS],
+    f: &Factors,
     p: usize,
-    span: Span,
+    span: &Range<usize>,
     r: usize,
     list: &mut [u16],
     k: usize,
 ) -> usize
-    requires second_list_value { join_fault first first_list.now second second_list.now ≡ 0 }
-    requires indexed { Indexed first_list.now first.transitions first_starts.now first_keys.now }
-    requires indexed_2 { Indexed second_list.now second.transitions second_starts.now second_keys.now }
-    requires block { Block first_list.now first.transitions p span.lo span.hi }
-    requires p_lt_states { (p < first.states) × (r < second.states) }
-    requires r_in_bounds { k + length (flat (joined_from first first_list.now second second_list.now p r)) ≤ length list.old }
-    ensures list_after { list.new ≡ put k list.old (flat (joined_from first first_list.now second second_list.now p r)) }
-    ensures value { result ≡ k + length (flat (joined_from first first_list.now second second_list.now p r)) }
+    requires block { Block f.now.first.table.now.list.now f.now.first.table.now.machine.transitions p span.now.start span.now.end }
+    requires p_lt_states { (p < f.now.first.table.now.machine.states) × (r < f.now.second.table.now.machine.states) }
+    requires r_in_bounds { k
+        + length (flat (joined_from f.now.first.table.now.machine f.now.first.table.now.list.now f.now.second.table.now.machine f.now.second.table.now.list.now p r))
+        ≤ length list.old }
+    ensures list_after { list.new
+        ≡ put k list.old
+        (flat (joined_from f.now.first.table.now.machine f.now.first.table.now.list.now f.now.second.table.now.machine f.now.second.table.now.list.now p r)) }
+    ensures value { result
+        ≡ k
+        + length (flat (joined_from f.now.first.table.now.machine f.now.first.table.now.list.now f.now.second.table.now.machine f.now.second.table.now.list.now p r)) }
 {
-    let n = second.states as u16;
+    let hi = span.end;
     let state = r as u16;
-    let hi = span.hi;
-    let letters = letters::common_letters(first_keys, p, second_keys, r);
+    let letters = letters::common_letters(f.first.keys, p, f.second.keys, r);
     let mut at = k;
-    let mut i = next_move(first_list, first_starts, &letters, p, span.lo, hi);
-    while i < hi {
-        let t = machine::transition_at(first_list, i);
-        at = write_moves(
-            t,
-            second_list,
-            second_starts,
-            second.transitions,
-            n,
-            state,
-            list,
-            at,
-        );
-        i = next_move(first_list, first_starts, &letters, p, i + 1, hi);
+    let mut next = next_move(&f.first, &letters, p, span.start, hi);
+    // No range: a move is found from the one before it.
+    while let Some(i) = next {
+        let t = f.first.table.transition(i);
+        at = write_moves(t, &f.second, state, list, at);
+        next = next_move(&f.first, &letters, p, i + 1, hi);
     }
     at
 }
 
-// Writes the transitions of the product from the pairs of state p of the first, whose transitions are the span.
-fn write_row(
-    first: Machine,
-    first_list: &[u16],
-    first_starts: &[u16; KEYS],
-    first_keys: &[u64; KEY_SETS],
-    second: Machine,
-    second_list: &[u16],
-    second_starts: &[u16; KEYS],
-    second_keys: &[u64; KEY_SETS],
-    p: usize,
-    span: Span,
-    list: &mut [u16],
-    k: usize,
-) -> usize
-    requires second_list_value { join_fault first first_list.now second second_list.now ≡ 0 }
-    requires indexed { Indexed first_list.now first.transitions first_starts.now first_keys.now }
-    requires indexed_2 { Indexed second_list.now second.transitions second_starts.now second_keys.now }
-    requires block { Block first_list.now first.transitions p span.lo span.hi }
-    requires p_lt_states { p < first.states }
-    requires r_in_bounds { k + length (flat (each 0 second.states (λ r. joined_from first first_list.now second second_list.now p r))) ≤ length list.old }
+// Writes the transitions of the product from the pairs of state p of the first, whose transitions are the span. Returns the place
+// behind them.
+fn write_row(f: &Factors, p: usize, span: &Range<usize>, list: &mut [u16], k: usize) -> usize
+    requires block { Block f.now.first.table.now.list.now f.now.first.table.now.machine.transitions p span.now.start span.now.end }
+    requires p_lt_states { p < f.now.first.table.now.machine.states }
+    requires r_in_bounds { k
+        + length (flat (each 0 f.now.second.table.now.machine.states
+        (λ r. joined_from f.now.first.table.now.machine f.now.first.table.now.list.now f.now.second.table.now.machine f.now.second.table.now.list.now p r)))
+        ≤ length list.old }
     ensures list_after { list.new
-        ≡ put k list.old (flat (each 0 second.states (λ r. joined_from first first_list.now second second_list.now p r))) }
-    ensures value { result ≡ k + length (flat (each 0 second.states (λ r. joined_from first first_list.now second second_list.now p r))) }
+        ≡ put k list.old
+        (flat (each 0 f.now.second.table.now.machine.states
+        (λ r. joined_from f.now.first.table.now.machine f.now.first.table.now.list.now f.now.second.table.now.machine f.now.second.table.now.list.now p r))) }
+    ensures value { result
+        ≡ k
+        + length (flat (each 0 f.now.second.table.now.machine.states
+        (λ r. joined_from f.now.first.table.now.machine f.now.first.table.now.list.now f.now.second.table.now.machine f.now.second.table.now.list.now p r))) }
 {
-    let states = second.states;
     let mut at = k;
-    let mut r: usize = 0;
-    while r < states {
-        at = write_pair(
-            first,
-            first_list,
-            first_starts,
-            first_keys,
-            second,
-            second_list,
-            second_starts,
-            second_keys,
-            p,
-            span,
-            r,
-            list,
-            at,
-        );
-        r += 1;
+    for r in 0..f.second.table.machine.states {
+        at = write_pair(f, p, span, r, list, at);
     }
     at
+}
+
+// Writes all transitions of the product at the front of the list.
+fn write_rows(f: &Factors, list: &mut [u16])
+    requires { length
+        (joined_transitions f.now.first.table.now.machine f.now.first.table.now.list.now f.now.second.table.now.machine f.now.second.table.now.list.now)
+        ≤ length list.old }
+    ensures { list.new
+        ≡ put 0 list.old
+        (joined_transitions f.now.first.table.now.machine f.now.first.table.now.list.now f.now.second.table.now.machine f.now.second.table.now.list.now) }
+{
+    let first = f.first.table;
+    let mut k = 0;
+    let mut lo = 0;
+    for p in 0..first.machine.states {
+        let hi = lower(first, lo, p * 256 + 256);
+        k = write_row(f, p, &(lo..hi), list, k);
+        lo = hi;
+    }
 }
 
 // Writes the transitions of the product at the front of the list.
-pub fn write_product(
-    first: Machine,
-    first_list: &[u16],
-    second: Machine,
-    second_list: &[u16],
-    list: &mut [u16],
-)
-    requires second_list_value { join_fault first first_list.now second second_list.now ≡ 0 }
-    requires second_list_in_bounds { length (joined_transitions first first_list.now second second_list.now) ≤ length list.old }
-    ensures { list.new ≡ put 0 list.old (joined_transitions first first_list.now second second_list.now) }
+pub fn write_product<'t>(first: &'t Table<'t>, second: &'t Table<'t>, list: &mut [u16])
+    requires second_list_value { join_fault first.now.machine first.now.list.now second.now.machine second.now.list.now ≡ 0 }
+    requires second_list_in_bounds { length (joined_transitions first.now.machine first.now.list.now second.now.machine second.now.list.now)
+        ≤ length list.old }
+    ensures { list.new ≡ put 0 list.old (joined_transitions first.now.machine first.now.list.now second.now.machine second.now.list.now) }
 {
-    let mut first_starts = letters::no_starts();
-    letters::note_starts(first_list, first.transitions, &mut first_starts);
-    let first_keys = letters::key_set(first_list, first.transitions);
-    let mut second_starts = letters::no_starts();
-    letters::note_starts(second_list, second.transitions, &mut second_starts);
-    let second_keys = letters::key_set(second_list, second.transitions);
-    let states = first.states;
-    let mut k: usize = 0;
-    let mut lo: usize = 0;
-    let mut p: usize = 0;
-    while p < states {
-        let hi = lower(first_list, first.transitions, lo, p * 256 + 256);
-        let next = write_row(
-            first,
-            first_list,
-            &first_starts,
-            &first_keys,
-            second,
-            second_list,
-            &second_starts,
-            &second_keys,
-            p,
-            Span { lo, hi },
-            list,
-            k,
-        );
-        k = next;
-        lo = hi;
-        p += 1;
-    }
+    let mut first_starts = [0; KEYS];
+    letters::note_starts(first, &mut first_starts);
+    let first_keys = letters::key_set(first);
+    let mut second_starts = [0; KEYS];
+    letters::note_starts(second, &mut second_starts);
+    let second_keys = letters::key_set(second);
+    let one = Indexed {
+        table: first,
+        starts: &first_starts,
+        keys: &first_keys,
+    };
+    let two = Indexed {
+        table: second,
+        starts: &second_starts,
+        keys: &second_keys,
+    };
+    let f = Factors {
+        first: one,
+        second: two,
+    };
+    write_rows(&f, list);
 }

@@ -8,22 +8,21 @@
 -- reached_set m list w p t   == the set of the states that runs on w reach at position p in mode t
 -- position_sets m list w p   == the sets of one position: normal, storing, matching
 -- reached_sets m list w      == the sets of all positions
--- reach_refusal m list w len == the refusal, or 0: 16, 9, 8, 36
+-- reach_refusal m list w len == the refusal, if there is one: 16, 9, 8, 36
 -- reach_answer, reach_after   == what reach answers, and what the slice for the sets holds afterwards
--- reaching_values r, reach_values == the number and values for each case of the answer, and those that the rules give
-use Rattle.std.specs.Prelude.{ℕ, ◌+◌, ◌*◌, List, [], ◌∷◌, cond, length, leb, eqb}
+-- reach_values     == the number and values that the rules give
+use Rattle.std.specs.Prelude.{ℕ, ◌+◌, ◌*◌, List, [], ◌∷◌, cond, length, leb, eqb, Option, None, Some, Result, Ok, Err}
 use Rattle.basics.specs.Each.{each_below}
 use Rattle.basics.specs.Lists.{put}
 use Rattle.stateset.specs.Set.{collected}
 use Rattle.fsbm.specs.Moves.{mode_number}
-use Rattle.fsbm.specs.Answers.{longest_recognized, table_and_word, refusal}
+use Rattle.fsbm.specs.Answers.{longest_recognized, table_and_word, number_of, needed_of, refusal, by_refusal, CountValues, count_values}
 use Rattle.fsbm.specs.Reaches.{reaches}
 use Rattle.fsbm.specs.declared.machine.Machine.{Machine}
 use Rattle.fsbm.specs.declared.config.Mode.{Mode}
 use Rattle.fsbm.specs.declared.config.Mode.TheVariants.{Normal, Buffering, Emptying}
 use Rattle.fsbm.specs.declared.answer.Refusal.{Refusal}
-use Rattle.reach.specs.declared.answer.Reaching.{Reaching}
-use Rattle.reach.specs.declared.answer.Reaching.TheVariants.{Refused, Sets}
+use Rattle.fsbm.specs.declared.answer.Refusal.TheVariants.{ShortSets}
 pub mod Laws
 
 abbrev pub modes : ℕ
@@ -51,32 +50,20 @@ unfoldable pub reached_sets : Machine → List ℕ → List ℕ → List ℕ
 reached_sets m list w = each_below (length w + 1) (position_sets m list w)
 
 -- 16 the table breaks the rules, 9 the word is too long, 8 it has a letter that is not there, 36 the slice is too short, with the length needed
-unfoldable pub reach_refusal : Machine → List ℕ → List ℕ → ℕ → Refusal
+unfoldable pub reach_refusal : Machine → List ℕ → List ℕ → ℕ → Option Refusal
 reach_refusal m list w len =
     cond (eqb (table_and_word longest_recognized m list w) 0)
-    (cond (leb (sets_needed w) len) (refusal 0) (record { number = 36; needed = sets_needed w }))
-    (refusal (table_and_word longest_recognized m list w))
+    (cond (leb (sets_needed w) len) None (Some (ShortSets (sets_needed w))))
+    (Some (refusal (table_and_word longest_recognized m list w)))
 
-unfoldable pub reach_answer : Machine → List ℕ → List ℕ → ℕ → Reaching
-reach_answer m list w len = cond (eqb (reach_refusal m list w len).number 0) (Sets (sets_needed w)) (Refused (reach_refusal m list w len))
+unfoldable pub reach_answer : Machine → List ℕ → List ℕ → ℕ → Result ℕ Refusal
+reach_answer m list w len = by_refusal (reach_refusal m list w len) (Ok (sets_needed w)) (λ f. Err f)
 
 unfoldable pub reach_after : Machine → List ℕ → List ℕ → List ℕ → List ℕ
-reach_after m list w sets = cond (eqb (reach_refusal m list w (length sets)).number 0) (put 0 sets (reached_sets m list w)) sets
+reach_after m list w sets = by_refusal (reach_refusal m list w (length sets)) (put 0 sets (reached_sets m list w)) (λ f. sets)
 
--- the refusal's number or 0, the length needed or 0, and how many numbers are written
-pub record ReachValues : Type 0 where
-  pub refusal : ℕ
-  pub needed : ℕ
-  pub sets : ℕ
-
-abbrev pub reaching_values : Reaching → ReachValues
-reaching_values (Refused f) = record { refusal = f.number; needed = f.needed; sets = 0 }
-reaching_values (Sets n) = record { refusal = 0; needed = 0; sets = n }
-
-unfoldable pub reach_values : Machine → List ℕ → List ℕ → ℕ → ReachValues
+unfoldable pub reach_values : Machine → List ℕ → List ℕ → ℕ → CountValues
 reach_values m list w len =
-    record {
-      refusal = (reach_refusal m list w len).number;
-      needed = (reach_refusal m list w len).needed;
-      sets = cond (eqb (reach_refusal m list w len).number 0) (sets_needed w) 0;
-    }
+    cond (eqb (table_and_word longest_recognized m list w) 0)
+    (cond (leb (sets_needed w) len) (record { refusal = 0; needed = 0; count = sets_needed w }) (record { refusal = 36; needed = sets_needed w; count = 0 }))
+    (record { refusal = table_and_word longest_recognized m list w; needed = 0; count = 0 })

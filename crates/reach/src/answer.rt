@@ -1,4 +1,5 @@
 // The public call reach.
+ghost use Rattle.fsbm.specs.Answers.{count_values};
 ghost use Rattle.std.specs.Prelude.{◌+◌, ◌≤◌, ◌≡◌, [], ◌∷◌, length, get_or};
 ghost use Rattle.basics.specs.Each.{each_below};
 ghost use Rattle.basics.specs.Lists.{put};
@@ -6,7 +7,7 @@ ghost use Rattle.fsbm.specs.Answers.{longest_recognized, table_and_word};
 ghost use Rattle.images.specs.Graph.{graph, KindsOf};
 ghost use Rattle.subsets.specs.Rows.{Kept};
 ghost use Rattle.targets.specs.Prepared.{Prepared};
-ghost use Rattle.reach.specs.Reaching.{sets_before, sets_needed, reached_sets, reach_answer, reach_after, reaching_values, reach_values};
+ghost use Rattle.reach.specs.Reaching.{sets_before, sets_needed, reached_sets, reach_answer, reach_after, reach_values};
 
 use crate::copies;
 use decide::positions;
@@ -15,26 +16,17 @@ use fsbm::answer;
 use fsbm::answer::Refusal;
 use fsbm::limits::{LONGEST_WORD, POSITIONS};
 use fsbm::machine::Machine;
-use images::Kinds;
+use fsbm::table::Table;
+use images::{Kinds, Targets};
 use stateset::StateSet;
-use subsets::{ROWS, STEPS};
+use subsets::{Memo, ROWS, STEPS};
 use targets::MOST_SETS;
-
-// The refusal of a slice for sets that is too short.
-const SETS: u8 = 36;
 
 // The modes of a configuration: normal, storing, matching.
 const MODES: usize = 3;
 
 // The numbers that a set of states takes in a slice.
 const SET_SIZE: usize = 1;
-
-// The answer of reach: turned down, or how many numbers of the slice hold the sets.
-#[derive(Clone, Copy)]
-pub enum Reaching {
-    Refused(Refusal),
-    Sets(usize),
-}
 
 // How many numbers the sets of the first p positions take.
 fn sets_before(p: usize) -> usize
@@ -55,13 +47,12 @@ fn put_sets(
     requires { (n ≤ 255) × (sets_before (n + 1) ≤ length sets.old) × (length normal.now ≡ 256) × (length storing.now ≡ 256) × (length matching.now ≡ 256) }
     ensures { sets.new ≡ put 0 sets.old (each_below (n + 1) (λ p. get_or normal.now p 0 ∷ get_or storing.now p 0 ∷ get_or matching.now p 0 ∷ [])) }
 {
-    let mut p: usize = 0;
-    while p <= n {
+    let positions = n + 1;
+    for p in 0..positions {
         let at = sets_before(p);
         sets[at] = normal[p];
         sets[at + 1] = storing[p];
         sets[at + 2] = matching[p];
-        p += 1;
     }
 }
 
@@ -80,16 +71,19 @@ fn reach_with(
         × Kept (graph targets.now m.states kinds.buffering kinds.matching) (m.letters + 2) rows.old steps.old }
     ensures { sets.new ≡ put 0 sets.old (reached_sets m list.now word.now) }
 {
-    let t = positions::shape_of(m, kinds);
+    let t = Targets::new(targets, m.states, kinds.buffering, kinds.matching);
+    let mut memo = Memo {
+        columns: subsets::columns_for(m.letters),
+        rows,
+        steps,
+    };
     let mut normal: Reached = positions::start_at(kinds.initial);
-    positions::reach_all(targets, t, rows, steps, word, &mut normal.sets);
+    positions::reach_all(&t, &mut memo, word, &mut normal.sets);
     let mut storing: [StateSet; POSITIONS] = [0; POSITIONS];
     let mut matching: [StateSet; POSITIONS] = [0; POSITIONS];
     copies::copies(
-        targets,
-        t,
-        rows,
-        steps,
+        &t,
+        &mut memo,
         word,
         &normal.sets,
         &mut storing,
@@ -123,7 +117,8 @@ fn reach_all(m: Machine, list: &[u16], word: &[u8], sets: &mut [StateSet])
 {
     let mut targets: [StateSet; MOST_SETS] = [0; MOST_SETS];
     let kinds = images::kinds_of(&m.marks, m.states);
-    targets::prepare_for(m, list, word, &mut targets);
+    let t = Table { machine: m, list };
+    targets::prepare_for(&t, word, &mut targets);
     reach_prepared(m, list, &targets, kinds, word, sets);
 }
 
@@ -136,22 +131,16 @@ fn reach_all(m: Machine, list: &[u16], word: &[u8], sets: &mut [StateSet])
 // Time: the transitions once, the sets reached in normal mode (decide::positions), and then for each start and each end of what a copy
 // stores one step of a set and one for each letter that stands again behind that end. Memory: on the stack, no heap; see
 // docs/PERFORMANCE.md.
-pub fn reach(m: Machine, list: &[u16], word: &[u8], sets: &mut [StateSet]) -> Reaching
+pub fn reach(m: Machine, list: &[u16], word: &[u8], sets: &mut [StateSet]) -> Result<usize, Refusal>
     ensures { (result ≡ reach_answer m list.now word.now (length sets.old))
-        × (reaching_values result ≡ reach_values m list.now word.now (length sets.old))
+        × (count_values result ≡ reach_values m list.now word.now (length sets.old))
         × (sets.new ≡ reach_after m list.now word.now sets.old) }
 {
-    let number = answer::table_and_word(LONGEST_WORD, m, list, word);
-    if number != 0 {
-        return Reaching::Refused(Refusal { number, needed: 0 });
-    }
+    answer::table_and_word(LONGEST_WORD, m, list, word)?;
     let needed = sets_before(word.len() + 1);
     if sets.len() < needed {
-        return Reaching::Refused(Refusal {
-            number: SETS,
-            needed,
-        });
+        return Err(Refusal::ShortSets(needed));
     }
     reach_all(m, list, word, sets);
-    Reaching::Sets(needed)
+    Ok(needed)
 }

@@ -1,27 +1,28 @@
 // The walk that writes a run: at each configuration the smallest entry whose next configuration has one move less to go.
-ghost use Rattle.std.specs.Prelude.{ℕ, ◌+◌, ◌-◌, ◌*◌, ◌≤◌, ◌<◌, ◌≡◌, true, false, List, [], length, get_or};
-ghost use Rattle.fsbm.specs.Machine.{well_formed, initial};
+ghost use Rattle.std.specs.Prelude.{ℕ, ◌+◌, ◌-◌, ◌*◌, ◌/◌, ◌≤◌, ◌<◌, ◌≡◌, true, List, length, get_or, []};
+ghost use Rattle.fsbm.specs.Machine.{initial};
 ghost use Rattle.fsbm.specs.Moves.{well_placed, start_at, accepting};
 ghost use Rattle.fsbm.specs.Accepted.{accepted, run_bound};
-ghost use Rattle.language.specs.Agreement.{published};
-ghost use Rattle.layers.specs.Costs.{none, Best};
-ghost use Rattle.adjacency.specs.Index.{Index};
+ghost use Rattle.layers.specs.Costs.{none};
 ghost use Rattle.targets.specs.Prepared.{Prepared};
 ghost use Rattle.images.specs.Graph.{KindsOf};
 ghost use Rattle.decide.specs.NormalSets.{NormalSets};
-ghost use Rattle.tables.specs.Tables.{near_of, Known, Sized, Sizes, PositionRows};
-ghost use Rattle.runs.specs.Walk.{Ready, change_entry, Tried, Scanned, Entered, Fresh, Refreshed, Started, Written};
+ghost use Rattle.tables.specs.Tables.{Sized, Sizes, PositionRows};
+ghost use Rattle.tables.specs.Words.{for_word};
+ghost use Rattle.runs.specs.Walk.{BestFrom, Ready, change_entry, Tried, Scanned, Entered, Fresh, Refreshed, Started, Written};
 
-use adjacency::FIRSTS;
+use crate::lookup::{Copies, Lookup};
 use decide::positions::Reached;
 use fsbm::config::{BACK_TO_NORMAL, BEGIN_BUFFERING, BEGIN_EMPTYING, Config, Mode};
-use fsbm::limits::{MAX_STATES, POSITIONS};
+use fsbm::limits::MAX_STATES;
 use fsbm::machine;
-use fsbm::machine::Machine;
+use fsbm::table::Table;
 use images::Kinds;
+use layers::moves::Moves;
 use layers::row::{NONE, Row};
 use stateset::StateSet;
-use tables::{copy, table};
+use tables::ends::{Ends, Left};
+use tables::word::Word;
 
 // The number of state q in row i of a table.
 fn number(t: &[Row], i: usize, q: usize) -> u32
@@ -29,109 +30,6 @@ fn number(t: &[Row], i: usize, q: usize) -> u32
     ensures { result ≡ get_or (get_or t.now i []) q 0 }
 {
     t[i][q]
-}
-
-// The fewest moves from a configuration to acceptance, NONE where there is no way.
-fn cost(
-    m: Machine,
-    list: &[u16],
-    sets: &[StateSet; POSITIONS],
-    word: &[u8],
-    c: Config,
-    t: &[Row],
-    emptied: &[Row],
-    stored: &[Row],
-) -> u32
-    requires { (m.states ≤ 64) × (well_placed m.states (length word.now) c ≡ true) × Ready m list.now sets.now word.now t.now emptied.now stored.now c }
-    ensures { Best m list.now (near_of m word.now sets.now) (published word.now c) result }
-{
-    let p = c.position;
-    let q = c.state;
-    let start = c.start;
-    let end = c.end;
-    let mode = c.mode;
-    match mode {
-        Mode::Normal => number(t, p * 3, q),
-        Mode::Buffering => {
-            let d = p - start;
-            if d == 0 {
-                return number(t, p * 3 + 1, q);
-            }
-            if word.len() < p + d {
-                return NONE;
-            }
-            number(stored, d, q)
-        }
-        Mode::Emptying => number(emptied, end - start, q),
-    }
-}
-
-// Whether transition k leads to a configuration with d moves to go.
-fn leads(
-    m: Machine,
-    list: &[u16],
-    sets: &[StateSet; POSITIONS],
-    word: &[u8],
-    c: Config,
-    t: &[Row],
-    emptied: &[Row],
-    stored: &[Row],
-    d: u32,
-    k: usize,
-) -> bool
-    requires { (well_formed m list.now ≡ true) × (well_placed m.states (length word.now) c ≡ true) × Ready m list.now sets.now word.now t.now emptied.now stored.now c
-        × (k < m.transitions) }
-    ensures { Tried m list.now sets.now word.now c d k result }
-{
-    let s = machine::transition_at(list, k);
-    let q = c.state;
-    if s.from as usize != q {
-        return false;
-    }
-    let v = c.moved(m.states, m.transitions, &m.marks, list, word, k as u16);
-    if !v.allowed {
-        return false;
-    }
-    let next = v.config;
-    let g = cost(m, list, sets, word, next, t, emptied, stored);
-    g == d
-}
-
-// The same number as an index.
-fn wide(x: u16) -> usize
-    ensures { result ≡ x }
-{
-    x as usize
-}
-
-// The first transition that leads to a configuration with d moves to go; the number of transitions where none does. Only those that
-// leave the configuration's state are tried.
-fn scan(
-    m: Machine,
-    list: &[u16],
-    first: &[u16; FIRSTS],
-    sets: &[StateSet; POSITIONS],
-    word: &[u8],
-    c: Config,
-    t: &[Row],
-    emptied: &[Row],
-    stored: &[Row],
-    d: u32,
-) -> usize
-    requires { (well_formed m list.now ≡ true) × (well_placed m.states (length word.now) c ≡ true) × Ready m list.now sets.now word.now t.now emptied.now stored.now c
-        × Index m list.now first.now }
-    ensures { Scanned m list.now sets.now word.now c d result }
-{
-    let q = c.state;
-    let end = wide(first[q + 1]);
-    let mut k = wide(first[q]);
-    while k < end {
-        if leads(m, list, sets, word, c, t, emptied, stored, d, k) {
-            return k;
-        }
-        k += 1;
-    }
-    m.transitions
 }
 
 // The entry that changes a mode.
@@ -145,349 +43,207 @@ fn change_entry(mode: Mode) -> u16
     }
 }
 
-// The smallest entry that leads to a configuration with d moves to go, from one with d + 1.
-fn entry(
-    m: Machine,
-    list: &[u16],
-    first: &[u16; FIRSTS],
-    sets: &[StateSet; POSITIONS],
-    word: &[u8],
-    c: Config,
-    t: &[Row],
-    emptied: &[Row],
-    stored: &[Row],
-    d: u32,
-) -> u16
-    requires { (well_formed m list.now ≡ true) × (well_placed m.states (length word.now) c ≡ true) × Ready m list.now sets.now word.now t.now emptied.now stored.now c
-        × Best m list.now (near_of m word.now sets.now) (published word.now c) (d + 1) × (d + 1 < none) × Index m list.now first.now }
-    ensures { Entered m list.now sets.now word.now c d result }
-{
-    let k = scan(m, list, first, sets, word, c, t, emptied, stored, d);
-    if k < m.transitions {
-        return k as u16;
-    }
-    let mode = c.mode;
-    change_entry(mode)
-}
-
-// Makes the tables ready for a configuration that entry e led to.
-fn refresh(
-    m: Machine,
-    list: &[u16],
-    targets: &[StateSet],
-    g: StateSet,
-    h: StateSet,
-    sets: &[StateSet; POSITIONS],
-    word: &[u8],
-    c: Config,
-    e: u16,
-    t: &[Row],
-    emptied: &mut [Row],
-    stored: &mut [Row],
-)
-    requires { Known m list.now targets.now g h word.now × Fresh m list.now sets.now word.now t.now emptied.old stored.old c e }
-    ensures { Refreshed m list.now sets.now word.now t.now emptied.old emptied.new stored.old stored.new c }
-{
-    if e < BEGIN_BUFFERING {
-        return;
-    }
-    let p = c.position;
-    let start = c.start;
-    let end = c.end;
-    if e == BEGIN_BUFFERING {
-        if start < word.len() {
-            copy::buffering_rows(m, list, targets, g, h, sets, word, t, start, stored);
+impl Lookup<'_, '_> {
+    // The fewest moves from a configuration to acceptance, NONE where there is no way.
+    fn cost(&self, c: Config, copies: &Copies) -> u32
+        requires { (well_placed self.now.word.moves.table.machine.states (length self.now.word.letters.now) c ≡ true) × for_word Ready self.now.word self.now.positions.now copies.now.emptied.now copies.now.stored.now c }
+        ensures { for_word BestFrom self.now.word c result }
+    {
+        let mode = c.mode;
+        match mode {
+            Mode::Normal => number(self.positions, c.position * 3, c.state),
+            Mode::Buffering => {
+                let d = c.position - c.start;
+                if d == 0 {
+                    return number(self.positions, c.position * 3 + 1, c.state);
+                }
+                if self.word.letters.len() < c.position + d {
+                    return NONE;
+                }
+                number(copies.stored, d, c.state)
+            }
+            Mode::Emptying => number(copies.emptied, c.end - c.start, c.state),
         }
-        return;
     }
-    if e == BEGIN_EMPTYING {
-        let d = end - start;
-        let last = copy::load(t, (p + d) * 3 + 2);
-        copy::emptying_rows(m, list, targets, g, h, sets, word, last, p + d, d, emptied);
-    }
-}
 
-// Writes a run that starts in state q and has this many moves.
-fn walk(
-    m: Machine,
-    list: &[u16],
-    targets: &[StateSet],
-    g: StateSet,
-    h: StateSet,
-    sets: &[StateSet; POSITIONS],
-    first: &[u16; FIRSTS],
-    word: &[u8],
-    q: usize,
-    moves: u32,
-    t: &[Row],
-    emptied: &mut [Row],
-    stored: &mut [Row],
-    run: &mut [u16],
-) -> usize
-    requires { (well_formed m list.now ≡ true) × (q < m.states) × (initial m.marks q ≡ true) × Sized word.now t.now emptied.old stored.old
-        × ((p : ℕ) → p ≤ length word.now → PositionRows m list.now sets.now word.now t.now p) × Best m list.now (near_of m word.now sets.now) (published word.now (start_at q)) moves × (moves < none) × (1 + moves ≤ length run.old)
-        × ((other : List ℕ) → accepting m list.now word.now other ≡ true → 1 + moves ≤ length other) × Known m list.now targets.now g h word.now × Index m list.now first.now }
-    ensures { Written m list.now word.now result run.old run.new }
-{
-    run[0] = q as u16;
-    let mut c = Config::start_at(q);
-    let mut d = moves;
-    let mut k: usize = 1;
-    while 0 < d {
-        d -= 1;
-        let e = entry(m, list, first, sets, word, c, t, &*emptied, &*stored, d);
-        let v = c.moved(m.states, m.transitions, &m.marks, list, word, e);
-        let next = v.config;
-        refresh(
-            m, list, targets, g, h, sets, word, next, e, t, emptied, stored,
+    // Whether transition k leads to a configuration with d moves to go.
+    fn leads(&self, c: Config, copies: &Copies, d: u32, k: usize) -> bool
+        requires { (well_placed self.now.word.moves.table.machine.states (length self.now.word.letters.now) c ≡ true) × for_word Ready self.now.word self.now.positions.now copies.now.emptied.now copies.now.stored.now c × (k < self.now.word.moves.table.machine.transitions) }
+        ensures { for_word Tried self.now.word c d k result }
+    {
+        let table = &self.word.moves.table;
+        if usize::from(table.transition(k).from) != c.state {
+            return false;
+        }
+        let m = &table.machine;
+        let v = c.moved(
+            m.states,
+            m.transitions,
+            &m.marks,
+            table.list,
+            self.word.letters,
+            k as u16,
         );
-        c = next;
-        run[k] = e;
-        k += 1;
+        v.allowed && self.cost(v.config, copies) == d
     }
-    k
+
+    // The first transition that leads to a configuration with d moves to go; None where none does. Only those that
+    // leave the configuration's state are tried.
+    fn scan(&self, c: Config, copies: &Copies, d: u32) -> Option<usize>
+        requires { (well_placed self.now.word.moves.table.machine.states (length self.now.word.letters.now) c ≡ true) × for_word Ready self.now.word self.now.positions.now copies.now.emptied.now copies.now.stored.now c }
+        ensures { for_word Scanned self.now.word c d result }
+    {
+        let first = &self.index.first;
+        for k in usize::from(first[c.state])..usize::from(first[c.state + 1]) {
+            if self.leads(c, copies, d, k) {
+                return Some(k);
+            }
+        }
+        None
+    }
+
+    // The smallest entry that leads to a configuration with d moves to go, from one with d + 1.
+    fn entry(&self, c: Config, copies: &Copies, d: u32) -> u16
+        requires { (well_placed self.now.word.moves.table.machine.states (length self.now.word.letters.now) c ≡ true) × for_word Ready self.now.word self.now.positions.now copies.now.emptied.now copies.now.stored.now c
+            × for_word BestFrom self.now.word c (d + 1) × (d + 1 < none) }
+        ensures { for_word Entered self.now.word c d result }
+    {
+        match self.scan(c, copies, d) {
+            Some(k) => k as u16,
+            None => change_entry(c.mode),
+        }
+    }
+
+    // Makes the tables ready for a configuration that entry e led to.
+    fn refresh(&self, c: Config, e: u16, copies: &mut Copies)
+        requires { for_word Fresh self.now.word self.now.positions.now copies.old.emptied.now copies.old.stored.now c e }
+        ensures { for_word Refreshed self.now.word self.now.positions.now copies.old.emptied.now copies.new.emptied.now copies.old.stored.now copies.new.stored.now c }
+    {
+        match e {
+            BEGIN_BUFFERING => {
+                if c.start < self.word.letters.len() {
+                    self.word
+                        .buffering_rows(self.positions, c.start, copies.stored);
+                }
+            }
+            BEGIN_EMPTYING => {
+                let d = c.end - c.start;
+                let end = c.position + d;
+                self.word
+                    .emptying_rows(self.positions[end * 3 + 2], end, d, copies.emptied);
+            }
+            _ => {}
+        }
+    }
+
+    // Writes a run that starts in state q and has this many moves.
+    fn walk(&self, q: usize, moves: u32, copies: &mut Copies, run: &mut [u16]) -> usize
+        requires { (q < self.now.word.moves.table.machine.states) × (initial self.now.word.moves.table.machine.marks q ≡ true) × Sized self.now.word.letters.now self.now.positions.now copies.old.emptied.now copies.old.stored.now
+            × ((p : ℕ) → p ≤ length self.now.word.letters.now → for_word PositionRows self.now.word self.now.positions.now p) × for_word BestFrom self.now.word (start_at q) moves × (moves < none) × (1 + moves ≤ length run.old)
+            × ((other : List ℕ) → accepting self.now.word.moves.table.machine self.now.word.moves.table.list.now self.now.word.letters.now other ≡ true → 1 + moves ≤ length other) }
+        ensures { Written self.now.word.moves.table.machine self.now.word.moves.table.list.now self.now.word.letters.now result run.old run.new }
+    {
+        let table = &self.word.moves.table;
+        let m = &table.machine;
+        run[0] = q as u16;
+        let mut c = Config::start_at(q);
+        for d in (0..moves).rev() {
+            let e = self.entry(c, copies, d);
+            let v = c.moved(
+                m.states,
+                m.transitions,
+                &m.marks,
+                table.list,
+                self.word.letters,
+                e,
+            );
+            c = v.config;
+            self.refresh(c, e, copies);
+            run[(moves - d) as usize] = e;
+        }
+        1 + moves as usize
+    }
 }
 
-// The better start of b (the number of states: none yet) and q.
-fn better(m: Machine, row: &Row, b: usize, q: usize) -> usize
-    requires { (m.states ≤ 64) × (q < m.states) × Started m row.now q b }
-    ensures { Started m row.now (q + 1) result }
+// The better start of b and q.
+fn better(t: &Table, row: &Row, b: Option<usize>, q: usize) -> Option<usize>
+    requires { (q < t.now.machine.states) × Started t.now.machine row.now q b }
+    ensures { Started t.now.machine row.now (q + 1) result }
 {
-    if !machine::is_initial(&m.marks, q) {
+    if !machine::is_initial(&t.machine.marks, q) {
         return b;
     }
-    if m.states <= b {
-        return q;
-    }
-    if row[q] < row[b] {
-        return q;
+    let Some(best) = b else {
+        return Some(q);
+    };
+    if row[q] < row[best] {
+        return Some(q);
     }
     b
 }
 
-// The first initial state with the least number of a row; the number of states where no state is initial.
-fn start(m: Machine, row: &Row) -> usize
-    requires { m.states ≤ 64 }
-    ensures { Started m row.now m.states result }
+// The first initial state with the least number of a row.
+fn start(t: &Table, row: &Row) -> Option<usize>
+    ensures { Started t.now.machine row.now t.now.machine.states result }
 {
-    let mut b = m.states;
-    let mut q: usize = 0;
-    while q < m.states {
-        b = better(m, row, b, q);
-        q += 1;
+    let mut b = None;
+    for q in 0..t.machine.states {
+        b = better(t, row, b, q);
     }
     b
 }
 
 // write_run with tables that are lent.
 fn write_with(
-    m: Machine,
-    list: &[u16],
-    targets: &[StateSet],
-    g: StateSet,
-    h: StateSet,
-    sets: &[StateSet; POSITIONS],
-    word: &[u8],
+    word: &Word,
     t: &mut [Row],
-    ends: &mut [Row],
-    left: &mut [u16],
-    emptied: &mut [Row],
-    stored: &mut [Row],
+    ends: &mut Ends,
+    copies: &mut Copies,
     run: &mut [u16],
 ) -> usize
-    requires { (well_formed m list.now ≡ true) × (length word.now ≤ 255) × (accepted m list.now word.now ≡ true) × (run_bound m (length word.now) ≤ length run.old)
-        × Known m list.now targets.now g h word.now × Sizes word.now t.old ends.old left.old × Sized word.now t.old emptied.old stored.old
-        × NormalSets m list.now word.now sets.now }
-    ensures { Written m list.now word.now result run.old run.new }
+    requires { (accepted word.now.moves.table.machine word.now.moves.table.list.now word.now.letters.now ≡ true) × (run_bound word.now.moves.table.machine (length word.now.letters.now) ≤ length run.old)
+        × Sizes word.now.letters.now t.old ends.old.rows.now ends.old.left.now × Sized word.now.letters.now t.old copies.old.emptied.now copies.old.stored.now
+        × NormalSets word.now.moves.table.machine word.now.moves.table.list.now word.now.letters.now word.now.sets.now }
+    ensures { Written word.now.moves.table.machine word.now.moves.table.list.now word.now.letters.now result run.old run.new }
 {
-    table::fill(m, list, targets, g, h, sets, word, t, ends, left);
-    let a = adjacency::index(m, list);
-    let row = copy::load(t, 0);
-    let q = start(m, &row);
-    let d = row[q];
-    walk(
-        m, list, targets, g, h, sets, &a.first, word, q, d, &*t, emptied, stored, run,
-    )
-}
-
-// The rows of the positions of a word of at most 15 letters, three each.
-fn few_positions() -> [Row; 48] {
-    [[NONE; MAX_STATES]; 48]
-}
-
-// And of the ends of its copies.
-fn few_ends() -> [Row; 16] {
-    [[NONE; MAX_STATES]; 16]
-}
-
-// And of the letters of a copy.
-fn few_rows() -> [Row; 8] {
-    [[NONE; MAX_STATES]; 8]
-}
-
-// Those of a word of at most 63 letters.
-fn some_positions() -> [Row; 192] {
-    [[NONE; MAX_STATES]; 192]
-}
-
-// And of the ends of its copies.
-fn some_ends() -> [Row; 64] {
-    [[NONE; MAX_STATES]; 64]
-}
-
-// And of the letters of a copy.
-fn some_rows() -> [Row; 32] {
-    [[NONE; MAX_STATES]; 32]
-}
-
-// Those of any word.
-fn all_positions() -> [Row; 768] {
-    [[NONE; MAX_STATES]; 768]
-}
-
-// And of the ends of its copies.
-fn all_ends() -> [Row; 256] {
-    [[NONE; MAX_STATES]; 256]
-}
-
-// And of the letters of a copy.
-fn all_rows() -> [Row; 128] {
-    [[NONE; MAX_STATES]; 128]
-}
-
-// write_run for a word of more than 63 letters.
-fn write_long(
-    m: Machine,
-    list: &[u16],
-    targets: &[StateSet],
-    g: StateSet,
-    h: StateSet,
-    sets: &[StateSet; POSITIONS],
-    word: &[u8],
-    run: &mut [u16],
-) -> usize
-    requires { (well_formed m list.now ≡ true) × (length word.now ≤ 255) × (accepted m list.now word.now ≡ true) × (run_bound m (length word.now) ≤ length run.old) × Known m list.now targets.now g h word.now
-        × NormalSets m list.now word.now sets.now }
-    ensures { Written m list.now word.now result run.old run.new }
-{
-    let mut t = all_positions();
-    let mut ends = all_ends();
-    let mut left: [u16; POSITIONS] = [0; POSITIONS];
-    let mut emptied = all_rows();
-    let mut stored = all_rows();
-    write_with(
-        m,
-        list,
-        targets,
-        g,
-        h,
-        sets,
+    word.fill(t, ends);
+    let word = *word;
+    let index = adjacency::index(&word.moves.table);
+    let q = start(&word.moves.table, &t[0]).unwrap();
+    let moves = t[0][q];
+    let lookup = Lookup {
         word,
-        &mut t,
-        &mut ends,
-        &mut left,
-        &mut emptied,
-        &mut stored,
-        run,
-    )
+        index,
+        positions: t,
+    };
+    lookup.walk(q, moves, copies, run)
 }
 
-// write_run for a word of at most 63 letters.
-fn write_medium(
-    m: Machine,
-    list: &[u16],
-    targets: &[StateSet],
-    g: StateSet,
-    h: StateSet,
-    sets: &[StateSet; POSITIONS],
-    word: &[u8],
+// write_run for a word of fewer letters than ENDS, in tables of this many rows: three for each position, one for each end of a copy, one
+// for each number of letters of a half. Each size has a frame of its own, so that a short word does not pay for a large one.
+#[inline(never)]
+fn write_within<const POSITIONS: usize, const ENDS: usize, const HALF: usize>(
+    word: &Word,
     run: &mut [u16],
 ) -> usize
-    requires { (well_formed m list.now ≡ true) × (length word.now ≤ 63) × (accepted m list.now word.now ≡ true) × (run_bound m (length word.now) ≤ length run.old) × Known m list.now targets.now g h word.now
-        × NormalSets m list.now word.now sets.now }
-    ensures { Written m list.now word.now result run.old run.new }
+    requires { (length word.now.letters.now < ENDS) × (ENDS * 3 ≤ POSITIONS) × (ENDS ≤ HALF + HALF) × (POSITIONS ≤ 768) × (HALF ≤ 128) × (accepted word.now.moves.table.machine word.now.moves.table.list.now word.now.letters.now ≡ true)
+        × (run_bound word.now.moves.table.machine (length word.now.letters.now) ≤ length run.old) × NormalSets word.now.moves.table.machine word.now.moves.table.list.now word.now.letters.now word.now.sets.now }
+    ensures { Written word.now.moves.table.machine word.now.moves.table.list.now word.now.letters.now result run.old run.new }
 {
-    let mut t = some_positions();
-    let mut ends = some_ends();
-    let mut left: [u16; 64] = [0; 64];
-    let mut emptied = some_rows();
-    let mut stored = some_rows();
-    write_with(
-        m,
-        list,
-        targets,
-        g,
-        h,
-        sets,
-        word,
-        &mut t,
-        &mut ends,
-        &mut left,
-        &mut emptied,
-        &mut stored,
-        run,
-    )
-}
-
-// write_run for a word of at most 15 letters.
-fn write_short(
-    m: Machine,
-    list: &[u16],
-    targets: &[StateSet],
-    g: StateSet,
-    h: StateSet,
-    sets: &[StateSet; POSITIONS],
-    word: &[u8],
-    run: &mut [u16],
-) -> usize
-    requires { (well_formed m list.now ≡ true) × (length word.now ≤ 15) × (accepted m list.now word.now ≡ true) × (run_bound m (length word.now) ≤ length run.old) × Known m list.now targets.now g h word.now
-        × NormalSets m list.now word.now sets.now }
-    ensures { Written m list.now word.now result run.old run.new }
-{
-    let mut t = few_positions();
-    let mut ends = few_ends();
-    let mut left: [u16; 16] = [0; 16];
-    let mut emptied = few_rows();
-    let mut stored = few_rows();
-    write_with(
-        m,
-        list,
-        targets,
-        g,
-        h,
-        sets,
-        word,
-        &mut t,
-        &mut ends,
-        &mut left,
-        &mut emptied,
-        &mut stored,
-        run,
-    )
-}
-
-// write_run with the sets that are given lent, in tables that are no larger than the word needs.
-fn write_sized(
-    m: Machine,
-    list: &[u16],
-    targets: &[StateSet],
-    g: StateSet,
-    h: StateSet,
-    sets: &[StateSet; POSITIONS],
-    word: &[u8],
-    run: &mut [u16],
-) -> usize
-    requires { (well_formed m list.now ≡ true) × (length word.now ≤ 255) × (accepted m list.now word.now ≡ true) × (run_bound m (length word.now) ≤ length run.old) × Known m list.now targets.now g h word.now
-        × NormalSets m list.now word.now sets.now }
-    ensures { Written m list.now word.now result run.old run.new }
-{
-    if word.len() < 16 {
-        return write_short(m, list, targets, g, h, sets, word, run);
-    }
-    if word.len() < 64 {
-        return write_medium(m, list, targets, g, h, sets, word, run);
-    }
-    write_long(m, list, targets, g, h, sets, word, run)
+    let mut t = [[NONE; MAX_STATES]; POSITIONS];
+    let mut rows = [[NONE; MAX_STATES]; ENDS];
+    let mut left = [Left::Kept(0); ENDS];
+    let mut ends = Ends {
+        rows: &mut rows,
+        left: &mut left,
+    };
+    let mut emptied = [[NONE; MAX_STATES]; HALF];
+    let mut stored = [[NONE; MAX_STATES]; HALF];
+    let mut copies = Copies {
+        emptied: &mut emptied,
+        stored: &mut stored,
+    };
+    write_with(word, &mut t, &mut ends, &mut copies, run)
 }
 
 // Writes an accepting run of a word that the machine accepts to the front of the slice, and hands back the number of its entries.
@@ -495,28 +251,36 @@ fn write_sized(
 // targets is the table of target sets prepared for the word, kinds the states by their marks, reached the states that runs reach.
 // Time: for each position that runs reach its states, and for each stretch that stands twice in a row from where a copy may begin to
 // where one may end, the states; for each state its targets, where none of them has the least number of all. Memory: by the sizes of
-// its tables 328 KB of stack for a word of more than 63 letters, 82 KB for one of more than 15, else 21 KB.
-pub fn write_run(
-    m: Machine,
-    list: &[u16],
-    targets: &[StateSet],
+// its tables 328 KB of stack for a word of more than 63 letters, 82 KB for one of more than 15, else 21 KB; in a frame of its own, so that a
+// word that is not accepted does not pay for it.
+#[inline(never)]
+pub fn write_run<'a>(
+    table: &Table<'a>,
+    targets: &'a [StateSet],
     kinds: Kinds,
-    word: &[u8],
-    reached: Reached,
+    word: &'a [u8],
+    reached: &'a Reached,
     run: &mut [u16],
 ) -> usize
-    requires { (well_formed m list.now ≡ true) × (length word.now ≤ 255) × (accepted m list.now word.now ≡ true) × (run_bound m (length word.now) ≤ length run.old)
-        × KindsOf m.marks m.states kinds × Prepared m list.now word.now targets.now × NormalSets m list.now word.now reached.sets }
-    ensures { Written m list.now word.now result run.old run.new }
+    requires { (length word.now ≤ 255) × (accepted table.now.machine table.now.list.now word.now ≡ true) × (run_bound table.now.machine (length word.now) ≤ length run.old)
+        × KindsOf table.now.machine.marks table.now.machine.states kinds × Prepared table.now.machine table.now.list.now word.now targets.now × NormalSets table.now.machine table.now.list.now word.now reached.now.sets }
+    ensures { Written table.now.machine table.now.list.now word.now result run.old run.new }
 {
-    write_sized(
-        m,
-        list,
+    let table = *table;
+    let moves = Moves {
+        table,
         targets,
-        kinds.buffering,
-        kinds.matching,
-        &reached.sets,
-        word,
-        run,
-    )
+        buffering: kinds.buffering,
+        matching: kinds.matching,
+    };
+    let word = Word {
+        moves,
+        sets: &reached.sets,
+        letters: word,
+    };
+    match word.letters.len() {
+        0..=15 => write_within::<48, 16, 8>(&word, run),
+        16..=63 => write_within::<192, 64, 32>(&word, run),
+        _ => write_within::<768, 256, 128>(&word, run),
+    }
 }

@@ -4,48 +4,23 @@
 
 #![tactic(auto)]
 
-ghost use Rattle.std.specs.Prelude.{◌≡◌, length};
-ghost use Rattle.blocks.specs.Settling.{Blank};
 ghost use Rattle.common.specs.Common.{CommonWord};
 ghost use Rattle.found.specs.Joined.{Joined};
 
-use blocks::index;
-use blocks::sizes::{MOST_KEYS, MOST_PAIRS, MOST_STATES, NOTHING};
-use common::Common;
+use blocks::numbers::Pairs;
+use blocks::searched::Searched;
+use blocks::sizes::MOST_KEYS;
+use common::Lengths;
 use found::{answer, best};
+use fsbm::answer::Refusal;
 use fsbm::limits::LIST_LENGTH;
 use fsbm::machine::Machine;
+use fsbm::table::Table;
 use least::turns;
 
-// Room for the transitions of every product.
-fn no_transitions() -> [u16; LIST_LENGTH]
-    ensures { 12000 ≡ length result }
-{
-    [0; LIST_LENGTH]
-}
-
-// Room for the index of every product.
-fn no_index() -> [u16; MOST_KEYS]
-    ensures { 16065 ≡ length result }
-{
-    [0; MOST_KEYS]
-}
-
-// A block in which nothing stands.
-fn no_block() -> [u64; MOST_PAIRS]
-    ensures { Blank result }
-{
-    [NOTHING; MOST_PAIRS]
-}
-
-// Room for a number of each state.
-fn no_numbers() -> [u64; MOST_STATES]
-    ensures { 64 ≡ length result }
-{
-    [0; MOST_STATES]
-}
-
-// A shortest common word of two machines whose product is m, its transitions at the front of list.
+// A shortest common word of two machines whose product is m, its transitions at the front of list. It has a frame of its own, so that joining
+// does not stand on top of it.
+#[inline(never)]
 fn search(
     first: Machine,
     first_list: &[u16],
@@ -56,34 +31,28 @@ fn search(
     word: &mut [u8],
     first_run: &mut [u16],
     second_run: &mut [u16],
-) -> Common
+) -> Result<Option<Lengths>, Refusal>
     requires { Joined first first_list.now second second_list.now m list.now }
     ensures { CommonWord first first_list.now second second_list.now word.old word.new first_run.old first_run.new second_run.old second_run.new result }
 {
     let kinds = images::kinds_of(&m.marks, m.states);
-    if emptiness::is_barren(m, list, kinds) {
-        return Common::NoCommonWord;
+    let table = Table { machine: m, list };
+    if emptiness::is_barren(&table, kinds) {
+        return Ok(None);
     }
-    let mut starts = no_index();
-    index::index(m, list, &mut starts);
-    let mut b = no_block();
-    let mut d = no_numbers();
-    let mut hints = [0u8; MOST_STATES];
-    turns::costs(m, list, &starts, kinds, &mut b, &mut d, &mut hints);
-    let f = best::best(&m.marks, &d);
+    let mut room = [0; MOST_KEYS];
+    let searched = Searched::new(&table, kinds, &mut room);
+    let mut pairs = Pairs::blank();
+    let weights = turns::costs(&searched, &mut pairs);
+    let f = best::best(&searched.table.machine.marks, &weights);
     answer::answer(
         first,
         first_list,
         second,
         second_list,
-        m,
-        list,
-        &starts,
-        kinds.buffering,
-        kinds.matching,
-        &d,
-        &hints,
-        &mut b,
+        &searched,
+        &weights,
+        &mut pairs,
         f,
         word,
         first_run,
@@ -108,16 +77,11 @@ pub fn common_word(
     word: &mut [u8],
     first_run: &mut [u16],
     second_run: &mut [u16],
-) -> Common
+) -> Result<Option<Lengths>, Refusal>
     ensures { CommonWord first first_list.now second second_list.now word.old word.new first_run.old first_run.new second_run.old second_run.new result }
 {
-    let mut list = no_transitions();
-    let p = product::join(first, first_list, second, second_list, &mut list);
-    let refusal = p.refusal;
-    if refusal.number != 0 {
-        return Common::Refused(refusal);
-    }
-    let m = p.machine;
+    let mut list = [0; LIST_LENGTH];
+    let m = product::join(first, first_list, second, second_list, &mut list)?;
     search(
         first,
         first_list,

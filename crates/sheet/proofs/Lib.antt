@@ -1,2 +1,1 @@
-pub mod FaultCases
 pub mod PartCases

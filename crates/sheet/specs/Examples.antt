@@ -8,10 +8,9 @@
 -- rows_hold               == the table holds
 -- t_written, t_read       == T's sheet is written, and read, as printed
 -- t_blank_read            == with each 0 left out it is read as T too
-use Rattle.std.specs.Prelude.{ℕ, ◌≡◌, refl, List, [], ◌∷◌, ◌++◌, Bool, true, replicate, eqb}
+use Rattle.std.specs.Prelude.{ℕ, ◌≡◌, refl, List, [], ◌∷◌, ◌++◌, Ok, Bool, true, replicate, eqb}
 use Rattle.columns.specs.Column.{next, pass_from, found, column_number, digit_or, padded, column_of}
 use Rattle.basics.specs.Search.{all_in}
-use Rattle.fsbm.specs.Answers.{refusal}
 use Rattle.fsbm.specs.declared.machine.Machine.{Machine}
 use Rattle.sheet.specs.Series.{or_else, first_of}
 use Rattle.basics.specs.Each.{each_below}
@@ -107,10 +106,10 @@ pub t_written : sheet_of t_machine t_list ≡ t_sheet
 unfolding t_machine t_list t_sheet t_lines sheet_of header_line state_line transition_line line_of each_below column_of padded digit_or
 t_written = refl
 
-pub t_read : read_answer t_sheet 18 ≡ record { refusal = refusal 0; machine = t_machine }
+pub t_read : read_answer t_sheet 18 ≡ Ok t_machine
 unfolding t_machine t_sheet t_lines read_answer read_refusal machine_of marks_of each_below first_fault rest_fault header_fault state_fault transition_fault line_fault column_fault counts_fault mark_fault order_fault transition_in column_at or_else first_of column_number found pass_from next
 t_read = refl
 
-pub t_blank_read : read_answer t_blank 18 ≡ record { refusal = refusal 0; machine = t_machine }
+pub t_blank_read : read_answer t_blank 18 ≡ Ok t_machine
 unfolding t_machine t_blank read_answer read_refusal machine_of marks_of each_below first_fault rest_fault header_fault state_fault transition_fault line_fault column_fault counts_fault mark_fault order_fault transition_in column_at or_else first_of column_number found pass_from next
 t_blank_read = refl

@@ -9,18 +9,21 @@
 -- first_fault s            == the first fault of the sheet, 1 to 7, or 0
 -- machine_of s             == the machine of a sheet without fault
 -- transitions_of s         == its transitions, three numbers each
+-- order_after states letters before t == the fault of a transition beside the one before it, if there is one: 5, 6, or 0
+-- read_refusal s len       == what read_sheet refuses of the sheet and a list of this length, if anything
 -- read_answer s len        == what read_sheet answers to a list of this length
 -- read_list s list         == what the list holds afterwards
-use Rattle.std.specs.Prelude.{ℕ, ◌+◌, ◌*◌, ◌-◌, ◌/◌, ◌%◌, List, [], ◌∷◌, ◌++◌, Bool, cond, not, ◌&&◌, ◌||◌, length, drop, get_or, replicate, leb, eqb}
+-- read_values s len        == the number and values of what it answers, by the rules
+use Rattle.std.specs.Prelude.{ℕ, ◌+◌, ◌*◌, ◌-◌, ◌/◌, ◌%◌, List, [], ◌∷◌, ◌++◌, Option, None, Some, Result, Ok, Err, Bool, true, false, cond, not, ◌&&◌, ◌||◌, length, drop, get_or, replicate, leb, eqb}
 use Rattle.columns.specs.Column.{no_number}
 use Rattle.columns.specs.Line.{number_at}
 use Rattle.fsbm.specs.Machine.{max_states, max_letters, max_transitions, named, precedes}
-use Rattle.fsbm.specs.Answers.{refusal, no_machine}
+use Rattle.fsbm.specs.Answers.{refusal, by_refusal, no_machine, MachineValues}
 use Rattle.fsbm.specs.declared.machine.Machine.{Machine}
 use Rattle.fsbm.specs.declared.machine.Transition.{Transition}
 use Rattle.fsbm.specs.declared.answer.Refusal.{Refusal}
+use Rattle.fsbm.specs.declared.answer.Refusal.TheVariants.{ShortList}
 use Rattle.sheet.specs.declared.faults.Line.{Line}
-use Rattle.sheet.specs.declared.answers.Sheet.{Sheet}
 use Rattle.sheet.specs.Format.{sheet_column, state_start, transition_start}
 use Rattle.sheet.specs.Series.{or_else, first_of}
 use Rattle.basics.specs.Each.{each_below}
@@ -71,6 +74,10 @@ unfoldable pub order_fault : ℕ → ℕ → Bool → Transition → Transition 
 order_fault states letters first before t =
     or_else (unless (named states letters t) 5) (unless (first || precedes before t) 6)
 
+abbrev pub order_after : ℕ → ℕ → Option Line → Line → ℕ
+order_after states letters None t = order_fault states letters true (as_transition t) (as_transition t)
+order_after states letters (Some before) t = order_fault states letters false (as_transition before) (as_transition t)
+
 unfoldable pub transition_fault : List ℕ → ℕ → ℕ → ℕ → ℕ
 transition_fault s states letters k =
     or_else (line_fault s 3 (transition_start states k))
@@ -101,16 +108,21 @@ unfoldable pub transitions_of : List ℕ → List ℕ
 transitions_of s = each_below (column_at s 10) (λ k. numbers_in s (transition_start (column_at s 0) k))
 
 -- 15 last: the list is too short for the sheet
-unfoldable pub read_refusal : List ℕ → ℕ → Refusal
+unfoldable pub read_refusal : List ℕ → ℕ → Option Refusal
 read_refusal s len =
     cond (eqb (first_fault s) 0)
-    (cond (leb (column_at s 10 * 3) len) (refusal 0) (record { number = 15; needed = column_at s 10 * 3 }))
-    (refusal (first_fault s))
+    (cond (leb (column_at s 10 * 3) len) None (Some (ShortList (column_at s 10 * 3))))
+    (Some (refusal (first_fault s)))
 
-unfoldable pub read_answer : List ℕ → ℕ → Sheet
-read_answer s len =
-    record { refusal = read_refusal s len; machine = cond (eqb (read_refusal s len).number 0) (machine_of s) no_machine }
+unfoldable pub read_answer : List ℕ → ℕ → Result Machine Refusal
+read_answer s len = by_refusal (read_refusal s len) (Ok (machine_of s)) (λ f. Err f)
 
 unfoldable pub read_list : List ℕ → List ℕ → List ℕ
-read_list s list =
-    cond (eqb (read_refusal s (length list)).number 0) (transitions_of s ++ drop (column_at s 10 * 3) list) list
+read_list s list = by_refusal (read_refusal s (length list)) (transitions_of s ++ drop (column_at s 10 * 3) list) (λ f. list)
+
+-- the number and values of the answer, by the rules
+unfoldable pub read_values : List ℕ → ℕ → MachineValues
+read_values s len =
+    cond (eqb (first_fault s) 0)
+    (cond (leb (column_at s 10 * 3) len) (record { refusal = 0; needed = 0; machine = machine_of s }) (record { refusal = 15; needed = column_at s 10 * 3; machine = no_machine }))
+    (record { refusal = first_fault s; needed = 0; machine = no_machine })

@@ -1,13 +1,13 @@
 // Table sheets: what the reader and the writer (crates sheet_reader and sheet_writer) are made of. specs/ has what a sheet is.
 //
-// answers  Sheet and Written, the answers of the two calls
-// parts    the three parts of a sheet, each read to its first fault or to its end
-// faults   the faults of the numbers of one line
+// header  the counts of line one
+// parts   the three parts of a sheet, each read to its first fault or to its end
+// faults  the faults of the numbers of one line
 
 #![tactic(auto)]
 
-pub mod answers;
 pub mod faults;
+pub mod header;
 pub mod parts;
 
 // The bytes of line one.

@@ -26,15 +26,15 @@ use Rattle.basics.specs.Search.Laws.{and_true, and_both_true}
 use Rattle.columns.specs.Column.{no_number}
 use Rattle.fsbm.specs.Machine.{mark_of, transition_at, good_mark, named, precedes, good_transition, well_formed}
 use Rattle.fsbm.specs.Rules.{Counts, Tested, tested}
-use Rattle.fsbm.specs.Answers.{refusal, no_machine}
+use Rattle.fsbm.specs.Answers.{refusal, by_refusal}
 use Rattle.fsbm.specs.declared.machine.Machine.{Machine}
 use Rattle.fsbm.specs.declared.machine.Transition.{Transition}
 use Rattle.fsbm.specs.declared.answer.Refusal.{Refusal}
 use Rattle.columns.specs.Line.{line_of}
 use Rattle.columns.specs.Line.Laws.{line_length}
 use Rattle.sheet.specs.Format.Laws.{header_wide, state_wide, transition_wide}
-use Rattle.sheet.specs.declared.answers.Sheet.{Sheet}
-use Rattle.sheet.specs.declared.answers.Written.TheVariants.{Refused, Bytes}
+use Rattle.std.specs.Prelude.{Option, None, Some, Result, Ok, Err}
+use Rattle.fsbm.specs.declared.answer.Refusal.TheVariants.{ShortList, BadTable, ShortSheet}
 use Rattle.basics.specs.Each.{each_below}
 use Rattle.basics.specs.Each.Laws.{each_length, each_same, each_drop, each_elem, each_parts}
 use Rattle.sheet.specs.Format.{state_start, transition_start, sheet_length, header_line, state_line, transition_line, sheet_of}
@@ -596,47 +596,47 @@ module _ (s : List ℕ) (none : first_fault s ≡ 0) where
   same_refusal : (len : ℕ) → read_refusal (filled s) len ≡ read_refusal s len
   unfolding read_refusal
   same_refusal len =
-      let of : ℕ → ℕ → Refusal = λ fault count. cond (eqb fault 0) (cond (leb (count * 3) len) (refusal 0) (record { number = 15; needed = count * 3 })) (refusal fault) in
+      let of : ℕ → ℕ → Option Refusal = λ fault count. cond (eqb fault 0) (cond (leb (count * 3) len) None (Some (ShortList (count * 3)))) (Some (refusal fault)) in
       ap (λ (fault : ℕ). of fault (column_at (filled s) 10)) ((good_iff_filled s).0 none ∙ sym none) ∙ ap (of (first_fault s)) same_count
 
   pub filled_answer : (len : ℕ) → read_answer (filled s) len ≡ read_answer s len
   unfolding read_answer
   filled_answer len =
-      let of : Refusal → Machine → Sheet = λ r m. record { refusal = r; machine = cond (eqb r.number 0) m no_machine } in
-      ap (λ (r : Refusal). of r (machine_of (filled s))) (same_refusal len) ∙ ap (of (read_refusal s len)) same_machine_lem
+      let of : Option Refusal → Machine → Result Machine Refusal = λ o m. by_refusal o (Ok m) (λ f. Err f) in
+      ap (λ (o : Option Refusal). of o (machine_of (filled s))) (same_refusal len) ∙ ap (of (read_refusal s len)) same_machine_lem
 
   pub filled_list : (entry : List ℕ) → read_list (filled s) entry ≡ read_list s entry
   unfolding read_list
   filled_list entry =
-      let of : Refusal → List ℕ → ℕ → List ℕ = λ r l count. cond (eqb r.number 0) (l ++ drop (count * 3) entry) entry in
-      ap (λ (r : Refusal). of r (transitions_of (filled s)) (column_at (filled s) 10)) (same_refusal (length entry))
+      let of : Option Refusal → List ℕ → ℕ → List ℕ = λ o l count. by_refusal o (l ++ drop (count * 3) entry) (λ f. entry) in
+      ap (λ (o : Option Refusal). of o (transitions_of (filled s)) (column_at (filled s) 10)) (same_refusal (length entry))
       ∙ (ap (λ (l : List ℕ). of (read_refusal s (length entry)) l (column_at (filled s) 10)) same_transitions
       ∙ ap (of (read_refusal s (length entry)) (transitions_of s)) same_count)
 
 -- The calls
 
 module _ (m : Machine) (list : List ℕ) (t : Table m list) (s : List ℕ) (is : filled s ≡ sheet_of m list) (entry : List ℕ) (long : m.transitions * 3 ≤ length entry) where
-  no_refusal : read_refusal s (length entry) ≡ refusal 0
+  no_refusal : read_refusal s (length entry) ≡ None
   unfolding read_refusal
   no_refusal =
       let c : column_at s 10 ≡ m.transitions = read_count m list (ruled m list t) s is in
-      ap (λ (b : Bool). cond b (cond (leb (column_at s 10 * 3) (length entry)) (refusal 0) (record { number = 15; needed = column_at s 10 * 3 })) (refusal (first_fault s)))
+      ap (λ (b : Bool). cond b (cond (leb (column_at s 10 * 3) (length entry)) None (Some (ShortList (column_at s 10 * 3)))) (Some (refusal (first_fault s))))
       (eq-eqb _ _ (filled_sound m list t s is))
-      ∙ ap (λ (b : Bool). cond b (refusal 0) (record { number = 15; needed = column_at s 10 * 3 }))
+      ∙ ap (λ (b : Bool). cond b None (Some (ShortList (column_at s 10 * 3))))
       (le-leb (column_at s 10 * 3) (length entry) (omega arith))
 
   -- what read_sheet answers, and what it leaves in the list
-  pub read_table : read_answer s (length entry) ≡ record { refusal = refusal 0; machine = m }
+  pub read_table : read_answer s (length entry) ≡ Ok m
   unfolding read_answer
   read_table =
-      ap (λ (x : Refusal). record { refusal = x; machine = cond (eqb x.number 0) (machine_of s) no_machine }) no_refusal
-      ∙ ap (λ (x : Machine). record { refusal = refusal 0; machine = x }) (read_machine m list t s is)
+      ap (λ (o : Option Refusal). by_refusal {A = Result Machine Refusal} o (Ok (machine_of s)) (λ f. Err f)) no_refusal
+      ∙ ap (λ (x : Machine). Ok x) (read_machine m list t s is)
 
   pub list_table : read_list s entry ≡ take (m.transitions * 3) list ++ drop (m.transitions * 3) entry
   unfolding read_list
   list_table =
       let c : column_at s 10 ≡ m.transitions = read_count m list (ruled m list t) s is in
-      ap (λ (x : Refusal). cond (eqb x.number 0) (transitions_of s ++ drop (column_at s 10 * 3) entry) entry) no_refusal
+      ap (λ (o : Option Refusal). by_refusal o (transitions_of s ++ drop (column_at s 10 * 3) entry) (λ f. entry)) no_refusal
       ∙ (ap (λ (l : List ℕ). l ++ drop (column_at s 10 * 3) entry) (read_transitions m list t s is)
       ∙ ap (λ (k : ℕ). take (m.transitions * 3) list ++ drop (k * 3) entry) c)
 
@@ -644,22 +644,22 @@ module _ (s : List ℕ) (none : first_fault s ≡ 0) (rest entry : List ℕ) (lo
   length_is : sheet_length (machine_of s) ≡ length s
   length_is = sym (sheet_length_lem (machine_of s) (transitions_of s ++ rest)) ∙ (ap length (sound_filled s none rest) ∙ filled_size s)
 
-  fits : write_refusal (machine_of s) (transitions_of s ++ rest) (length entry) ≡ refusal 0
+  fits : write_refusal (machine_of s) (transitions_of s ++ rest) (length entry) ≡ None
   unfolding write_refusal
   fits =
-      ap (λ (b : Bool). cond b (cond (leb (sheet_length (machine_of s)) (length entry)) (refusal 0) (record { number = 19; needed = sheet_length (machine_of s) })) (refusal 16))
+      ap (λ (b : Bool). cond b (cond (leb (sheet_length (machine_of s)) (length entry)) None (Some (ShortSheet (sheet_length (machine_of s))))) (Some BadTable))
       (sound_table s none rest).obeys
-      ∙ ap (λ (b : Bool). cond b (refusal 0) (record { number = 19; needed = sheet_length (machine_of s) }))
+      ∙ ap (λ (b : Bool). cond b None (Some (ShortSheet (sheet_length (machine_of s)))))
       (le-leb (sheet_length (machine_of s)) (length entry) (subst (λ (k : ℕ). k ≤ length entry) (sym length_is) long))
 
   -- what write_sheet answers to the table of a sheet without fault, and what it leaves in the slice
-  pub write_sound : write_answer (machine_of s) (transitions_of s ++ rest) (length entry) ≡ Bytes (length s)
+  pub write_sound : write_answer (machine_of s) (transitions_of s ++ rest) (length entry) ≡ Ok (length s)
   unfolding write_answer
   write_sound =
-      ap (λ (x : Refusal). cond (eqb x.number 0) (Bytes (sheet_length (machine_of s))) (Refused x)) fits ∙ ap (λ (k : ℕ). Bytes k) length_is
+      ap (λ (o : Option Refusal). by_refusal {A = Result ℕ Refusal} o (Ok (sheet_length (machine_of s))) (λ f. Err f)) fits ∙ ap (λ (k : ℕ). Ok k) length_is
 
   pub sheet_sound_written : write_sheet (machine_of s) (transitions_of s ++ rest) entry ≡ filled s ++ drop (length s) entry
   unfolding write_sheet
   sheet_sound_written =
-      ap (λ (x : Refusal). cond (eqb x.number 0) (sheet_of (machine_of s) (transitions_of s ++ rest) ++ drop (sheet_length (machine_of s)) entry) entry) fits
+      ap (λ (o : Option Refusal). by_refusal o (sheet_of (machine_of s) (transitions_of s ++ rest) ++ drop (sheet_length (machine_of s)) entry) (λ f. entry)) fits
       ∙ (ap (λ (l : List ℕ). l ++ drop (sheet_length (machine_of s)) entry) (sound_filled s none rest) ∙ ap (λ (k : ℕ). filled s ++ drop k entry) length_is)

@@ -3,12 +3,12 @@
 -- line_two, line_three == columns and the byte 10, put one by one, are the line
 -- write_ill, write_short, write_long, write_says == the ways through write_sheet, and the number and values of its answer
 use Prim.Native.Nat.{ℕ, ◌+◌, ◌*◌, ◌<◌, ◌≤◌}
-use mathlib.Core.Path.{◌≡◌, refl, sym, ap, ◌∙◌, subst}
+use mathlib.Core.Path.{◌≡◌, refl, ap, ◌∙◌, subst}
 use mathlib.Core.List.{List, [], ◌∷◌, ◌++◌, append_assoc}
 use mathlib.Core.Bool.{Bool, true, false, cond}
 use native.Mathlib.Omega.{arith}
 use lib.ListN.{length, drop, set, length-append}
-use lib.Dec.{leb, eqb}
+use lib.Dec.{leb}
 use borrow.Author.Tests.{le-leb, lt-leb}
 use Rattle.basics.specs.Each.{each_below}
 use Rattle.basics.specs.Each.Laws.{each_length}
@@ -18,15 +18,16 @@ use Rattle.columns.specs.Column.{column_of}
 use Rattle.columns.specs.Line.{line_of}
 use Rattle.columns.specs.Line.Laws.{columns_of, columns_none, columns_more, columns_end, line_length}
 use Rattle.fsbm.specs.Machine.{mark_of, transition_at, well_formed}
-use Rattle.fsbm.specs.Answers.{refusal}
+use Rattle.fsbm.specs.Answers.{by_refusal, count_values}
 use Rattle.fsbm.specs.Rules.{rules}
 use Rattle.fsbm.specs.declared.machine.Machine.{Machine}
+use Rattle.fsbm.specs.declared.machine.Transition.{Transition}
 use Rattle.fsbm.specs.declared.answer.Refusal.{Refusal}
 use Rattle.sheet.specs.Format.Laws.{state_wide, transition_wide}
-use Rattle.sheet.specs.declared.answers.Written.{Written}
-use Rattle.sheet.specs.declared.answers.Written.TheVariants.{Refused, Bytes}
+use Rattle.fsbm.specs.declared.answer.Refusal.TheVariants.{BadTable, ShortSheet}
+use Rattle.std.specs.Prelude.{Option, None, Some, Result, Ok, Err}
 use Rattle.sheet.specs.Format.{Short, header_line, state_line, transition_line, sheet_length, sheet_of}
-use Rattle.sheet.specs.Writing.{write_refusal, write_answer, write_sheet, written_values, write_values}
+use Rattle.sheet.specs.Writing.{write_refusal, write_answer, write_sheet, write_values}
 
 module _ (l l1 l2 : List ℕ) (at a b : ℕ) (first : l1 ≡ put at l (column_of 5 a)) (second : l2 ≡ put (at + 5) l1 (column_of 5 b)) where
   two_columns : at + 10 ≤ length l → l2 ≡ put at l (columns_of 5 (a ∷ b ∷ []))
@@ -48,52 +49,73 @@ length_two a b = line_length 5 (a ∷ b ∷ [])
 pub length_three : (a b d : ℕ) → length (line_of 5 (a ∷ b ∷ d ∷ [])) ≡ 16
 length_three a b d = line_length 5 (a ∷ b ∷ d ∷ [])
 
+-- what a table that obeys the rules says of its transitions
+well_formed_short : (m : Machine) (list : List ℕ) → well_formed m list ≡ true → (k : ℕ) → k < m.transitions → Short (transition_at list k)
+well_formed_short m list w k l =
+    let r = rules m list w in
+    (omega (arith, r.states_fit, r.from_below k l), omega (arith, r.letters_fit, r.letter_below k l), omega (arith, r.states_fit, r.to_below k l))
+
 -- the pieces of the loops
 
 pub state_piece : (marks : List ℕ) (q v : ℕ) → v ≡ mark_of marks q → line_of 5 (q ∷ v ∷ []) ≡ state_line marks q
 unfolding state_line
 state_piece marks q v e = ap (λ (x : ℕ). line_of 5 (q ∷ x ∷ [])) e
 
-pub transition_piece : (list : List ℕ) (k : ℕ) → line_of 5 ((transition_at list k).from ∷ (transition_at list k).letter ∷ (transition_at list k).to ∷ []) ≡ transition_line list k
-unfolding transition_line
-transition_piece list k = refl
+module _ (list : List ℕ) (k : ℕ) (t : Transition) (t_is : t ≡ transition_at list k) (a b d : ℕ) (a_is : a ≡ t.from) (b_is : b ≡ t.letter) (d_is : d ≡ t.to) where
+  pub transition_piece : line_of 5 (a ∷ b ∷ d ∷ []) ≡ transition_line list k
+  unfolding transition_line
+  transition_piece =
+      (λ j. line_of 5 (a_is j ∷ b_is j ∷ d_is j ∷ [])) ∙ ap (λ (u : Transition). line_of 5 (u.from ∷ u.letter ∷ u.to ∷ [])) t_is
+
+  pub transition_short : (m : Machine) → well_formed m list ≡ true → k < m.transitions → (a < 100) × (b < 1000) × (d < 100)
+  transition_short m w l =
+      let (x, y, z) = well_formed_short m list w k l in
+      let from = a_is ∙ ap (λ (u : Transition). u.from) t_is in
+      let letter = b_is ∙ ap (λ (u : Transition). u.letter) t_is in
+      let to = d_is ∙ ap (λ (u : Transition). u.to) t_is in
+      (omega arith, omega arith, omega arith)
 
 -- The answer
 
 module _ (m : Machine) (list sheet : List ℕ) where
-  pub write_ill : (b : Bool) → b ≡ well_formed m list → b ≡ false
-      → (Refused (record { number = 16; needed = 0 }) ≡ write_answer m list (length sheet)) × (sheet ≡ write_sheet m list sheet)
-  unfolding write_answer write_sheet write_refusal
-  write_ill b e f = let w : well_formed m list ≡ false = sym e ∙ f in (simp w, simp w)
+  -- what write_sheet answers, and what it leaves in the slice
+  abbrev pub Leaves : Result ℕ Refusal → List ℕ → Type 0
+  Leaves r after = (r ≡ write_answer m list (length sheet)) × (after ≡ write_sheet m list sheet)
 
-  pub write_short : (b : Bool) (n : ℕ) → b ≡ well_formed m list → b ≡ true → n ≡ sheet_length m → length sheet < n
-      → (Refused (record { number = 19; needed = n }) ≡ write_answer m list (length sheet)) × (sheet ≡ write_sheet m list sheet)
-  unfolding write_answer write_sheet write_refusal
-  write_short b n e t q h =
-      let w : well_formed m list ≡ true = sym e ∙ t in
-      let l : leb (sheet_length m) (length sheet) ≡ false = lt-leb _ _ (subst (λ (k : ℕ). length sheet < k) q h) in
-      (ap (λ (k : ℕ). Refused (record { number = 19; needed = k })) q ∙ simp (w, l), simp (w, l))
+  says : (o : Option Refusal) (n : ℕ) (after : List ℕ) → o ≡ write_refusal m list (length sheet) → n ≡ sheet_length m
+      → after ≡ by_refusal o (sheet_of m list ++ drop (sheet_length m) sheet) (λ f. sheet) → Leaves (by_refusal o (Ok n) (λ f. Err f)) after
+  unfolding write_answer write_sheet
+  says o n after e q a = (
+    (λ j. by_refusal (e j) (Ok (q j)) (λ f. Err f)),
+    a ∙ ap (λ (x : Option Refusal). by_refusal x (sheet_of m list ++ drop (sheet_length m) sheet) (λ f. sheet)) e,
+  )
 
-  pub write_long : (b : Bool) (n : ℕ) (after : List ℕ) → b ≡ well_formed m list → b ≡ true → n ≡ sheet_length m → n ≤ length sheet → after ≡ sheet_of m list ++ drop (sheet_length m) sheet
-      → (Bytes n ≡ write_answer m list (length sheet)) × (after ≡ write_sheet m list sheet)
-  unfolding write_answer write_sheet write_refusal
-  write_long b n after e t q h a =
-      let w : well_formed m list ≡ true = sym e ∙ t in
-      let l : leb (sheet_length m) (length sheet) ≡ true = le-leb _ _ (subst (λ (k : ℕ). k ≤ length sheet) q h) in
-      (ap (λ (k : ℕ). Bytes k) q ∙ simp (w, l), a ∙ simp (w, l))
+  pub write_ill : well_formed m list ≡ false → Leaves (Err BadTable) sheet
+  unfolding write_refusal
+  write_ill w = says (Some BadTable) (sheet_length m) sheet (simp w) refl refl
+
+  module _ (w : well_formed m list ≡ true) (n : ℕ) (q : n ≡ sheet_length m) where
+    pub write_short : length sheet < n → Leaves (Err (ShortSheet n)) sheet
+    unfolding write_refusal
+    write_short h =
+        let l : leb (sheet_length m) (length sheet) ≡ false = lt-leb _ _ (subst (λ (k : ℕ). length sheet < k) q h) in
+        says (Some (ShortSheet n)) (sheet_length m) sheet (ap (λ (k : ℕ). Some (ShortSheet k)) q ∙ simp (w, l)) refl refl
+
+    pub write_long : (after : List ℕ) → n ≤ length sheet → after ≡ sheet_of m list ++ drop (sheet_length m) sheet → Leaves (Ok n) after
+    unfolding write_refusal
+    write_long after h a =
+        let l : leb (sheet_length m) (length sheet) ≡ true = le-leb _ _ (subst (λ (k : ℕ). k ≤ length sheet) q h) in
+        says None n after (simp (w, l)) q a
 
   -- the answer and the slice, with the answer's number and values
-  pub write_says : (r : Written) (after : List ℕ) → (r ≡ write_answer m list (length sheet)) × (after ≡ write_sheet m list sheet)
-      → (r ≡ write_answer m list (length sheet)) × (after ≡ write_sheet m list sheet) × (written_values r ≡ write_values m list (length sheet))
+  pub write_says : (r : Result ℕ Refusal) (after : List ℕ) → Leaves r after
+      → (r ≡ write_answer m list (length sheet)) × (after ≡ write_sheet m list sheet) × (count_values r ≡ write_values m list (length sheet))
   unfolding write_answer write_refusal write_values
-  write_says r after (a, s) = (a, s, ap written_values a ∙ at (well_formed m list) (leb (sheet_length m) (length sheet)) (sheet_length m))
+  write_says r after (a, s) = (a, s, ap count_values a ∙ at (well_formed m list) (leb (sheet_length m) (length sheet)) (sheet_length m))
     where
-      refused : Bool → Bool → ℕ → Refusal
-      refused w l n = cond w (cond l (refusal 0) (record { number = 19; needed = n })) (refusal 16)
-
       at : (w l : Bool) (n : ℕ)
-          → written_values (cond (eqb (refused w l n).number 0) (Bytes n) (Refused (refused w l n)))
-          ≡ cond w (cond l (record { refusal = 0; needed = 0; bytes = n }) (record { refusal = 19; needed = n; bytes = 0 })) (record { refusal = 16; needed = 0; bytes = 0 })
+          → count_values (by_refusal (cond w (cond l None (Some (ShortSheet n))) (Some BadTable)) (Ok n) (λ f. Err f))
+          ≡ cond w (cond l (record { refusal = 0; needed = 0; count = n }) (record { refusal = 19; needed = n; count = 0 })) (record { refusal = 16; needed = 0; count = 0 })
       at true true n = refl
       at true false n = refl
       at false l n = refl
@@ -122,17 +144,3 @@ module _ (m : Machine) (list sheet : List ℕ) where
 
       C : List ℕ
       C = each_below m.transitions (transition_line list)
-
--- what a table that obeys the rules says of its counts
-pub well_formed_counts : (m : Machine) (list : List ℕ) (b : Bool) → b ≡ well_formed m list → b ≡ true → (m.states ≤ 64) × (m.transitions ≤ 4000) × (m.transitions * 3 ≤ length list)
-well_formed_counts m list b e t = let r = rules m list (sym e ∙ t) in (r.states_fit, r.transitions_fit, r.list_fits)
-
--- and of its letters and transitions
-module _ (m : Machine) (list : List ℕ) (b : Bool) (e : b ≡ well_formed m list) (t : b ≡ true) where
-  pub well_formed_letters : m.letters ≤ 250
-  well_formed_letters = (rules m list (sym e ∙ t)).letters_fit
-
-  pub well_formed_short : (k : ℕ) → k < m.transitions → Short (transition_at list k)
-  well_formed_short k l =
-      let r = rules m list (sym e ∙ t) in
-      (omega (arith, r.states_fit, r.from_below k l), omega (arith, r.letters_fit, r.letter_below k l), omega (arith, r.states_fit, r.to_below k l))

@@ -2,78 +2,73 @@
 
 #![tactic(auto)]
 
-ghost use Rattle.std.specs.Prelude.{ℕ, ◌+◌, ◌*◌, ◌<◌, ◌≤◌, ◌≡◌, [], ◌∷◌, length};
+ghost use Rattle.fsbm.specs.Answers.{count_values};
+ghost use Rattle.std.specs.Prelude.{◌+◌, ◌*◌, ◌^◌, ◌<◌, ◌≤◌, ◌≡◌, [], ◌∷◌, length};
 ghost use Rattle.basics.specs.Lists.{put};
 ghost use Rattle.basics.specs.Each.{each_below};
-ghost use Rattle.fsbm.specs.Machine.{transition_at};
 ghost use Rattle.columns.specs.Line.{line_of};
-ghost use Rattle.sheet.specs.Format.{Short, sheet_column, state_line, transition_line};
-ghost use Rattle.sheet.specs.Writing.{write_answer, write_sheet, written_values, write_values};
+ghost use Rattle.sheet.specs.Format.{sheet_column, state_line, transition_line};
+ghost use Rattle.sheet.specs.Writing.{write_answer, write_sheet, write_values};
 
 use fsbm::answer::Refusal;
 use fsbm::machine;
-use fsbm::machine::{Machine, Marks};
-use sheet::answers::Written;
+use fsbm::machine::Machine;
+use fsbm::table::Table;
 use sheet::{HEADER_LENGTH, STATE_LENGTH, TRANSITION_LENGTH};
 
-// Line one, written to the front.
-fn write_header(sheet: &mut [u8], states: usize, letters: usize, transitions: usize)
-    requires { (16 ≤ length sheet.old) × (states < 100) × (letters < 1000) × (transitions < 100000) }
-    ensures { sheet.new ≡ put 0 sheet.old (line_of sheet_column (states ∷ letters ∷ transitions ∷ [])) }
+// A line of three columns, written from byte at on. The numbers have at most two, three and D digits.
+fn write_three<const D: usize>(sheet: &mut [u8], at: usize, a: u32, b: u32, c: u32)
+    requires { (at + 16 ≤ length sheet.old) × (a < 100) × (b < 1000) × (c < 10 ^ D) }
+    ensures { sheet.new ≡ put at sheet.old (line_of sheet_column (a ∷ b ∷ c ∷ [])) }
 {
-    columns::write_shorter(sheet, 0, states as u16);
-    columns::write_short(sheet, 5, letters as u16);
-    columns::write_fitting(sheet, 10, transitions);
-    sheet[15] = 10;
+    columns::write::<5, 2>(sheet, at, a);
+    columns::write::<5, 3>(sheet, at + 5, b);
+    columns::write::<5, D>(sheet, at + 10, c);
+    sheet[at + 15] = b'\n';
 }
 
 // The line of a state, written from byte at on.
-fn write_state(sheet: &mut [u8], at: usize, q: u16, mark: u16)
+fn write_state(sheet: &mut [u8], at: usize, q: u32, mark: u32)
     requires { (at + 11 ≤ length sheet.old) × (q < 100) × (mark < 1000) }
     ensures { sheet.new ≡ put at sheet.old (line_of sheet_column (q ∷ mark ∷ [])) }
 {
-    columns::write_shorter(sheet, at, q);
-    columns::write_short(sheet, at + 5, mark);
-    sheet[at + 10] = 10;
-}
-
-// The line of a transition, written from byte at on.
-fn write_transition(sheet: &mut [u8], at: usize, from: u16, letter: u16, to: u16)
-    requires { (at + 16 ≤ length sheet.old) × (from < 100) × (letter < 1000) × (to < 100) }
-    ensures { sheet.new ≡ put at sheet.old (line_of sheet_column (from ∷ letter ∷ to ∷ [])) }
-{
-    columns::write_shorter(sheet, at, from);
-    columns::write_short(sheet, at + 5, letter);
-    columns::write_shorter(sheet, at + 10, to);
-    sheet[at + 15] = 10;
+    columns::write::<5, 2>(sheet, at, q);
+    columns::write::<5, 3>(sheet, at + 5, mark);
+    sheet[at + 10] = b'\n';
 }
 
 // The lines of the states, written after line one.
-fn write_states(sheet: &mut [u8], marks: &Marks, states: usize)
-    requires { (states ≤ 64) × (16 + 11 * states ≤ length sheet.old) }
-    ensures { sheet.new ≡ put 16 sheet.old (each_below states (state_line marks.now)) }
+#[tactic(auto, using(fsbm::specs::Rules::rules))]
+fn write_states(sheet: &mut [u8], t: &Table)
+    requires { 16 + 11 * t.now.machine.states ≤ length sheet.old }
+    ensures { sheet.new ≡ put 16 sheet.old (each_below t.now.machine.states (state_line t.now.machine.marks)) }
 {
-    let mut at: usize = HEADER_LENGTH;
-    let mut q: usize = 0;
-    while q < states {
-        write_state(sheet, at, q as u16, machine::mark(marks, q) as u16);
-        at += STATE_LENGTH;
-        q += 1;
+    for q in 0..t.machine.states {
+        let mark = machine::mark(&t.machine.marks, q);
+        write_state(
+            sheet,
+            HEADER_LENGTH + STATE_LENGTH * q,
+            q as u32,
+            u32::from(mark),
+        );
     }
 }
 
 // The lines of the transitions, written from byte start on.
-fn write_transitions(sheet: &mut [u8], list: &[u16], start: usize, transitions: usize)
-    requires { (transitions * 3 ≤ length list.now) × (start + 16 * transitions ≤ length sheet.old) × ((k : ℕ) → k < transitions → Short (transition_at list.now k)) }
-    ensures { sheet.new ≡ put start sheet.old (each_below transitions (transition_line list.now)) }
+fn write_transitions(sheet: &mut [u8], t: &Table, start: usize)
+    requires { start + 16 * t.now.machine.transitions ≤ length sheet.old }
+    ensures { sheet.new ≡ put start sheet.old (each_below t.now.machine.transitions (transition_line t.now.list.now)) }
 {
-    let mut at: usize = start;
-    let mut k: usize = 0;
-    while k < transitions {
-        let i = k * 3;
-        write_transition(sheet, at, list[i], list[i + 1], list[i + 2]);
-        at += TRANSITION_LENGTH;
-        k += 1;
+    for k in 0..t.machine.transitions {
+        let s = t.transition(k);
+        let at = start + TRANSITION_LENGTH * k;
+        write_three::<2>(
+            sheet,
+            at,
+            u32::from(s.from),
+            u32::from(s.letter),
+            u32::from(s.to),
+        );
     }
 }
 
@@ -81,22 +76,27 @@ fn write_transitions(sheet: &mut [u8], list: &[u16], start: usize, transitions: 
 // its list break the rules of a table), 19 (the slice is too short) with the length needed, in this order. A refusal leaves the
 // slice as it was; what stands past the sheet stays.
 // Time: the table once to test it, once to write it. Memory: none beside its arguments.
-pub fn write_sheet(m: Machine, list: &[u16], sheet: &mut [u8]) -> Written
-    ensures { (result ≡ write_answer m list.now (length sheet.old)) × (sheet.new ≡ write_sheet m list.now sheet.old) × (written_values result ≡ write_values m list.now (length sheet.old)) }
+#[tactic(auto, using(fsbm::specs::Rules::rules))]
+pub fn write_sheet(m: Machine, list: &[u16], sheet: &mut [u8]) -> Result<usize, Refusal>
+    ensures { (result ≡ write_answer m list.now (length sheet.old)) × (sheet.new ≡ write_sheet m list.now sheet.old) × (count_values result ≡ write_values m list.now (length sheet.old)) }
 {
     if !machine::is_well_formed(m, list) {
-        return Written::Refused(Refusal {
-            number: 16,
-            needed: 0,
-        });
+        return Err(Refusal::BadTable);
     }
+    let t = Table { machine: m, list };
     let start = HEADER_LENGTH + STATE_LENGTH * m.states;
     let needed = start + TRANSITION_LENGTH * m.transitions;
     if sheet.len() < needed {
-        return Written::Refused(Refusal { number: 19, needed });
+        return Err(Refusal::ShortSheet(needed));
     }
-    write_header(sheet, m.states, m.letters, m.transitions);
-    write_states(sheet, &m.marks, m.states);
-    write_transitions(sheet, list, start, m.transitions);
-    Written::Bytes(needed)
+    write_three::<5>(
+        sheet,
+        0,
+        m.states as u32,
+        m.letters as u32,
+        m.transitions as u32,
+    );
+    write_states(sheet, &t);
+    write_transitions(sheet, &t, start);
+    Ok(needed)
 }

@@ -1,2 +1,1 @@
-pub mod CopyCases
 pub mod FindCases

@@ -11,11 +11,11 @@
 -- Fits m list d q i r    == all pieces to q along which its number is reached fit before place i of the word and place r of the run
 -- CopyReady, Stepped     == what copy asks; pieces from p to q are written before place i of the word and place r of the run, and the number
 --                           of q is reached along them
-use Rattle.std.specs.Prelude.{ℕ, ◌+◌, ◌*◌, ◌-◌, ◌≤◌, ◌<◌, ◌≡◌, ◌⊎◌, Bool, true, ◌&&◌, length, get_or, set, drop, eqb}
+use Rattle.std.specs.Prelude.{ℕ, ◌+◌, ◌*◌, ◌-◌, ◌≤◌, ◌<◌, ◌≡◌, ◌⊎◌, Bool, true, ◌&&◌, length, get_or, set, drop, eqb, Option, MatchOption, ⊤}
 use mathlib.Core.List.{List, ◌++◌, Memᴰ}
 use Rattle.basics.specs.Search.{AllBelow}
 use Rattle.basics.specs.Counting.{Distinct}
-use Rattle.fsbm.specs.Machine.{transition_at, buffering, matching, well_formed}
+use Rattle.fsbm.specs.Machine.{transition_at, buffering, matching}
 use Rattle.fsbm.specs.Published.{fsbm_of}
 use Rattle.fsbm.specs.declared.machine.Machine.{Machine}
 use Rattle.pieces.specs.Pieces.{Stores, Matches, Leads}
@@ -23,7 +23,6 @@ use Rattle.pieces.specs.Pairs.{unit}
 use Rattle.pieces.proofs.PairsLaws.{pair_weight}
 use Rattle.pieces.specs.Blocks.{nothing, cost_of, cell, Settles}
 use Rattle.pieces.specs.Written.{StoresBy, MatchesBy, LeadsBy}
-use Rattle.shortest.specs.Into.{Into}
 use Rattle.shortest.specs.Put.{PutReady, Put, later_list}
 use Rattle.shortest.specs.declared.copy.Progress.{Progress}
 use Rattle.shortest.specs.declared.copy.Walk.{Walk}
@@ -36,39 +35,35 @@ begun_test marks d b h s t = eqb t h && (buffering marks s && eqb (cost_of d s +
 abbrev pub place : ℕ → ℕ → ℕ → ℕ → ℕ → Walk
 place s t i r c = record { storing = s; matching = t; letter = i; entry = r; kept = c }
 
-pub record MatchedReady (list : List ℕ) (n k : ℕ) (word run : List ℕ) (w : Walk) : Type 0 where
-  pub ready : k < n → PutReady list k word w.letter run w.entry
+abbrev pub MatchedReady : List ℕ → Option ℕ → List ℕ → List ℕ → Walk → Type 0
+MatchedReady list k word run w = MatchOption k ⊤ (λ k. PutReady list k word w.letter run w.entry)
 
 -- nothing was to be written
-pub record Same (n k : ℕ) (word run : List ℕ) (w : Walk) (word' run' : List ℕ) (w' : Walk) : Type 0 where
-  pub past : n ≤ k
+pub record Same (word run : List ℕ) (w : Walk) (word' run' : List ℕ) (w' : Walk) : Type 0 where
   pub word_same : word' ≡ word
   pub run_same : run' ≡ run
   pub walk_same : w' ≡ w
 
-pub record Written (list : List ℕ) (n k : ℕ) (word run : List ℕ) (w : Walk) (word' run' : List ℕ) (w' : Walk) : Type 0 where
-  pub below : k < n
+pub record Written (list : List ℕ) (k : ℕ) (word run : List ℕ) (w : Walk) (word' run' : List ℕ) (w' : Walk) : Type 0 where
   pub put : Put list k word w.letter run w.entry word' w'.letter run'
   pub is : w' ≡ place w.storing (transition_at list k).from w'.letter (w.entry - 1) w.kept
 
-abbrev pub Matched : List ℕ → ℕ → ℕ → List ℕ → List ℕ → Walk → List ℕ → List ℕ → Walk → Type 0
-Matched list n k word run w word' run' w' = Same n k word run w word' run' w' ⊎ Written list n k word run w word' run' w'
+abbrev pub Matched : List ℕ → Option ℕ → List ℕ → List ℕ → Walk → List ℕ → List ℕ → Walk → Type 0
+Matched list k word run w word' run' w' = MatchOption k (Same word run w word' run' w') (λ k. Written list k word run w word' run' w')
 
-pub record StoredReady (n k : ℕ) (w : Walk) : Type 0 where
-  pub small : k < n → (k < 65536) × (w.kept < 4096)
+abbrev pub StoredReady : Option ℕ → Walk → Type 0
+StoredReady k w = MatchOption k ⊤ (λ k. (k < 65536) × (w.kept < 4096))
 
-pub record Unkept (n k : ℕ) (later : List ℕ) (w : Walk) (later' : List ℕ) (w' : Walk) : Type 0 where
-  pub past : n ≤ k
+pub record Unkept (later : List ℕ) (w : Walk) (later' : List ℕ) (w' : Walk) : Type 0 where
   pub later_same : later' ≡ later
   pub walk_same : w' ≡ w
 
-pub record Kept (list : List ℕ) (n k : ℕ) (later : List ℕ) (w : Walk) (later' : List ℕ) (w' : Walk) : Type 0 where
-  pub below : k < n
+pub record Kept (list : List ℕ) (k : ℕ) (later : List ℕ) (w : Walk) (later' : List ℕ) (w' : Walk) : Type 0 where
   pub later_is : later' ≡ set later w.kept k
   pub is : w' ≡ place (transition_at list k).from w.matching w.letter w.entry (w.kept + 1)
 
-abbrev pub KeptOrNot : List ℕ → ℕ → ℕ → List ℕ → Walk → List ℕ → Walk → Type 0
-KeptOrNot list n k later w later' w' = Unkept n k later w later' w' ⊎ Kept list n k later w later' w'
+abbrev pub KeptOrNot : List ℕ → Option ℕ → List ℕ → Walk → List ℕ → Walk → Type 0
+KeptOrNot list k later w later' w' = MatchOption k (Unkept later w later' w') (λ k. Kept list k later w later' w')
 
 abbrev pub Room : Machine → List ℕ → List ℕ → ℕ → ℕ → ℕ → ℕ → Type 0
 Room m list b h z i r =
@@ -96,16 +91,13 @@ pub record Walking (m : Machine) (list b : List ℕ) (h z : ℕ) (word₀ : List
   pub larger : (k : ℕ) → Memᴰ k passed → cell b w.storing w.matching < get_or b k 0
   pub count : w.kept ≤ length passed
 
-pub record Going (m : Machine) (list links d b : List ℕ) (h z : ℕ) (word : List ℕ) (i : ℕ) (run : List ℕ) (r : ℕ) (later : List ℕ) : Type 0 where
-  pub good : well_formed m list ≡ true
-  pub into : Into m list links
+pub record Going (m : Machine) (list d b : List ℕ) (h z : ℕ) (word : List ℕ) (i : ℕ) (run : List ℕ) (r : ℕ) : Type 0 where
   pub set : ℕ
   pub settles : Settles m list h set d b
   pub low : cell b h z < nothing
   pub room : Room m list b h z i r
   pub word_fits : i ≤ length word
   pub run_fits : r ≤ length run
-  pub later_size : length later ≡ 4096
 
 pub record Gone (m : Machine) (list d b : List ℕ) (h z : ℕ) (word : List ℕ) (i : ℕ) (run : List ℕ) (r : ℕ) (word' run' later' : List ℕ) (w : Walk) : Type 0 where
   pub walking : Walking m list b h z word i run r word' run' later' w
@@ -117,9 +109,7 @@ abbrev pub Fits : Machine → List ℕ → List ℕ → ℕ → ℕ → ℕ → 
 Fits m list d q i r =
     (p : ℕ) (x : List ℕ) (k : ℕ) → Leads (fsbm_of m list) p x q k → cost_of d p + (length x * unit + k) ≡ cost_of d q → (length x ≤ i) × (k < r)
 
-pub record CopyReady (m : Machine) (list links d b : List ℕ) (h z : ℕ) (word : List ℕ) (i : ℕ) (run : List ℕ) (r : ℕ) (later : List ℕ) : Type 0 where
-  pub good : well_formed m list ≡ true
-  pub into : Into m list links
+pub record CopyReady (m : Machine) (list d b : List ℕ) (h z : ℕ) (word : List ℕ) (i : ℕ) (run : List ℕ) (r : ℕ) : Type 0 where
   pub set : ℕ
   pub settles : Settles m list h set d b
   pub turns : matching m.marks h ≡ true
@@ -129,7 +119,6 @@ pub record CopyReady (m : Machine) (list links d b : List ℕ) (h z : ℕ) (word
   pub fits : Fits m list d z i r
   pub word_fits : i ≤ length word
   pub run_fits : r ≤ length run
-  pub later_size : length later ≡ 4096
 
 pub record Stepped (m : Machine) (list d : List ℕ) (q : ℕ) (word : List ℕ) (i : ℕ) (run : List ℕ) (r : ℕ) (word' run' : List ℕ) (p : Progress) : Type 0 where
   pub read : List ℕ

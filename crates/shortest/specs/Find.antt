@@ -1,6 +1,7 @@
 -- Transitions, and moves of a pair, along which a number is reached exactly. The laws stand in specs/Find/Laws.antt.
 --
--- Finds n P r            == r is a number below n with P, or none has it and r is not below n
+-- Finds n P r            == r is a number below n with P; or there is none, and none has it
+-- FindsInto n list q Gives r == r is a transition into q whose test gives true; or there is none, and of each into q it gives false
 -- Tried Q r              == r says whether Q holds
 -- normal_test, store_test, match_test == transition k is taken in its mode, and its weight and the number where it begins make `want`
 -- NormalFits m list d q k == transition k enters q in normal mode along which the number of q is reached
@@ -9,7 +10,8 @@
 -- LetterStep, LetterFits == transition k enters s by a letter in buffering mode, and some transition enters t by the same letter in emptying
 --                           mode, so that both make `want`
 -- Backs m list b s t k j == k and j are the transitions of the two halves along which the number of (s, t) is reached
-use Rattle.std.specs.Prelude.{ℕ, ◌+◌, ◌*◌, ◌≤◌, ◌<◌, ◌≡◌, Bool, true, false, not, ◌&&◌, List, eqb}
+use Rattle.std.specs.Prelude.{ℕ, ◌+◌, ◌*◌, ◌≤◌, ◌<◌, ◌≡◌, Bool, true, false, not, ◌&&◌, List, eqb, Option, MatchOption}
+use Rattle.std.proofs.Common.{Some, None}
 use Rattle.fsbm.specs.Machine.{transition_at, buffering, both_matching}
 use Rattle.fsbm.specs.declared.machine.Machine.{Machine}
 use Rattle.pieces.specs.Pairs.{weigh, halves, unit}
@@ -18,9 +20,11 @@ use Rattle.shortest.specs.Into.{Enters}
 pub mod Laws
 pub mod Tests
 
-pub record Finds (n : ℕ) (P : ℕ → Type 0) (r : ℕ) : Type 0 where
-  pub found : r < n → P r
-  pub none : n ≤ r → (k : ℕ) → k < n → P k → ⊥
+abbrev pub Finds : ℕ → (ℕ → Type 0) → Option ℕ → Type 0
+Finds n P r = MatchOption r ((k : ℕ) → k < n → P k → ⊥) (λ k. (k < n) × P k)
+
+pub record FindsInto (n : ℕ) (list : List ℕ) (q : ℕ) (Gives : ℕ → Bool → Type 0) (r : Option ℕ) : Type 0 where
+  pub finds : MatchOption r ((k : ℕ) → k < n → Enters list q k → Gives k false) (λ k. (k < n) × Enters list q k × Gives k true)
 
 pub record Tried (Q : Type 0) (r : Bool) : Type 0 where
   pub good : r ≡ true → Q
@@ -69,10 +73,10 @@ abbrev pub LetterFits : Machine → List ℕ → List ℕ → ℕ → ℕ → �
 LetterFits m list b s t want k = Enters list s k × LetterStep m list b t want k
 
 -- the storing half moves by epsilon, the matching half does, both move by a letter, or no such move makes the number
-pub data Backs (m : Machine) (list b : List ℕ) (s t : ℕ) : ℕ → ℕ → Type 0 where
-  by_storing : {k j : ℕ} → k < m.transitions → m.transitions ≤ j → StoreFits m list b s t (cell b s t) k → Backs m list b s t k j
-  by_matching : {k j : ℕ} → m.transitions ≤ k → j < m.transitions → MatchFits m list b s t 0 1 (cell b s t) j → Backs m list b s t k j
+pub data Backs (m : Machine) (list b : List ℕ) (s t : ℕ) : Option ℕ → Option ℕ → Type 0 where
+  by_storing : {k : ℕ} → k < m.transitions → StoreFits m list b s t (cell b s t) k → Backs m list b s t (Some k) None
+  by_matching : {j : ℕ} → j < m.transitions → MatchFits m list b s t 0 1 (cell b s t) j → Backs m list b s t None (Some j)
   by_both : {k j : ℕ} → k < m.transitions → j < m.transitions → Enters list s k → Storing m list k
-      → MatchFits m list b (transition_at list k).from t (transition_at list k).letter pair_unit (cell b s t) j → Backs m list b s t k j
-  by_none : {k j : ℕ} → ((i : ℕ) → i < m.transitions → StoreFits m list b s t (cell b s t) i → ⊥) → ((i : ℕ) → i < m.transitions → MatchFits m list b s t 0 1 (cell b s t) i → ⊥)
+      → MatchFits m list b (transition_at list k).from t (transition_at list k).letter pair_unit (cell b s t) j → Backs m list b s t (Some k) (Some j)
+  by_none : {k j : Option ℕ} → ((i : ℕ) → i < m.transitions → StoreFits m list b s t (cell b s t) i → ⊥) → ((i : ℕ) → i < m.transitions → MatchFits m list b s t 0 1 (cell b s t) i → ⊥)
       → ((i : ℕ) → i < m.transitions → LetterFits m list b s t (cell b s t) i → ⊥) → Backs m list b s t k j

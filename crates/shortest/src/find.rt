@@ -1,33 +1,27 @@
 // Transitions, and moves of a pair, along which a number is reached exactly: its end's number is its start's number and its weight.
 // Each finder goes through the transitions that enter a state.
-ghost use Rattle.std.specs.Prelude.{◌+◌, ◌<◌, ◌≡◌, true, eqb};
-ghost use Rattle.fsbm.specs.Machine.{well_formed, transition_at};
-ghost use Rattle.pieces.specs.Blocks.{cost_of, cell};
-ghost use Rattle.shortest.specs.Into.{Into};
-ghost use Rattle.shortest.specs.Find.{Finds, Tried, normal_test, NormalFits, store_test, StoreFits, match_test, MatchFits, LetterStep, LetterFits, Backs};
+ghost use Rattle.std.specs.Prelude.{ℕ, ◌+◌, ◌<◌, ◌≡◌, eqb};
+ghost use Rattle.fsbm.specs.Machine.{transition_at};
+ghost use Rattle.pieces.specs.Blocks.{cell};
+ghost use Rattle.shortest.specs.Find.{FindsInto, Finds, Tried, normal_test, NormalFits, store_test, StoreFits, match_test, MatchFits, LetterStep, LetterFits, Backs};
 
-use crate::into::LINKS;
-use blocks::gather;
-use blocks::sizes::{MOST_PAIRS, MOST_STATES, PAIR};
+use crate::traced::Traced;
+use blocks::sizes::{MOST_PAIRS, PAIR};
 use fsbm::machine;
-use fsbm::machine::{Machine, Marks};
 use least::fall;
 
-// The moves of a pair's two halves, each by its transition; the number of transitions says that the half stands still.
-#[derive(Clone, Copy)]
+// The moves of a pair's two halves, each by its transition; a half without one stands still.
+#[derive(Clone, Copy, Debug, PartialEq, Eq)]
 pub struct Halves {
-    pub storing: usize,
-    pub matching: usize,
+    pub storing: Option<usize>,
+    pub matching: Option<usize>,
 }
 
 // Whether v and w make the number that is wanted.
 pub fn makes(v: u64, w: u64, want: u64) -> bool
     ensures { result ≡ eqb (v + w) want }
 {
-    if want < w {
-        return false;
-    }
-    v == want - w
+    w <= want && v == want - w
 }
 
 // The number of the pair (s, t) in a block.
@@ -38,243 +32,190 @@ pub fn number(b: &[u64; MOST_PAIRS], s: usize, t: usize) -> u64
     b[s * 64 + t]
 }
 
-// The number of a state.
-pub fn cost(d: &[u64; MOST_STATES], q: usize) -> u64
-    requires { q < 64 }
-    ensures { result ≡ cost_of d.now q }
-{
-    d[q]
-}
-
-// Whether transition k is taken in normal mode and its weight and the number where it begins make the number that is wanted.
-fn normal_fits(marks: &Marks, list: &[u16], d: &[u64; MOST_STATES], want: u64, k: usize) -> bool
-    requires { (transition_at list.now k).from < 64 }
-    ensures { result ≡ normal_test marks.now list.now d.now want k }
-{
-    let t = machine::transition_at(list, k);
-    if machine::both_matching(marks, t) {
-        return false;
-    }
-    let p = t.from as usize;
-    if machine::is_buffering(marks, p) {
-        return false;
-    }
-    makes(cost(d, p), fall::weight(t.letter), want)
-}
-
-// The same of a transition by epsilon in buffering mode, for a pair whose matching half is in t.
-fn store_fits(
-    marks: &Marks,
-    list: &[u16],
-    b: &[u64; MOST_PAIRS],
-    t: usize,
-    want: u64,
-    k: usize,
-) -> bool
-    requires { ((transition_at list.now k).from < 64) × (t < 64) }
-    ensures { result ≡ store_test marks.now list.now b.now t want k }
-{
-    let u = machine::transition_at(list, k);
-    if machine::both_matching(marks, u) {
-        return false;
-    }
-    if machine::is_buffering(marks, u.to as usize) {
-        return false;
-    }
-    if u.letter != 0 {
-        return false;
-    }
-    makes(number(b, u.from as usize, t), 1, want)
-}
-
-// The same of a transition by x in emptying mode, with the weight w, for a pair whose storing half is in s.
-fn match_fits(
-    marks: &Marks,
-    list: &[u16],
-    b: &[u64; MOST_PAIRS],
-    s: usize,
-    x: u16,
-    w: u64,
-    want: u64,
-    k: usize,
-) -> bool
-    requires { ((transition_at list.now k).from < 64) × (s < 64) }
-    ensures { result ≡ match_test marks.now list.now b.now s x w want k }
-{
-    let u = machine::transition_at(list, k);
-    if !machine::both_matching(marks, u) {
-        return false;
-    }
-    if u.letter != x {
-        return false;
-    }
-    makes(number(b, s, u.from as usize), w, want)
-}
-
-// A transition into q in normal mode whose weight and the number where it begins make the number of q; the number of transitions where
-// there is none.
-pub fn find_normal(
-    m: Machine,
-    list: &[u16],
-    links: &[u16; LINKS],
-    d: &[u64; MOST_STATES],
-    q: usize,
-) -> usize
-    requires { (well_formed m list.now ≡ true) × Into m list.now links.now × (q < 64) }
-    ensures { Finds m.transitions (NormalFits m list.now d.now q) result }
-{
-    let want = cost(d, q);
-    let mut k = gather::wide(links[q]);
-    while k < m.transitions {
-        if normal_fits(&m.marks, list, d, want, k) {
-            return k;
+impl<'a> Traced<'a> {
+    // The first transition into q that passes a test.
+    fn find_into<F: Fn(usize) -> bool>(&self, q: usize, test: F) -> Option<usize>
+        requires q_bound { q < 64 }
+        requires callable { (k : ℕ) → k < self.now.searched.now.table.machine.transitions → F.pre test k }
+        ensures { FindsInto self.now.searched.now.table.machine.transitions self.now.searched.now.table.list.now q (F.post test) result }
+    {
+        let n = self.searched.table.machine.transitions;
+        let mut k = usize::from(self.links[q]);
+        // No iterator of its own: its `find` would need a law for each of its four uses, where this loop needs one.
+        while k < n {
+            if test(k) {
+                return Some(k);
+            }
+            k = usize::from(self.links[64 + k]);
         }
-        k = gather::wide(links[64 + k]);
+        None
     }
-    k
-}
 
-// A transition into s by epsilon in buffering mode, the matching half in t.
-fn find_store(
-    m: Machine,
-    list: &[u16],
-    links: &[u16; LINKS],
-    b: &[u64; MOST_PAIRS],
-    s: usize,
-    t: usize,
-    want: u64,
-) -> usize
-    requires { (well_formed m list.now ≡ true) × Into m list.now links.now × (s < 64) × (t < 64) }
-    ensures { Finds m.transitions (StoreFits m list.now b.now s t want) result }
-{
-    let mut k = gather::wide(links[s]);
-    while k < m.transitions {
-        if store_fits(&m.marks, list, b, t, want, k) {
-            return k;
+    // Whether transition k is taken in normal mode and its weight and the number where it begins make the number that is wanted.
+    #[tactic(auto, unfolding(crate::specs::Find::normal_test))]
+    fn normal_fits(&self, want: u64, k: usize) -> bool
+        requires { k < self.now.searched.now.table.machine.transitions }
+        ensures { result ≡ normal_test self.now.searched.now.table.machine.marks self.now.searched.now.table.list.now self.now.weights.now.least want k }
+    {
+        let marks = &self.searched.table.machine.marks;
+        let t = self.searched.table.transition(k);
+        let p = usize::from(t.from);
+        !machine::both_matching(marks, t)
+            && !machine::is_buffering(marks, p)
+            && makes(self.weights.cost(p), fall::weight(t.letter), want)
+    }
+
+    // The same of a transition by epsilon in buffering mode, for a pair whose matching half is in t.
+    #[tactic(auto, unfolding(crate::specs::Find::store_test))]
+    fn store_fits(&self, b: &[u64; MOST_PAIRS], t: usize, want: u64, k: usize) -> bool
+        requires { (k < self.now.searched.now.table.machine.transitions) × (t < 64) }
+        ensures { result ≡ store_test self.now.searched.now.table.machine.marks self.now.searched.now.table.list.now b.now t want k }
+    {
+        let marks = &self.searched.table.machine.marks;
+        let u = self.searched.table.transition(k);
+        !machine::both_matching(marks, u)
+            && !machine::is_buffering(marks, usize::from(u.to))
+            && u.letter == 0
+            && makes(number(b, usize::from(u.from), t), 1, want)
+    }
+
+    // The same of a transition by x in emptying mode, with the weight w, for a pair whose storing half is in s.
+    #[tactic(auto, unfolding(crate::specs::Find::match_test))]
+    fn match_fits(
+        &self,
+        b: &[u64; MOST_PAIRS],
+        s: usize,
+        x: u16,
+        w: u64,
+        want: u64,
+        k: usize,
+    ) -> bool
+        requires { (k < self.now.searched.now.table.machine.transitions) × (s < 64) }
+        ensures { result ≡ match_test self.now.searched.now.table.machine.marks self.now.searched.now.table.list.now b.now s x w want k }
+    {
+        let u = self.searched.table.transition(k);
+        machine::both_matching(&self.searched.table.machine.marks, u)
+            && u.letter == x
+            && makes(number(b, s, usize::from(u.from)), w, want)
+    }
+
+    // A transition into q in normal mode whose weight and the number where it begins make the number of q.
+    pub fn find_normal(&self, q: usize) -> Option<usize>
+        requires { q < 64 }
+        ensures { Finds self.now.searched.now.table.machine.transitions (NormalFits self.now.searched.now.table.machine self.now.searched.now.table.list.now self.now.weights.now.least q) result }
+    {
+        let want = self.weights.cost(q);
+        self.find_into(
+            q,
+            |k|
+                requires { k < self.now.searched.now.table.machine.transitions }
+                ensures { result ≡ normal_test self.entry.now.searched.now.table.machine.marks self.entry.now.searched.now.table.list.now self.entry.now.weights.now.least want k }
+            { self.normal_fits(want, k) },
+        )
+    }
+
+    // A transition into s by epsilon in buffering mode, the matching half in t.
+    fn find_store(&self, b: &[u64; MOST_PAIRS], s: usize, t: usize, want: u64) -> Option<usize>
+        requires { (s < 64) × (t < 64) }
+        ensures { Finds self.now.searched.now.table.machine.transitions (StoreFits self.now.searched.now.table.machine self.now.searched.now.table.list.now b.now s t want) result }
+    {
+        self.find_into(
+            s,
+            |k|
+                requires { (k < self.now.searched.now.table.machine.transitions) × (t < 64) }
+                ensures { result ≡ store_test self.entry.now.searched.now.table.machine.marks self.entry.now.searched.now.table.list.now b.entry.now t want k }
+            { self.store_fits(b, t, want, k) },
+        )
+    }
+
+    // A transition into t by x in emptying mode, with the weight w, the storing half in s.
+    fn find_match(
+        &self,
+        b: &[u64; MOST_PAIRS],
+        s: usize,
+        t: usize,
+        x: u16,
+        w: u64,
+        want: u64,
+    ) -> Option<usize>
+        requires { (s < 64) × (t < 64) }
+        ensures { Finds self.now.searched.now.table.machine.transitions (MatchFits self.now.searched.now.table.machine self.now.searched.now.table.list.now b.now s t x w want) result }
+    {
+        self.find_into(
+            t,
+            |k|
+                requires { (k < self.now.searched.now.table.machine.transitions) × (s < 64) }
+                ensures { result ≡ match_test self.entry.now.searched.now.table.machine.marks self.entry.now.searched.now.table.list.now b.entry.now s x w want k }
+            { self.match_fits(b, s, x, w, want, k) },
+        )
+    }
+
+    // Whether transition k is taken by a letter in buffering mode, and a transition into t by this letter in emptying mode, so that both
+    // make the number that is wanted.
+    fn letter_fits(&self, b: &[u64; MOST_PAIRS], t: usize, want: u64, k: usize) -> bool
+        requires { (t < 64) × (k < self.now.searched.now.table.machine.transitions) }
+        ensures { Tried (LetterStep self.now.searched.now.table.machine self.now.searched.now.table.list.now b.now t want k) result }
+    {
+        let marks = &self.searched.table.machine.marks;
+        let u = self.searched.table.transition(k);
+        if u.letter == 0 {
+            return false;
         }
-        k = gather::wide(links[64 + k]);
-    }
-    k
-}
-
-// A transition into t by x in emptying mode, with the weight w, the storing half in s.
-fn find_match(
-    m: Machine,
-    list: &[u16],
-    links: &[u16; LINKS],
-    b: &[u64; MOST_PAIRS],
-    s: usize,
-    t: usize,
-    x: u16,
-    w: u64,
-    want: u64,
-) -> usize
-    requires { (well_formed m list.now ≡ true) × Into m list.now links.now × (s < 64) × (t < 64) }
-    ensures { Finds m.transitions (MatchFits m list.now b.now s t x w want) result }
-{
-    let mut k = gather::wide(links[t]);
-    while k < m.transitions {
-        if match_fits(&m.marks, list, b, s, x, w, want, k) {
-            return k;
+        if machine::both_matching(marks, u) {
+            return false;
         }
-        k = gather::wide(links[64 + k]);
-    }
-    k
-}
-
-// Whether transition k is taken by a letter in buffering mode, and a transition into t by this letter in emptying mode, so that both
-// make the number that is wanted.
-fn letter_fits(
-    m: Machine,
-    list: &[u16],
-    links: &[u16; LINKS],
-    b: &[u64; MOST_PAIRS],
-    t: usize,
-    want: u64,
-    k: usize,
-) -> bool
-    requires { (well_formed m list.now ≡ true) × Into m list.now links.now × (t < 64) × (k < m.transitions) }
-    ensures { Tried (LetterStep m list.now b.now t want k) result }
-{
-    let u = machine::transition_at(list, k);
-    if u.letter == 0 {
-        return false;
-    }
-    if machine::both_matching(&m.marks, u) {
-        return false;
-    }
-    if machine::is_buffering(&m.marks, u.to as usize) {
-        return false;
-    }
-    let j = find_match(m, list, links, b, u.from as usize, t, u.letter, PAIR, want);
-    if m.transitions <= j {
-        return false;
-    }
-    true
-}
-
-// A transition into s by a letter in buffering mode that has such a partner.
-fn find_letter(
-    m: Machine,
-    list: &[u16],
-    links: &[u16; LINKS],
-    b: &[u64; MOST_PAIRS],
-    s: usize,
-    t: usize,
-    want: u64,
-) -> usize
-    requires { (well_formed m list.now ≡ true) × Into m list.now links.now × (s < 64) × (t < 64) }
-    ensures { Finds m.transitions (LetterFits m list.now b.now s t want) result }
-{
-    let mut k = gather::wide(links[s]);
-    while k < m.transitions {
-        if letter_fits(m, list, links, b, t, want, k) {
-            return k;
+        if machine::is_buffering(marks, usize::from(u.to)) {
+            return false;
         }
-        k = gather::wide(links[64 + k]);
+        let j = self.find_match(b, usize::from(u.from), t, u.letter, PAIR, want);
+        j.is_some()
     }
-    k
-}
 
-// One move of the pair back from (s, t) along which its number is reached.
-pub fn back(
-    m: Machine,
-    list: &[u16],
-    links: &[u16; LINKS],
-    b: &[u64; MOST_PAIRS],
-    s: usize,
-    t: usize,
-) -> Halves
-    requires { (well_formed m list.now ≡ true) × Into m list.now links.now × (s < 64) × (t < 64) }
-    ensures { Backs m list.now b.now s t result.storing result.matching }
-{
-    let n = m.transitions;
-    let want = number(b, s, t);
-    let k = find_store(m, list, links, b, s, t, want);
-    if k < n {
-        return Halves {
-            storing: k,
-            matching: n,
+    // A transition into s by a letter in buffering mode that has such a partner.
+    fn find_letter(&self, b: &[u64; MOST_PAIRS], s: usize, t: usize, want: u64) -> Option<usize>
+        requires { (s < 64) × (t < 64) }
+        ensures { Finds self.now.searched.now.table.machine.transitions (LetterFits self.now.searched.now.table.machine self.now.searched.now.table.list.now b.now s t want) result }
+    {
+        self.find_into(
+            s,
+            |k|
+                requires { (k < self.now.searched.now.table.machine.transitions) × (t < 64) }
+                ensures { Tried (LetterStep self.entry.now.searched.now.table.machine self.entry.now.searched.now.table.list.now b.entry.now t want k) result }
+            { self.letter_fits(b, t, want, k) },
+        )
+    }
+
+    // One move of the pair back from (s, t) along which its number is reached.
+    pub fn back(&self, b: &[u64; MOST_PAIRS], s: usize, t: usize) -> Halves
+        requires { (s < 64) × (t < 64) }
+        ensures { Backs self.now.searched.now.table.machine self.now.searched.now.table.list.now b.now s t result.storing result.matching }
+    {
+        let want = number(b, s, t);
+        let storing = self.find_store(b, s, t, want);
+        if storing.is_some() {
+            return Halves {
+                storing,
+                matching: None,
+            };
+        }
+        let matching = self.find_match(b, s, t, 0, 1, want);
+        if matching.is_some() {
+            return Halves {
+                storing: None,
+                matching,
+            };
+        }
+        let Some(k) = self.find_letter(b, s, t, want) else {
+            return Halves {
+                storing: None,
+                matching: None,
+            };
         };
-    }
-    let j = find_match(m, list, links, b, s, t, 0, 1, want);
-    if j < n {
-        return Halves {
-            storing: n,
-            matching: j,
-        };
-    }
-    let l = find_letter(m, list, links, b, s, t, want);
-    if n <= l {
-        return Halves {
-            storing: n,
-            matching: n,
-        };
-    }
-    let u = machine::transition_at(list, l);
-    let i = find_match(m, list, links, b, u.from as usize, t, u.letter, PAIR, want);
-    Halves {
-        storing: l,
-        matching: i,
+        let u = self.searched.table.transition(k);
+        let matching = self.find_match(b, usize::from(u.from), t, u.letter, PAIR, want);
+        Halves {
+            storing: Some(k),
+            matching,
+        }
     }
 }

@@ -1,6 +1,7 @@
 // Writes a shortest word of a machine and its run, from the least weights.
 //
 // into     lists of the transitions that enter each state
+// traced   a searched table with its least weights and these lists
 // find     a transition, or a move of a pair, along which a number is reached exactly
 // put      entries and letters put in front of what is written
 // copy     a whole copy, walked back through a block
@@ -14,4 +15,5 @@ pub mod copy;
 pub mod find;
 pub mod into;
 pub mod put;
+pub mod traced;
 pub mod write;

@@ -1,5 +1,5 @@
 // Entries and letters put in front of what a run and a word have already.
-ghost use Rattle.std.specs.Prelude.{◌+◌, ◌≤◌, ◌<◌, length};
+ghost use Rattle.std.specs.Prelude.{◌+◌, ◌≤◌, length};
 ghost use Rattle.shortest.specs.Put.{PutReady, Put, Again, Unloaded};
 
 use blocks::sizes::MOST_PAIRS;
@@ -25,11 +25,7 @@ pub fn again(word: &mut [u8], i: usize, n: usize)
     requires { (n ≤ i) × (i + n ≤ length word.old) }
     ensures { Again word.old i n word.new }
 {
-    let mut k = n;
-    while 0 < k {
-        k -= 1;
-        word[i - n + k] = word[i + k];
-    }
+    word.copy_within(i..i + n, i - n);
 }
 
 // Puts the first c entries of later before place r, the first of them last.
@@ -37,9 +33,7 @@ pub fn unload(later: &[u16; MOST_PAIRS], c: usize, run: &mut [u16], r: usize)
     requires { (c ≤ 4096) × (c ≤ r) × (r ≤ length run.old) }
     ensures { Unloaded later.now c run.old r run.new }
 {
-    let mut k: usize = 0;
-    while k < c {
+    for k in 0..c {
         run[r - 1 - k] = later[k];
-        k += 1;
     }
 }

@@ -1,2 +1,1 @@
-pub mod SpellingCases
-pub mod Table
+pub mod WordCases

@@ -5,7 +5,7 @@
 -- SecondReady, SecondPart              == the same for the second machine's
 -- Splitting ..                         == the entries from k on are taken apart
 use Rattle.std.specs.Prelude.{ℕ, suc, ◌+◌, ◌/◌, ◌%◌, ◌≤◌, ◌<◌, ◌≡◌, ◌⊎◌, true, false, List, ◌++◌, length, get_or, set, drop}
-use Rattle.fsbm.specs.Machine.{transition_at, well_formed}
+use Rattle.fsbm.specs.Machine.{transition_at}
 use Rattle.fsbm.specs.Moves.{begin_buffering}
 use Rattle.fsbm.specs.Published.{Listed}
 use Rattle.fsbm.specs.declared.machine.Machine.{Machine}
@@ -16,7 +16,6 @@ pub mod Laws
 
 pub record FirstReady (m : Machine) (first list : List ℕ) (n e : ℕ) : Type 0 where
   pub some : 0 < n
-  pub good : well_formed m first ≡ true
   pub there : e < begin_buffering → Listed first m.transitions ((transition_at list e).from / n) (transition_at list e).letter ((transition_at list e).to / n)
 
 pub record FirstPart (m : Machine) (first list : List ℕ) (n e r : ℕ) : Type 0 where
@@ -25,7 +24,6 @@ pub record FirstPart (m : Machine) (first list : List ℕ) (n e r : ℕ) : Type 
 
 pub record SecondReady (m : Machine) (second list : List ℕ) (n e p : ℕ) (other : List ℕ) : Type 0 where
   pub some : 0 < n
-  pub good : well_formed m second ≡ true
   pub there : is_letter list e ≡ true → Listed second m.transitions ((transition_at list e).from % n) (transition_at list e).letter ((transition_at list e).to % n) × (0 < p)
   pub room : p ≤ length other
 

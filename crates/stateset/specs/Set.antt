@@ -12,9 +12,12 @@
 -- lowest_of x          == the lowest member of x, or width where x is empty
 -- SetIs r v P         == r is the number v, which is the set of the states p with P p
 -- Lowest x r          == r is the lowest member of x, or width where x is empty
+-- Taken x p r         == p is the lowest member of x, and r is the set x without it
+-- GivesLowest x o r   == a turn over the members of x gave the lowest and left r, or nothing, where x is empty
 use Rattle.std.specs.Prelude.{◌≡◌, ◌↔◌, Bool, cond, ℕ, zero, suc, ◌-◌, ◌/◌, ◌%◌, ◌^◌, ◌≤◌, ◌<◌, min, eqb, ltb}
 use Rattle.std.specs.Int.Bits.{bit_and, bit_or}
 use Rattle.std.specs.Int.Count.{count_trailing_zeros}
+use Rattle.std.specs.Prelude.{Option, MatchOption}
 pub mod Laws
 
 abbrev pub width : ℕ
@@ -59,3 +62,13 @@ pub record Lowest (x r : ℕ) : Type 0 where
   pub none : x ≡ 0 → r ≡ width
   pub member : 0 < x → In x r
   pub least : (p : ℕ) → p < r → In x p → ⊥
+
+pub record Taken (x p r : ℕ) : Type 0 where
+  pub some : 0 < x
+  pub state : p < width
+  pub lowest : Lowest x p
+  pub member : In x p
+  pub rest : SetIs r (removed x p) (λ q. In x q × (q ≡ p → ⊥))
+
+abbrev pub GivesLowest : ℕ → Option ℕ → ℕ → Type 0
+GivesLowest x o r = MatchOption o ((x ≡ 0) × (r ≡ 0)) (λ p. Taken x p r)

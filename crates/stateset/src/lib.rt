@@ -4,11 +4,16 @@
 
 #![tactic(auto)]
 
+mod iter;
+
 ghost use Rattle.std.specs.Prelude.{◌≡◌, ◌⊎◌, ◌<◌};
 ghost use Rattle.std.specs.Int.Bits.{bit_and, bit_or};
 ghost use Rattle.stateset.specs.Set.{width, In, has, added, removed, without, below, lowest_of, SetIs, Lowest};
 
-// A set of states.
+pub use iter::Members;
+
+// A set of states. It stays a plain number: the C interface lends lists of such numbers, and the sets that the calls take are stated as
+// numbers of 64 bits.
 pub type StateSet = u64;
 
 // How many states a set can hold.
@@ -93,4 +98,11 @@ pub fn lowest(set: StateSet) -> u32
     ensures { Lowest set result }
 {
     u64::trailing_zeros(set)
+}
+
+// The members of the set, from the lowest on.
+pub fn members(set: StateSet) -> Members
+    ensures { result.rest ≡ set }
+{
+    Members { rest: set }
 }

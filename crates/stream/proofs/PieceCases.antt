@@ -9,7 +9,6 @@
 use Prim.Native.Nat.{ℕ, ◌+◌, ◌*◌, ◌<◌, ◌≤◌}
 use mathlib.Core.Path.{◌≡◌, refl, sym, ap, ◌∙◌, subst}
 use mathlib.Core.List.{List, [], ◌∷◌, ◌++◌}
-use mathlib.Core.Bool.{true, false}
 use native.Mathlib.Omega.{arith}
 use native.Mathlib.Numerals.{add-one}
 use lib.ListN.{length, take, get_or, set, length-append}
@@ -22,13 +21,19 @@ use Rattle.columns.specs.Column.Laws.{column_length}
 use Rattle.fsbm.specs.declared.machine.Machine.{Machine}
 use Rattle.lines.specs.declared.Answer.{Answer}
 use Rattle.lines.specs.Line.{line_answer, answer_line}
-use Rattle.sheet.specs.declared.answers.Sheet.{Sheet}
-use Rattle.sheet.specs.Reading.{first_fault, read_answer, read_list}
+use Rattle.sheet.specs.Numbers.{fault_numbered}
+use Rattle.fsbm.specs.Answers.{number_of, refusal}
+use Rattle.fsbm.specs.Answers.Laws.{unless_ok, unless_err}
+use Rattle.fsbm.specs.declared.answer.Refusal.{Refusal}
+use Rattle.std.specs.Prelude.{None, Some, Ok, Err}
+use Rattle.basics.specs.Search.Loops.{first, second}
+use Rattle.stream.specs.declared.Opened.{Opened}
+use Rattle.sheet.specs.Reading.{first_fault, machine_of, read_answer, read_list}
 use Rattle.stream.specs.Listing.{word_line, header, sheet_refused, refused_sheet, most_words}
 use Rattle.stream.specs.Pieces.{Pending, most_kept, after_byte, after_piece, byte_prints, piece_prints, end_prints, opening}
 use Rattle.stream.specs.Pieces.Laws.{after_full, after_end, after_more, prints_full, prints_end, prints_more, after_one, prints_one, prints_length, byte_length, word_length}
 use Rattle.stream.specs.Pieces.Laws.{full_end, end_none, end_line, header_length, refused_length, opening_good, opening_bad}
-use Rattle.stream.specs.Whole.{number_read}
+use Rattle.stream.specs.Whole.{read_taken}
 use Rattle.stream.specs.Calls.{pending_of, ended, open_answer, Lent, ByteKept, ByteTaken, PieceTaken}
 use Rattle.stream.specs.declared.Held.{Held}
 use Rattle.stream.specs.declared.Taken.{Taken}
@@ -218,45 +223,36 @@ module _ (m : Machine) (list line out : List ℕ) (held : Held) where
 
 -- open
 
-module _ (s entry list out : List ℕ) (long : 12000 ≤ length entry) (r : Sheet) (read : (r ≡ read_answer s (length entry)) × (list ≡ read_list s entry)) where
-  e : r ≡ read_answer s (length entry)
-  e = read.0
+-- what open leaves
+abbrev pub Opens : List ℕ → List ℕ → List ℕ → Opened → List ℕ → List ℕ → Type 0
+Opens s entry out r list out' = (r ≡ open_answer s) × (list ≡ read_list s entry) × (out' ≡ put 0 out (opening s))
 
-  number_is : r.refusal.number ≡ first_fault s
-  number_is = ap (λ (x : Sheet). x.refusal.number) e ∙ number_read s (length entry) long
-
-  pub open_refused : (r.refusal.number ≡ 0 → ⊥) → (out' : List ℕ) → out' ≡ put 0 out (refused_sheet r.refusal.number)
-      → (record { machine = r.machine; used = 19; good = false } ≡ open_answer s (length entry)) × (list ≡ read_list s entry) × (out' ≡ put 0 out (opening s))
+module _ (s entry list out : List ℕ) (long : 12000 ≤ length entry) (list_is : list ≡ read_list s entry) (out' : List ℕ) where
+  pub open_refused : (f : Refusal) → Err f ≡ read_answer s (length entry) → out' ≡ put 0 out (refused_sheet (number_of f)) → Opens s entry out (record { table = None; used = 19 }) list out'
   unfolding open_answer
-  open_refused n out' f = (answer, read.1, f ∙ ap (put 0 out) opening_is)
+  open_refused f e w = (answer, list_is, w ∙ ap (put 0 out) opening_is)
     where
-      bad : first_fault s ≡ 0 → ⊥
-      bad z = n (number_is ∙ z)
+      fault : (first_fault s ≡ 0 → ⊥) × (f ≡ refusal (first_fault s))
+      fault = unless_err (first_fault s) (machine_of s) (e ∙ read_taken s (length entry) long)
 
-      opening_is : refused_sheet r.refusal.number ≡ opening s
-      opening_is = ap refused_sheet number_is ∙ opening_bad s bad
+      opening_is : refused_sheet (number_of f) ≡ opening s
+      opening_is = ap refused_sheet (ap number_of fault.1 ∙ (fault_numbered s).number fault.0) ∙ opening_bad s fault.0
 
-      answer : record { machine = r.machine; used = 19; good = false } ≡ open_answer s (length entry)
+      answer : record { table = None; used = 19 } ≡ open_answer s
       answer = λ j. record {
-        machine = ap (λ (x : Sheet). x.machine) e j;
-        used = (sym (refused_length r.refusal.number) ∙ ap length opening_is) j;
-        good = sym (ne_eqb (first_fault s) 0 bad) j;
+        table = second {r = None} (Some (machine_of s)) (ne_eqb (first_fault s) 0 fault.0) refl j;
+        used = (sym (refused_length (number_of f)) ∙ ap length opening_is) j;
       }
 
-  pub open_good : r.refusal.number ≡ 0 → (out' : List ℕ) → out' ≡ put 0 out header
-      → (record { machine = r.machine; used = 16; good = true } ≡ open_answer s (length entry)) × (list ≡ read_list s entry) × (out' ≡ put 0 out (opening s))
+  pub open_good : (m : Machine) → Ok m ≡ read_answer s (length entry) → out' ≡ put 0 out header → Opens s entry out (record { table = Some m; used = 16 }) list out'
   unfolding open_answer
-  open_good z out' f = (answer, read.1, f ∙ ap (put 0 out) opening_is)
+  open_good m e w = (answer, list_is, w ∙ ap (put 0 out) (opening_good s sound.0))
     where
-      good : first_fault s ≡ 0
-      good = sym number_is ∙ z
+      sound : (first_fault s ≡ 0) × (m ≡ machine_of s)
+      sound = unless_ok (first_fault s) (machine_of s) (e ∙ read_taken s (length entry) long)
 
-      opening_is : header ≡ opening s
-      opening_is = opening_good s good
-
-      answer : record { machine = r.machine; used = 16; good = true } ≡ open_answer s (length entry)
+      answer : record { table = Some m; used = 16 } ≡ open_answer s
       answer = λ j. record {
-        machine = ap (λ (x : Sheet). x.machine) e j;
-        used = (sym header_length ∙ ap length opening_is) j;
-        good = sym (eq-eqb (first_fault s) 0 good) j;
+        table = (ap (λ (x : Machine). Some x) sound.1 ∙ first None (eq-eqb (first_fault s) 0 sound.0) refl) j;
+        used = (sym header_length ∙ ap length (opening_good s sound.0)) j;
       }

@@ -2,15 +2,15 @@
 --
 -- pending_of line held == what is kept between pieces: the first bytes of the line buffer, and the number of words
 -- ended p             == after a line's end: no byte kept, one word and 16 bytes of output more
--- open_answer s len    == what open answers for a sheet and a list of this length
+-- open_answer s        == what open answers for a sheet: its table where it has no fault, and how much is printed
 -- Lent                == what take_byte needs of its buffers
 -- ByteKept            == what keep leaves
 -- ByteTaken           == what take_byte leaves
 -- PieceTaken          == what take_piece leaves
-use Rattle.std.specs.Prelude.{ℕ, ◌+◌, ◌≤◌, ◌≡◌, List, [], ◌∷◌, ◌++◌, length, take, eqb}
+use Rattle.std.specs.Prelude.{ℕ, ◌+◌, ◌≤◌, ◌≡◌, List, [], ◌∷◌, ◌++◌, length, take, cond, eqb, Some, None}
 use Rattle.basics.specs.Lists.{put}
 use Rattle.fsbm.specs.declared.machine.Machine.{Machine}
-use Rattle.sheet.specs.Reading.{first_fault, read_answer}
+use Rattle.sheet.specs.Reading.{first_fault, machine_of}
 use Rattle.stream.specs.Pieces.{Pending, most_kept, after_byte, after_piece, byte_prints, piece_prints, opening}
 use Rattle.stream.specs.declared.Held.{Held}
 use Rattle.stream.specs.declared.Taken.{Taken}
@@ -22,8 +22,8 @@ pending_of line held = record { bytes = take held.kept line; words = held.words 
 abbrev pub ended : Taken → Taken
 ended p = record { held = record { kept = 0; words = p.held.words + 1 }; used = p.used + 16 }
 
-unfoldable pub open_answer : List ℕ → ℕ → Opened
-open_answer s len = record { machine = (read_answer s len).machine; used = length (opening s); good = eqb (first_fault s) 0 }
+unfoldable pub open_answer : List ℕ → Opened
+open_answer s = record { table = cond (eqb (first_fault s) 0) (Some (machine_of s)) None; used = length (opening s) }
 
 -- the line buffer holds what is kept and no more, the output one line more
 pub record Lent (line out : List ℕ) (p : Taken) : Type 0 where

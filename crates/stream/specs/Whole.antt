@@ -5,9 +5,9 @@
 -- listing_of_pieces == the opening, what the pieces print and what the end prints are the listing of the joined pieces
 -- listing_refused  == of a sheet with a fault the opening is the whole listing
 -- prints_read, end_read == the table that read_sheet reads into a list of at least 12,000 elements prints the same
--- number_read      == for such a list the only refusal is the sheet's fault
+-- read_taken, number_read == for such a list the only refusal is the sheet's fault, and its number is that of the fault
 use Prim.Native.Nat.{ℕ, zero, suc, ◌+◌, ◌-◌, ◌*◌, ◌<◌, ◌≤◌}
-use Rattle.std.specs.Prelude.{◌≡◌, Bool, true, length, take, eqb}
+use Rattle.std.specs.Prelude.{◌≡◌, Bool, true, length, take, eqb, Option, None, Some, Result, Ok, Err}
 use Rattle.std.proofs.Math.Path.{refl, sym, ap}
 use Rattle.std.proofs.Common.{◌∙◌, add-one, le-leb, eq-eqb, ne_eqb}
 use mathlib.Core.List.{List, [], ◌∷◌, ◌++◌, append_assoc, append-nil, flatten}
@@ -17,13 +17,14 @@ use Rattle.std.proofs.Math.Decide.{dec_lt, ℕ_discrete}
 use Rattle.std.proofs.Math.ListN.{drop}
 use Rattle.std.proofs.Math.Seq.{take-nil}
 use Rattle.basics.specs.Search.Loops.{first, second}
-use Rattle.fsbm.specs.Answers.{refusal}
-use Rattle.fsbm.specs.Answers.{no_machine}
+use Rattle.fsbm.specs.Answers.{refusal, unless, by_refusal, machine_values}
+use Rattle.fsbm.specs.Answers.Laws.{unless_done, unless_refused}
 use Rattle.fsbm.specs.declared.machine.Machine.{Machine}
 use Rattle.fsbm.specs.declared.answer.Refusal.{Refusal}
 use Rattle.basics.specs.Each.Laws.{each_length}
 use Rattle.sheet.specs.Format.{transition_start}
 use Rattle.sheet.specs.Reading.{column_at, first_fault, numbers_in, machine_of, transitions_of, read_refusal, read_answer, read_list}
+use Rattle.sheet.specs.Numbers.{fault_numbered}
 use Rattle.sheet.specs.Reading.Laws.{no_fault}
 use Rattle.lines.specs.Line.{longest_line}
 use Rattle.stream.specs.Listing.{longer, lines_of, word_line, word_lines, header, refused_sheet, most_words, listing}
@@ -198,38 +199,44 @@ module _ (s : List ℕ) (good : first_fault s ≡ 0) where
   unfolding transitions_of numbers_in
   transitions_length = each_length 3 (λ k. numbers_in s (transition_start (column_at s 0) k)) (λ k. refl) (column_at s 10) ∙ omega arith
 
-  not_refused : (len : ℕ) → 12000 ≤ len → read_refusal s len ≡ refusal 0
+  not_refused : (len : ℕ) → 12000 ≤ len → read_refusal s len ≡ None
   unfolding read_refusal
   not_refused len long = let fits : column_at s 10 * 3 ≤ len = omega (arith, few) in sym (first _ (eq-eqb _ _ good) (first _ (le-leb _ _ fits) refl))
-
-  machine_read : (len : ℕ) → 12000 ≤ len → (read_answer s len).machine ≡ machine_of s
-  unfolding read_answer
-  machine_read len long = ap (λ (x : Refusal). cond (eqb x.number 0) (machine_of s) no_machine) (not_refused len long)
 
   module _ (entry : List ℕ) (long : 12000 ≤ length entry) where
     list_read : read_list s entry ≡ transitions_of s ++ drop (column_at s 10 * 3) entry
     unfolding read_list
-    list_read = ap (λ (x : Refusal). cond (eqb x.number 0) (transitions_of s ++ drop (column_at s 10 * 3) entry) entry) (not_refused (length entry) long)
+    list_read = ap (λ (x : Option Refusal). by_refusal x (transitions_of s ++ drop (column_at s 10 * 3) entry) (λ f. entry)) (not_refused (length entry) long)
 
     enough : (machine_of s).transitions * 3 ≤ length (transitions_of s)
     unfolding machine_of
     enough = omega (arith, transitions_length)
 
-    module _ (m : Machine) (list : List ℕ) (m-is : m ≡ (read_answer s (length entry)).machine) (list_is : list ≡ read_list s entry) where
+    module _ (m : Machine) (list : List ℕ) (m-is : m ≡ machine_of s) (list_is : list ≡ read_list s entry) where
       pub prints_read : (p : Pending) (x : List ℕ) → piece_prints m list p x ≡ piece_prints (machine_of s) (transitions_of s) p x
       prints_read p x =
-          ap (λ (z : Machine). piece_prints z list p x) (m-is ∙ machine_read (length entry) long)
+          ap (λ (z : Machine). piece_prints z list p x) m-is
           ∙ (ap (λ (z : List ℕ). piece_prints (machine_of s) z p x) (list_is ∙ list_read) ∙ prints_past (machine_of s) (transitions_of s) (drop (column_at s 10 * 3) entry) enough p x)
 
       pub end_read : (p : Pending) → end_prints m list p ≡ end_prints (machine_of s) (transitions_of s) p
       end_read p =
-          ap (λ (z : Machine). end_prints z list p) (m-is ∙ machine_read (length entry) long)
+          ap (λ (z : Machine). end_prints z list p) m-is
           ∙ (ap (λ (z : List ℕ). end_prints (machine_of s) z p) (list_is ∙ list_read) ∙ end_past (machine_of s) (transitions_of s) (drop (column_at s 10 * 3) entry) enough p)
 
-pub number_read : (s : List ℕ) (len : ℕ) → 12000 ≤ len → (read_answer s len).refusal.number ≡ first_fault s
+pub read_taken : (s : List ℕ) (len : ℕ) → 12000 ≤ len → read_answer s len ≡ unless (first_fault s) (Ok (machine_of s))
 unfolding read_answer read_refusal
-number_read s len long = at (ℕ_discrete (first_fault s) 0)
+read_taken s len long = at (ℕ_discrete (first_fault s) 0)
   where
-    at : Dec (first_fault s ≡ 0) → (read_refusal s len).number ≡ first_fault s
-    at (yes e) = ap (λ (x : Refusal). x.number) (not_refused s e len long) ∙ sym e
-    at (no n) = ap (λ (x : Refusal). x.number) (sym (second _ (ne_eqb _ _ n) refl))
+    chosen : Option Refusal → Result Machine Refusal
+    chosen o = by_refusal o (Ok (machine_of s)) (λ f. Err f)
+
+    at : Dec (first_fault s ≡ 0) → read_answer s len ≡ unless (first_fault s) (Ok (machine_of s))
+    at (yes e) = ap chosen (not_refused s e len long) ∙ unless_done _ _ e
+    at (no n) = ap chosen (sym (second {r = Some (refusal (first_fault s))} _ (ne_eqb _ _ n) refl)) ∙ unless_refused _ _ n
+
+pub number_read : (s : List ℕ) (len : ℕ) → 12000 ≤ len → (machine_values (read_answer s len)).refusal ≡ first_fault s
+number_read s len long = ap (λ (a : Result Machine Refusal). (machine_values a).refusal) (read_taken s len long) ∙ at (ℕ_discrete (first_fault s) 0)
+  where
+    at : Dec (first_fault s ≡ 0) → (machine_values (unless (first_fault s) (Ok (machine_of s)))).refusal ≡ first_fault s
+    at (yes e) = ap (λ (a : Result Machine Refusal). (machine_values a).refusal) (sym (unless_done (first_fault s) (Ok (machine_of s)) e)) ∙ sym e
+    at (no n) = ap (λ (a : Result Machine Refusal). (machine_values a).refusal) (sym (unless_refused (first_fault s) (Ok (machine_of s)) n)) ∙ (fault_numbered s).number n

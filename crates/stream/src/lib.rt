@@ -25,12 +25,11 @@ use stateset::StateSet;
 // The most words that are listed.
 pub const MOST_WORDS: usize = 99999;
 
-// The answer of open: the sheet's table, how many bytes of output there are, and whether the sheet is good.
+// The answer of open: the table of a sheet without fault, and how many bytes of output there are.
 #[derive(Clone, Copy)]
 pub struct Opened {
-    pub machine: Machine,
+    pub table: Option<Machine>,
     pub used: usize,
-    pub good: bool,
 }
 
 // What is held between two pieces: how many bytes of the present line are kept, and how many words are listed. Only this crate makes
@@ -53,10 +52,8 @@ fn copy(bytes: &[u8], out: &mut [u8])
     requires { length bytes.now ≤ length out.old }
     ensures { out.new ≡ put 0 out.old bytes.now }
 {
-    let mut i: usize = 0;
-    while i < bytes.len() {
-        out[i] = bytes[i];
-        i += 1;
+    for (i, b) in bytes.iter().enumerate() {
+        out[i] = *b;
     }
 }
 
@@ -84,24 +81,23 @@ fn write_header(out: &mut [u8])
 // Time: the sheet once. Memory: what is lent, and that of reading the sheet.
 pub fn open(sheet: &[u8], list: &mut [u16], out: &mut [u8]) -> Opened
     requires { (12000 ≤ length list.old) × (19 ≤ length out.old) }
-    ensures { (result ≡ open_answer sheet.now (length list.old)) × (list.new ≡ read_list sheet.now list.old) × (out.new ≡ put 0 out.old (opening sheet.now)) }
+    ensures { (result ≡ open_answer sheet.now) × (list.new ≡ read_list sheet.now list.old) × (out.new ≡ put 0 out.old (opening sheet.now)) }
 {
-    let read = sheet_reader::read_sheet(sheet, list);
-    let number = read.refusal.number;
-    let machine = read.machine;
-    if number != 0 {
-        write_refused(number, out);
-        return Opened {
-            machine,
-            used: 19,
-            good: false,
-        };
-    }
-    write_header(out);
-    Opened {
-        machine,
-        used: 16,
-        good: true,
+    match sheet_reader::read_sheet(sheet, list) {
+        Ok(machine) => {
+            write_header(out);
+            Opened {
+                table: Some(machine),
+                used: 16,
+            }
+        }
+        Err(refusal) => {
+            write_refused(refusal.number(), out);
+            Opened {
+                table: None,
+                used: 19,
+            }
+        }
     }
 }
 
@@ -217,12 +213,8 @@ pub fn take_piece(
     ensures working { Working m targets.now kinds rows.new steps.new sets.new }
 {
     let mut p = Taken { held, used: 0 };
-    let mut i: usize = 0;
-    while i < piece.len() {
-        p = take_byte(
-            m, list, targets, kinds, piece[i], line, out, p, rows, steps, sets,
-        );
-        i += 1;
+    for b in piece {
+        p = take_byte(m, list, targets, kinds, *b, line, out, p, rows, steps, sets);
     }
     p
 }

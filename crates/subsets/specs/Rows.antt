@@ -11,9 +11,9 @@
 -- Right G columns rows steps    == each step that is kept leads to the set that its row's set leads to
 -- Kept G columns rows steps     == both
 -- Found columns rows steps T c set row r == row is the row of the set, and its step by mode T and column c is r, which is not 0
--- Rowed columns rows steps rows' steps' set r == r is 0 or the row of the set in what is kept then; what was right is right
+-- Rowed columns rows steps rows' steps' set r == r is none or the row of the set in what is kept then; what was right is right
 -- Noted columns rows steps steps' T c set to == what was right is right with one step more, if by mode T and column c the set leads to the set to
-use Rattle.std.specs.Prelude.{ℕ, suc, ◌+◌, ◌*◌, ◌≤◌, ◌<◌, ◌≡◌, ◌⊎◌, List, length, get_or}
+use Rattle.std.specs.Prelude.{ℕ, suc, ◌+◌, ◌*◌, ◌≤◌, ◌<◌, ◌≡◌, ◌⊎◌, List, length, get_or, Option, IfSome}
 use Rattle.stateset.specs.Set.{In}
 use Rattle.fsbm.specs.Moves.{mode_number}
 use Rattle.fsbm.specs.declared.config.Mode.{Mode}
@@ -76,8 +76,8 @@ pub record Found (columns : ℕ) (rows steps : List ℕ) (T : Mode) (c set row r
   pub own : HasRow rows set row
   pub step : r ≡ get_or steps (cell_of columns row T c) 0
 
-pub record Rowed (columns : ℕ) (rows steps rows' steps' : List ℕ) (set r : ℕ) : Type 0 where
-  pub row : (r ≡ 0) ⊎ HasRow rows' set r
+pub record Rowed (columns : ℕ) (rows steps rows' steps' : List ℕ) (set : ℕ) (r : Option ℕ) : Type 0 where
+  pub row : IfSome r (HasRow rows' set)
   pub sized : Sized columns rows' steps'
   pub right : (G : Graph) → Right G columns rows steps → Right G columns rows' steps'
 

@@ -2,19 +2,18 @@
 --
 -- filling_placed               == the positions from p on, once the rows of p were put into the tables
 -- onward_best, begins_some     == what fill_position hands on
--- blank_best, unreached_best, unreached_none == the rows of a position that no run reaches
--- filled_end                   == the end of the loop of fill
+-- blank_best, unreached_best   == the rows of a position that no run reaches
+-- zero_at                      == the counts that fill begins with
 use Prim.Native.Nat.{ℕ, zero, suc, ◌+◌, ◌-◌, ◌*◌, ◌≤◌, ◌<◌}
 use mathlib.Core.Path.{◌≡◌, refl, sym, ap, ◌∙◌, subst}
 use mathlib.Core.Logic.{◌⊎◌, inl, inr}
-use mathlib.Core.Bool.{true, false, false≢true}
+use mathlib.Core.Bool.{false, false≢true}
 use mathlib.Core.List.{List, []}
 use native.Mathlib.Omega.{arith}
 use native.Mathlib.Decide.{ℕ_discrete, dec_lt}
 use lib.ListN.{length, get_or, set, drop, length-set, replicate, get_or-replicate, get_or-eq_default}
 use lib.Bits.{bit_and}
 use lib.Seq.{slice, get_or-set_same, get_or-set_other}
-use Rattle.basics.specs.Search.Laws.{true_or_false}
 use Rattle.stateset.specs.Set.{In, below, SetIs}
 use Rattle.stateset.specs.Set.Laws.{empty_in}
 use Rattle.fsbm.specs.declared.machine.Machine.{Machine}
@@ -24,9 +23,11 @@ use Rattle.layers.specs.Costs.{RowBest}
 use Rattle.layers.specs.Rows.{Given}
 use Rattle.layers.specs.Layers.{blank_row, NoneBelow, Begins, PositionBest}
 use Rattle.layers.specs.declared.layer.Position.{Position}
-use Rattle.layers.specs.Layers.Laws.{blank_none, blank_position, none_best}
+use Rattle.layers.specs.Layers.Laws.{blank_position, none_best}
+use Rattle.tables.specs.declared.ends.Left.{Left}
+use Rattle.tables.specs.declared.ends.Left.TheVariants.{Kept, Blank}
 use Rattle.tables.specs.Halves.{SharedFrom}
-use Rattle.tables.specs.Tables.{near_of, row_at, PositionRows, EmptyRow, EndRow, EndRows, put_position, Placed, Filling, AllRows}
+use Rattle.tables.specs.Tables.{near_of, row_at, PositionRows, EmptyRow, EndRow, EndRows, put_position, Placed, Filling}
 use Rattle.tables.specs.Tables.Laws.{empty_start, blank_on, nears, position_before}
 use Rattle.tables.proofs.CopyCases.{row_same, row_other}
 
@@ -89,9 +90,9 @@ module _ (m : Machine) (list sets w : List ℕ) (p : ℕ) (position : Position) 
       subst (EmptyRow m list sets w p 0) (ap (λ (z : List (List ℕ)). row_at z (p * 3 + 2)) is ∙ put_emptying t p position room) (empty_start m list sets w t' p (placed_here t p position room m list sets w t' is best))
 
   -- the ends from p on, from those after p
-  ends_from : (ends ends' : List (List ℕ)) (left left' : List ℕ) (k : ℕ) → length w < length ends → length w < length left → length ends' ≡ length ends
+  ends_from : (ends ends' : List (List ℕ)) (left left' : List Left) (k : Left) → length w < length ends → length w < length left → length ends' ≡ length ends
       → ((j : ℕ) → (j ≡ p → ⊥) → row_at ends' j ≡ row_at ends j) → left' ≡ set left p k → EndRow m list sets w p (row_at ends' p) k
-      → ((e : ℕ) → p + 1 ≤ e → e ≤ length w → EndRow m list sets w e (row_at ends e) (get_or left e 0)) → EndRows m list sets w p ends' left'
+      → ((e : ℕ) → p + 1 ≤ e → e ≤ length w → EndRow m list sets w e (row_at ends e) (get_or left e (Kept 0))) → EndRows m list sets w p ends' left'
   ends_from ends ends' left left' k in-ends in_left size others left_is row after =
       record {
         rows = omega arith;
@@ -99,37 +100,34 @@ module _ (m : Machine) (list sets w : List ℕ) (p : ℕ) (position : Position) 
         each = λ j a b. at j a b (ℕ_discrete j p);
       }
     where
-      at : (j : ℕ) → p ≤ j → j ≤ length w → Dec (j ≡ p) → EndRow m list sets w j (row_at ends' j) (get_or left' j 0)
+      at : (j : ℕ) → p ≤ j → j ≤ length w → Dec (j ≡ p) → EndRow m list sets w j (row_at ends' j) (get_or left' j (Kept 0))
       at j a b (yes z) =
-          let same = ap (λ (l : List ℕ). get_or l p 0) left_is ∙ get_or-set_same left p k 0 (omega arith) in
-          rw (z, same) row
+          let same = ap (λ (l : List Left). get_or l p (Kept 0)) left_is ∙ get_or-set_same left p k (Kept 0) (omega arith) in
+          subst (λ (i : ℕ). EndRow m list sets w i (row_at ends' i) (get_or left' i (Kept 0))) (sym z) (subst (EndRow m list sets w p (row_at ends' p)) (sym same) row)
       at j a b (no z) =
-          let same = ap (λ (l : List ℕ). get_or l j 0) left_is ∙ get_or-set_other left p j k 0 z in
-          let row_same = others j z in
-          rw (same, row_same) (after j (omega arith) b)
+          let same = ap (λ (l : List Left). get_or l j (Kept 0)) left_is ∙ get_or-set_other left p j k (Kept 0) z in
+          subst (EndRow m list sets w j (row_at ends' j)) (sym same) (subst (λ (r : List ℕ). EndRow m list sets w j r (get_or left j (Kept 0))) (sym (others j z)) (after j (omega arith) b))
 
   blank_row_lem : Rules m list → PositionBest m list (near_of m w sets) (drop p w) position.normal position.buffering position.emptying → NoneBelow m.states position.emptying → EmptyRow m list sets w p 0 blank_row
   unfolding EmptyRow
   blank_row_lem rules best none = none_best m list rules (near_of m w sets) (drop (p - 0) w) (slice (p - 0) p w) Emptying position.emptying none (end_here best)
 
-  pub filling_placed : Rules m list → (ends ends' : List (List ℕ)) (left left' counts : List ℕ) → length w < length ends → length w < length left
-      → ((k : ℕ) → p + 1 ≤ k → k ≤ length w → PositionRows m list sets w t k) → ((e : ℕ) → p + 1 ≤ e → e ≤ length w → EndRow m list sets w e (row_at ends e) (get_or left e 0))
-      → SharedFrom w p counts → PositionBest m list (near_of m w sets) (drop p w) position.normal position.buffering position.emptying → (position.ends ≡ false → NoneBelow m.states position.emptying)
-      → Placed p position t t' ends ends' left left' → Filling m list sets w p t' ends' left' counts
-  filling_placed rules ends ends' left left' counts in-ends in_left after after-ends counted best none placed =
-      record { positions = long; each = each_position best after; ending = on (true_or_false position.ends); counted = counted }
+  pub filling_placed : Rules m list → (ends ends' : List (List ℕ)) (left left' : List Left) (counts : List ℕ) → length w < length ends → length w < length left
+      → ((k : ℕ) → p + 1 ≤ k → k ≤ length w → PositionRows m list sets w t k) → ((e : ℕ) → p + 1 ≤ e → e ≤ length w → EndRow m list sets w e (row_at ends e) (get_or left e (Kept 0)))
+      → SharedFrom w p counts → PositionBest m list (near_of m w sets) (drop p w) position.normal position.buffering position.emptying
+      → Placed m.states p position t t' ends ends' left left' → Filling m list sets w p t' ends' left' counts
+  filling_placed rules ends ends' left left' counts in-ends in_left after after-ends counted best placed =
+      record { positions = long; each = each_position best after; ending = on placed.ending; counted = counted }
     where
-      on : (position.ends ≡ true) ⊎ (position.ends ≡ false) → EndRows m list sets w p ends' left'
-      on (inl g) =
-          let (ends_is, left_is) = placed.going g in
+      on : ((ends' ≡ set ends p position.emptying) × (left' ≡ set left p (Kept 0))) ⊎ (NoneBelow m.states position.emptying × (ends' ≡ ends) × (left' ≡ set left p (Blank 0))) → EndRows m list sets w p ends' left'
+      on (inl (ends_is, left_is)) =
           let here = row_same ends ends' p position.emptying (omega arith) ends_is in
           let row : EmptyRow m list sets w p 0 (row_at ends' p) = subst (EmptyRow m list sets w p 0) (sym here) (end_here best) in
-          ends_from ends ends' left left' 0 in-ends in_left (ap length ends_is ∙ length-set ends p position.emptying) (λ j n. row_other ends ends' p j position.emptying n ends_is) left_is
-          (record { best = λ l. (omega arith, row); blank = λ (l : 256 ≤ 0). absurd (omega arith) }) after-ends
-      on (inr f) =
-          let (ends_is, left_is) = placed.dead f in
-          ends_from ends ends' left left' 256 in-ends in_left (ap length ends_is) (λ j n. ap (λ (z : List (List ℕ)). row_at z j) ends_is) left_is
-          (record { best = λ (l : 256 < 256). absurd (omega arith); blank = λ l. blank_on m list sets w rules p 0 le (blank_row_lem rules best (none f)) }) after-ends
+          ends_from ends ends' left left' (Kept 0) in-ends in_left (ap length ends_is ∙ length-set ends p position.emptying) (λ j n. row_other ends ends' p j position.emptying n ends_is) left_is
+          (omega arith, row) after-ends
+      on (inr (none, ends_is, left_is)) =
+          ends_from ends ends' left left' (Blank 0) in-ends in_left (ap length ends_is) (λ j n. ap (λ (z : List (List ℕ)). row_at z j) ends_is) left_is
+          (blank_on m list sets w rules p 0 le (blank_row_lem rules best none)) after-ends
 
 module _ (m : Machine) (list sets w : List ℕ) where
   pub onward_best : (t : List (List ℕ)) (p : ℕ) → PositionRows m list sets w t p → (row : List ℕ) → row ≡ row_at t (p * 3) → RowBest m list (near_of m w sets) (drop p w) [] Normal row
@@ -153,23 +151,10 @@ module _ (m : Machine) (list sets w : List ℕ) where
       on zero i = absurd (empty_in some.state i)
       on (suc x) i = omega arith
 
-  pub filled_end : (p : ℕ) (t ends : List (List ℕ)) (left counts : List ℕ) → p ≤ 0 → Filling m list sets w p t ends left counts → AllRows m list sets w t
-  filled_end p t ends left counts z f k le = f.each k (omega arith) le
-
-  pub filling_before : (p : ℕ) (t ends : List (List ℕ)) (left counts : List ℕ) → 0 < p → Filling m list sets w p t ends left counts → Filling m list sets w (p - 1 + 1) t ends left counts
-  filling_before p t ends left counts pos f = subst (λ (k : ℕ). Filling m list sets w k t ends left counts) (back p pos) f
-    where
-      back : (p : ℕ) → 0 < p → p ≡ p - 1 + 1
-      back p pos = omega arith
-
 -- the rows that unreached hands back
-pub unreached_best : (m : Machine) (list sets w : List ℕ) (p : ℕ) {position : Position} → position ≡ record { normal = blank_row; buffering = blank_row; emptying = blank_row; ends = false }
+pub unreached_best : (m : Machine) (list sets w : List ℕ) (p : ℕ) {position : Position} → position ≡ record { normal = blank_row; buffering = blank_row; emptying = blank_row }
     → PositionBest m list (near_of m w sets) (drop p w) blank_row blank_row blank_row → PositionBest m list (near_of m w sets) (drop p w) position.normal position.buffering position.emptying
 unreached_best m list sets w p e best = subst (λ (z : Position). PositionBest m list (near_of m w sets) (drop p w) z.normal z.buffering z.emptying) (sym e) best
-
-pub unreached_none : (m : Machine) (list : List ℕ) → Rules m list → (position : Position) → position ≡ record { normal = blank_row; buffering = blank_row; emptying = blank_row; ends = false } → position.ends ≡ false
-    → NoneBelow m.states position.emptying
-unreached_none m list r position e f = subst (λ (z : Position). NoneBelow m.states z.emptying) (sym e) (blank_none m list r)
 
 abbrev zeros : List ℕ
 zeros = replicate 128 0

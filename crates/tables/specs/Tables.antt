@@ -7,25 +7,25 @@
 -- PositionRows m list sets w t p      == the rows p × 3, p × 3 + 1, p × 3 + 2 of t are those of position p: normal, buffering, emptying, the buffer empty
 -- EmptyRow m list sets w e r row   == the row of emptying mode at e - r, with the r letters that stand before e still in the buffer
 -- BufferRow m list sets w i d row  == the row of buffering mode at i + d, with the d letters from i on in the buffer
--- BlankUnlessLive layer                  == where a layer is not live, its row is blank
--- EmptyLayer, BufferLayer     == EmptyRow and BufferRow of a layer, and BlankUnlessLive
--- ChangeLayer m list sets w i d layer == the same of emptying mode at i + d, with the d letters from i on in the buffer
+-- ChangeLayer m list sets w i d layer == the row of emptying mode at i + d, with the d letters from i on in the buffer; a layer that is None
+--                                is a blank row
 -- EmptyingRows, BufferingRows == all rows of a copy: of its second half, of its first half
 -- BlankFrom m list sets w e k      == the rows of the copies that end at e are blank from k letters on
 -- Extended m list sets w e d tail row == the row of the copies that end at e with d letters left, or from where on their rows are blank
--- EndRow m list sets w e row k     == row is that of the copies that end at e with k letters left; 256 + k: from k letters on they are blank
+-- EndRow m list sets w e row left  == row is that of the copies that end at e with as many letters left as are kept, or from so many letters on they are blank
 -- EndRows m list sets w p ends left   == ends and left say this of every end from p on
+-- BlankBy left k              == the rows with k letters left are known to be blank
 -- Fruitless w i left k             == no copy of the k letters from i on goes on: they do not stand there twice, or left says that its end is blank
 -- Skipped w i d left r        == those of r + 1, .., d letters are fruitless
 -- EndedRow, ChangedRow, StoredRow, StoringRow == what ended_row, change_row, stored_row and storing_row hand back
 -- Sizes w t ends left         == the tables that rows are filled into are long enough for the word
 -- Sized w t emptied stored    == the tables that a run is walked with are long enough for the word
 -- put_position t p position          == the table with the rows of position p put in
--- Placed p position t t' ends ends' left left' == the rows of position p were put into the tables
+-- Placed states p position t t' ends ends' left left' == the rows of position p were put into the tables
 -- StartingRow .. i starts ends left layer == the row of the copies that begin at i, where they begin in some states
 -- Filling m list sets w p t ends left counts == the positions from p on have their rows, and what the position before p needs is there
 -- AllRows m list sets w t           == every position has its rows
-use Rattle.std.specs.Prelude.{ℕ, ◌+◌, ◌-◌, ◌*◌, ◌/◌, ◌≤◌, ◌<◌, ◌≡◌, ◌⊎◌, true, false, List, [], length, get_or, drop, set}
+use Rattle.std.specs.Prelude.{ℕ, ◌+◌, ◌-◌, ◌*◌, ◌/◌, ◌≤◌, ◌<◌, ◌≡◌, ◌⊎◌, Option, Result, Ok, Err, List, [], length, get_or, drop, set}
 use Rattle.std.proofs.Math.Seq.{slice}
 use Rattle.std.specs.Int.Bits.{bit_and}
 use Rattle.stateset.specs.Set.{below}
@@ -34,12 +34,13 @@ use Rattle.fsbm.specs.declared.machine.Machine.{Machine}
 use Rattle.fsbm.specs.declared.config.Mode.TheVariants.{Buffering, Emptying}
 use Rattle.layers.specs.Costs.{RowBest}
 use Rattle.layers.specs.Rows.{Given}
-use Rattle.layers.specs.Layers.{blank_row, BufferingLayer, PositionBest}
-use Rattle.tables.specs.declared.copy.Layer.{Layer}
+use Rattle.layers.specs.Layers.{blank_row, row_of, NoneBelow, BufferingLayer, PositionBest}
 use Rattle.layers.specs.declared.layer.Position.{Position}
+use Rattle.tables.specs.declared.ends.Left.{Left}
+use Rattle.tables.specs.declared.ends.Left.TheVariants.{Kept, Blank}
 use Rattle.tables.specs.Halves.{Halves, SharedFrom}
-use Rattle.tables.specs.declared.copy.Tail.{Tail}
 pub mod Laws
+pub mod Once
 
 abbrev pub row_at : List (List ℕ) → ℕ → List ℕ
 row_at rows i = get_or rows i []
@@ -69,64 +70,54 @@ pub record BufferingRows (m : Machine) (list sets w : List ℕ) (i : ℕ) (store
   pub size : length stored' ≡ length stored
   pub each : (d : ℕ) → 0 < d → i + d + d ≤ length w → BufferRow m list sets w i d (row_at stored' d)
 
-abbrev pub BlankUnlessLive : Layer → Type 0
-BlankUnlessLive layer = layer.live ≡ false → layer.row ≡ blank_row
-
-pub record EmptyLayer (m : Machine) (list sets w : List ℕ) (e r : ℕ) (layer : Layer) : Type 0 where
-  pub best : EmptyRow m list sets w e r layer.row
-  pub told : BlankUnlessLive layer
-
-pub record BufferLayer (m : Machine) (list sets w : List ℕ) (i d : ℕ) (layer : Layer) : Type 0 where
-  pub best : BufferRow m list sets w i d layer.row
-  pub told : BlankUnlessLive layer
-
 -- the row after the change of mode, at i + d with the d letters from i on in the buffer
-pub record ChangeLayer (m : Machine) (list sets w : List ℕ) (i d : ℕ) (layer : Layer) : Type 0 where
-  pub best : RowBest m list (near_of m w sets) (drop (i + d) w) (slice i (i + d) w) Emptying layer.row
-  pub told : BlankUnlessLive layer
+abbrev pub ChangeLayer : Machine → List ℕ → List ℕ → List ℕ → ℕ → ℕ → Option (List ℕ) → Type 0
+ChangeLayer m list sets w i d layer = RowBest m list (near_of m w sets) (drop (i + d) w) (slice i (i + d) w) Emptying (row_of layer)
 
 abbrev pub BlankFrom : Machine → List ℕ → List ℕ → List ℕ → ℕ → ℕ → Type 0
 BlankFrom m list sets w e k = (r : ℕ) → k ≤ r → r ≤ e → EmptyRow m list sets w e r blank_row
 
-pub record Extended (m : Machine) (list sets w : List ℕ) (e d : ℕ) (tail : Tail) (row : List ℕ) : Type 0 where
-  pub whole : tail.live ≡ true → (tail.left ≡ d) × EmptyRow m list sets w e d row
-  pub inside : tail.left ≤ d
-  pub blank : tail.live ≡ false → BlankFrom m list sets w e tail.left
+abbrev pub Extended : Machine → List ℕ → List ℕ → List ℕ → ℕ → ℕ → Result (Unit {0}) ℕ → List ℕ → Type 0
+Extended m list sets w e d (Ok done) row = EmptyRow m list sets w e d row
+Extended m list sets w e d (Err k) row = (k ≤ d) × BlankFrom m list sets w e k
 
-pub record EndRow (m : Machine) (list sets w : List ℕ) (e : ℕ) (row : List ℕ) (k : ℕ) : Type 0 where
-  pub best : k < 256 → (k ≤ e) × EmptyRow m list sets w e k row
-  pub blank : 256 ≤ k → BlankFrom m list sets w e (k - 256)
+abbrev pub EndRow : Machine → List ℕ → List ℕ → List ℕ → ℕ → List ℕ → Left → Type 0
+EndRow m list sets w e row (Kept k) = (k ≤ e) × EmptyRow m list sets w e k row
+EndRow m list sets w e row (Blank k) = BlankFrom m list sets w e k
 
-pub record EndRows (m : Machine) (list sets w : List ℕ) (p : ℕ) (ends : List (List ℕ)) (left : List ℕ) : Type 0 where
+pub record EndRows (m : Machine) (list sets w : List ℕ) (p : ℕ) (ends : List (List ℕ)) (left : List Left) : Type 0 where
   pub rows : length w < length ends
   pub counts : length w < length left
-  pub each : (e : ℕ) → p ≤ e → e ≤ length w → EndRow m list sets w e (row_at ends e) (get_or left e 0)
+  pub each : (e : ℕ) → p ≤ e → e ≤ length w → EndRow m list sets w e (row_at ends e) (get_or left e (Kept 0))
 
-abbrev pub Fruitless : List ℕ → ℕ → List ℕ → ℕ → Type 0
-Fruitless w i left k = (Halves w i k → ⊥) ⊎ (Halves w i k × (256 ≤ get_or left (i + k + k) 0) × (get_or left (i + k + k) 0 ≤ 256 + k))
+abbrev pub BlankBy : Left → ℕ → Type 0
+BlankBy (Kept n) k = ⊥
+BlankBy (Blank n) k = n ≤ k
 
-pub record Skipped (w : List ℕ) (i d : ℕ) (left : List ℕ) (r : ℕ) : Type 0 where
+abbrev pub Fruitless : List ℕ → ℕ → List Left → ℕ → Type 0
+Fruitless w i left k = (Halves w i k → ⊥) ⊎ (Halves w i k × BlankBy (get_or left (i + k + k) (Kept 0)) k)
+
+pub record Skipped (w : List ℕ) (i d : ℕ) (left : List Left) (r : ℕ) : Type 0 where
   pub within : r ≤ d
   pub fruitless : (k : ℕ) → r < k → k ≤ d → Fruitless w i left k
 
-pub record EndedRow (m : Machine) (list sets w : List ℕ) (e d : ℕ) (ends ends' : List (List ℕ)) (left left' : List ℕ) (layer : Layer) : Type 0 where
-  pub row : EmptyLayer m list sets w e d layer
+pub record EndedRow (m : Machine) (list sets w : List ℕ) (e d : ℕ) (ends ends' : List (List ℕ)) (left left' : List Left) (layer : Option (List ℕ)) : Type 0 where
+  pub row : EmptyRow m list sets w e d (row_of layer)
   pub kept : (p : ℕ) → EndRows m list sets w p ends left → EndRows m list sets w p ends' left'
 
-pub record ChangedRow (m : Machine) (list sets w : List ℕ) (i d : ℕ) (ends : List (List ℕ)) (left : List ℕ) (layer : Layer) : Type 0 where
+pub record ChangedRow (m : Machine) (list sets w : List ℕ) (i d : ℕ) (ends : List (List ℕ)) (left : List Left) (layer : Option (List ℕ)) : Type 0 where
   pub row : ChangeLayer m list sets w i d layer
   pub ending : EndRows m list sets w (i + 1) ends left
 
-pub record StoredRow (m : Machine) (list : List ℕ) (x : ℕ) (next change layer : Layer) : Type 0 where
-  pub best : BlankUnlessLive next → BlankUnlessLive change → BufferingLayer m list x next.row change.row layer.row
-  pub told : BlankUnlessLive next → BlankUnlessLive layer
+abbrev pub StoredRow : Machine → List ℕ → ℕ → Option (List ℕ) → Option (List ℕ) → Option (List ℕ) → Type 0
+StoredRow m list x next change layer = BufferingLayer m list x (row_of next) (row_of change) (row_of layer)
 
-pub record StoringRow (m : Machine) (list sets w : List ℕ) (i : ℕ) (ends : List (List ℕ)) (left : List ℕ) (layer : Layer) : Type 0 where
-  pub row : BufferLayer m list sets w i 1 layer
+pub record StoringRow (m : Machine) (list sets w : List ℕ) (i : ℕ) (ends : List (List ℕ)) (left : List Left) (layer : Option (List ℕ)) : Type 0 where
+  pub row : BufferRow m list sets w i 1 (row_of layer)
   pub ending : EndRows m list sets w (i + 1) ends left
 
 -- the tables that rows are filled into are long enough for the word
-pub record Sizes (w : List ℕ) (t ends : List (List ℕ)) (left : List ℕ) : Type 0 where
+pub record Sizes (w : List ℕ) (t ends : List (List ℕ)) (left : List Left) : Type 0 where
   pub positions : length w * 3 + 3 ≤ length t
   pub rows : length w < length ends
   pub counts : length w < length left
@@ -141,18 +132,17 @@ abbrev pub put_position : List (List ℕ) → ℕ → Position → List (List �
 put_position t p position = set (set (set t (p * 3) position.normal) (p * 3 + 1) position.buffering) (p * 3 + 2) position.emptying
 
 -- the row of a position, and what the copies that end there begin with, were put into the tables
-pub record Placed (p : ℕ) (position : Position) (t t' ends ends' : List (List ℕ)) (left left' : List ℕ) : Type 0 where
+pub record Placed (states p : ℕ) (position : Position) (t t' ends ends' : List (List ℕ)) (left left' : List Left) : Type 0 where
   pub put : t' ≡ put_position t p position
-  pub going : position.ends ≡ true → (ends' ≡ set ends p position.emptying) × (left' ≡ set left p 0)
-  pub dead : position.ends ≡ false → (ends' ≡ ends) × (left' ≡ set left p 256)
+  pub ending : ((ends' ≡ set ends p position.emptying) × (left' ≡ set left p (Kept 0))) ⊎ (NoneBelow states position.emptying × (ends' ≡ ends) × (left' ≡ set left p (Blank 0)))
 
 -- where copies begin at i in some states: the row of those that begin there
-pub record StartingRow (m : Machine) (list sets w : List ℕ) (i starts : ℕ) (ends : List (List ℕ)) (left : List ℕ) (layer : Layer) : Type 0 where
-  pub row : 0 < starts → BufferRow m list sets w i 1 layer.row
+pub record StartingRow (m : Machine) (list sets w : List ℕ) (i starts : ℕ) (ends : List (List ℕ)) (left : List Left) (layer : Option (List ℕ)) : Type 0 where
+  pub row : 0 < starts → BufferRow m list sets w i 1 (row_of layer)
   pub ending : EndRows m list sets w (i + 1) ends left
 
 -- the positions from p on have their rows; ends and left stand for the copies that end there, counts for the letters from p on
-pub record Filling (m : Machine) (list sets w : List ℕ) (p : ℕ) (t ends : List (List ℕ)) (left counts : List ℕ) : Type 0 where
+pub record Filling (m : Machine) (list sets w : List ℕ) (p : ℕ) (t ends : List (List ℕ)) (left : List Left) (counts : List ℕ) : Type 0 where
   pub positions : length w * 3 + 3 ≤ length t
   pub each : (k : ℕ) → p ≤ k → k ≤ length w → PositionRows m list sets w t k
   pub ending : EndRows m list sets w p ends left

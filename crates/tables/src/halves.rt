@@ -10,14 +10,7 @@ pub fn halves_match(word: &[u8], i: usize, d: usize) -> bool
     requires { i + d + d ≤ length word.now }
     ensures { Matched word.now i d result }
 {
-    let mut k: usize = 0;
-    while k < d {
-        if word[i + k] != word[i + d + k] {
-            return false;
-        }
-        k += 1;
-    }
-    true
+    word[i..i + d] == word[i + d..i + d + d]
 }
 
 // How many letters from i on are those that stand d later, from how many they are from i + 1 on.
@@ -37,13 +30,7 @@ pub fn count_shared(word: &[u8], i: usize, counts: &mut [u16; HALVES])
     requires { (i < length word.now) × (length word.now ≤ 255) × SharedFrom word.now (i + 1) counts.old }
     ensures { SharedFrom word.now i counts.new }
 {
-    let room = word.len() - i;
-    let mut d: usize = 1;
-    while d < 128 {
-        if room <= d {
-            return;
-        }
+    for d in 1..HALVES.min(word.len() - i) {
         counts[d] = longer(word, i, d, counts[d]);
-        d += 1;
     }
 }

@@ -1,171 +1,96 @@
 // The table of rows of every position: for each the three modes, the buffer empty.
-ghost use Rattle.std.specs.Prelude.{ℕ, ◌+◌, ◌*◌, ◌≤◌, ◌<◌, ◌≡◌, true, false, List, length, get_or};
+ghost use Rattle.std.specs.Prelude.{ℕ, ◌+◌, ◌*◌, ◌≤◌, ◌<◌, ◌≡◌, List, length, get_or};
 ghost use Rattle.std.specs.Int.Bits.{bit_and};
 ghost use Rattle.stateset.specs.Set.{In, below};
-ghost use Rattle.layers.specs.Layers.{blank_row};
 ghost use Rattle.tables.specs.Halves.{SharedFrom};
-ghost use Rattle.tables.specs.Tables.{Known, put_position, Placed, Sizes, Filling, AllRows};
+ghost use Rattle.tables.specs.Tables.{put_position, Placed, Sizes, Filling, AllRows};
+ghost use Rattle.tables.specs.Words.{for_word};
 
+use crate::ends::{Ends, Left};
+use crate::halves;
 use crate::halves::HALVES;
-use crate::{copy, halves};
-use fsbm::limits::POSITIONS;
-use fsbm::machine::Machine;
-use layers::layer;
+use crate::word::Word;
 use layers::layer::Position;
 use layers::row::Row;
+use layers::{layer, row};
 use stateset::StateSet;
 
 // Puts the rows of position p into the table.
-fn put_position(t: &mut [Row], p: usize, position: Position)
+fn put_position(t: &mut [Row], p: usize, position: &Position)
     requires { p * 3 + 3 ≤ length t.old }
-    ensures { t.new ≡ put_position t.old p position }
+    ensures { t.new ≡ put_position t.old p position.now }
 {
-    let normal = position.normal;
-    let buffering = position.buffering;
-    let emptying = position.emptying;
-    copy::save(t, p * 3, normal);
-    copy::save(t, p * 3 + 1, buffering);
-    copy::save(t, p * 3 + 2, emptying);
+    t[p * 3] = position.normal;
+    t[p * 3 + 1] = position.buffering;
+    t[p * 3 + 2] = position.emptying;
 }
 
-// Puts the rows of position p into the table, and has the copies that end there begin with them, or be blank where none goes on.
-fn position_rows(p: usize, position: Position, t: &mut [Row], ends: &mut [Row], left: &mut [u16])
-    requires { (p * 3 + 3 ≤ length t.old) × (p < length ends.old) × (p < length left.old) }
-    ensures { Placed p position t.old t.new ends.old ends.new left.old left.new }
-{
-    put_position(t, p, position);
-    if !position.ends {
-        left[p] = 256;
-        return;
+impl Word<'_> {
+    // Puts the rows of position p into the table, and has the copies that end there begin with them, or be blank where none goes on.
+    fn position_rows(&self, p: usize, position: &Position, t: &mut [Row], ends: &mut Ends)
+        requires { (p * 3 + 3 ≤ length t.old) × (p < length ends.old.rows.now) × (p < length ends.old.left.now) }
+        ensures { Placed self.now.moves.table.machine.states p position.now t.old t.new ends.old.rows.now ends.new.rows.now ends.old.left.now ends.new.left.now }
+    {
+        put_position(t, p, position);
+        if row::is_blank(&position.emptying, self.moves.table.machine.states) {
+            ends.left[p] = Left::Blank(0);
+            return;
+        }
+        ends.begin(p, &position.emptying);
     }
-    let emptying = position.emptying;
-    copy::save(ends, p, emptying);
-    left[p] = 0;
-}
 
-// The rows of a position that no run reaches.
-fn unreached() -> Position
-    ensures { result ≡ record { normal = blank_row; buffering = blank_row; emptying = blank_row; ends = false } }
-{
-    Position {
-        normal: layer::blank(),
-        buffering: layer::blank(),
-        emptying: layer::blank(),
-        ends: false,
+    // The states that runs reach at position p in normal mode.
+    fn near_at(&self, p: usize) -> StateSet
+        requires { p ≤ 255 }
+        ensures { (result ≡ bit_and (get_or self.now.sets.now p 0) (below self.now.moves.table.machine.states)) × ((q : ℕ) → In result q → q < self.now.moves.table.machine.states) }
+    {
+        stateset::intersection(
+            self.sets[p],
+            stateset::full(self.moves.table.machine.states),
+        )
     }
-}
 
-// The states that runs reach at position p in normal mode.
-fn near_at(m: Machine, sets: &[StateSet; POSITIONS], p: usize) -> StateSet
-    requires { p ≤ 255 }
-    ensures { (result ≡ bit_and (get_or sets.now p 0) (below m.states)) × ((q : ℕ) → In result q → q < m.states) }
-{
-    stateset::intersection(sets[p], stateset::full(m.states))
-}
-
-// Fills the rows of the end of the word.
-fn fill_end(
-    m: Machine,
-    list: &[u16],
-    targets: &[StateSet],
-    g: StateSet,
-    h: StateSet,
-    sets: &[StateSet; POSITIONS],
-    word: &[u8],
-    t: &mut [Row],
-    ends: &mut [Row],
-    left: &mut [u16],
-)
-    requires { Known m list.now targets.now g h word.now × (length word.now ≤ 255) × Sizes word.now t.old ends.old left.old }
-    ensures { (counts : List ℕ) → SharedFrom word.now (length word.now) counts
-        → Filling m list.now sets.now word.now (length word.now) t.new ends.new left.new counts }
-{
-    let none = layer::blank();
-    let near = near_at(m, sets, word.len());
-    let end = layer::position_layer(m, list, targets, g, h, near, true, 0, &none, &none);
-    position_rows(word.len(), end, t, ends, left);
-}
-
-// Fills the rows of position p from those of the positions after it.
-fn fill_position(
-    m: Machine,
-    list: &[u16],
-    targets: &[StateSet],
-    g: StateSet,
-    h: StateSet,
-    sets: &[StateSet; POSITIONS],
-    word: &[u8],
-    p: usize,
-    t: &mut [Row],
-    ends: &mut [Row],
-    left: &mut [u16],
-    counts: &mut [u16; HALVES],
-)
-    requires { Known m list.now targets.now g h word.now × (p < length word.now) × (length word.now ≤ 255)
-        × Filling m list.now sets.now word.now (p + 1) t.old ends.old left.old counts.old }
-    ensures { Filling m list.now sets.now word.now p t.new ends.new left.new counts.new }
-{
-    halves::count_shared(word, p, counts);
-    let near = near_at(m, sets, p);
-    if near == 0 {
-        position_rows(p, unreached(), t, ends, left);
-        return;
+    // Fills the rows of the end of the word.
+    fn fill_end(&self, t: &mut [Row], ends: &mut Ends)
+        requires { Sizes self.now.letters.now t.old ends.old.rows.now ends.old.left.now }
+        ensures { (counts : List ℕ) → SharedFrom self.now.letters.now (length self.now.letters.now) counts
+            → for_word Filling self.now (length self.now.letters.now) t.new ends.new.rows.now ends.new.left.now counts }
+    {
+        let end = self.letters.len();
+        let position = self.moves.end_layer(self.near_at(end));
+        self.position_rows(end, &position, t, ends);
     }
-    let starts = stateset::intersection(near, g);
-    let storing = copy::starting_row(
-        m, list, targets, g, h, sets, word, &*t, p, starts, &*counts, ends, left,
-    );
-    let onward = copy::load(t, (p + 1) * 3);
-    let x = word[p] as u16;
-    let position = layer::position_layer(
-        m,
-        list,
-        targets,
-        g,
-        h,
-        near,
-        false,
-        x,
-        &onward,
-        &storing.row,
-    );
-    position_rows(p, position, t, ends, left);
-}
 
-// Fills the rows of every position. sets has for each the states that runs reach there in normal mode.
-pub fn fill(
-    m: Machine,
-    list: &[u16],
-    targets: &[StateSet],
-    g: StateSet,
-    h: StateSet,
-    sets: &[StateSet; POSITIONS],
-    word: &[u8],
-    t: &mut [Row],
-    ends: &mut [Row],
-    left: &mut [u16],
-)
-    requires { Known m list.now targets.now g h word.now × (length word.now ≤ 255) × Sizes word.now t.old ends.old left.old }
-    ensures { AllRows m list.now sets.now word.now t.new }
-{
-    let mut counts: [u16; HALVES] = [0; HALVES];
-    fill_end(m, list, targets, g, h, sets, word, t, ends, left);
-    let mut p = word.len();
-    while 0 < p {
-        p -= 1;
-        fill_position(
-            m,
-            list,
-            targets,
-            g,
-            h,
-            sets,
-            word,
-            p,
-            t,
-            ends,
-            left,
-            &mut counts,
-        );
+    // Fills the rows of position p from those of the positions after it.
+    fn fill_position(&self, p: usize, t: &mut [Row], ends: &mut Ends, counts: &mut [u16; HALVES])
+        requires { (p < length self.now.letters.now)
+            × for_word Filling self.now (p + 1) t.old ends.old.rows.now ends.old.left.now counts.old }
+        ensures { for_word Filling self.now p t.new ends.new.rows.now ends.new.left.now counts.new }
+    {
+        halves::count_shared(self.letters, p, counts);
+        let near = self.near_at(p);
+        if near == 0 {
+            self.position_rows(p, &Position::unreached(), t, ends);
+            return;
+        }
+        let starts = stateset::intersection(near, self.moves.buffering);
+        let starting = self.starting_row(t, p, starts, counts, ends);
+        let storing = layer::or_blank(starting);
+        let position = self
+            .moves
+            .position_layer(near, self.letters[p], &t[(p + 1) * 3], &storing);
+        self.position_rows(p, &position, t, ends);
+    }
+
+    // Fills the rows of every position.
+    pub fn fill(&self, t: &mut [Row], ends: &mut Ends)
+        requires { Sizes self.now.letters.now t.old ends.old.rows.now ends.old.left.now }
+        ensures { for_word AllRows self.now t.new }
+    {
+        let mut counts = [0; HALVES];
+        self.fill_end(t, ends);
+        for p in (0..self.letters.len()).rev() {
+            self.fill_position(p, t, ends, &mut counts);
+        }
     }
 }

@@ -14,7 +14,7 @@
 -- Sources targets states n set == the set has each state below n whose set in the row of letter 0 is not empty
 -- Closing states g h before now p == the table has the closures of the states below p, and else what it had before
 -- WithClosures states g h before after == the table has the closures of all states, and says so; its first set and its rows are as before
-use Rattle.std.specs.Prelude.{ℕ, ◌+◌, ◌*◌, ◌≤◌, ◌<◌, ◌≡◌, ◌↔◌, ◌⊎◌, List, length, get_or}
+use Rattle.std.specs.Prelude.{ℕ, ◌+◌, ◌*◌, ◌≤◌, ◌<◌, ◌≡◌, ◌↔◌, ◌⊎◌, Bool, true, false, List, length, get_or}
 use Rattle.stateset.specs.Set.{In}
 use Rattle.fsbm.specs.Machine.{transition_at}
 use Rattle.fsbm.specs.Published.{Listed}
@@ -39,8 +39,8 @@ Lettered letters w = (i : ℕ) → i < length w → get_or w i 0 ≤ letters
 abbrev pub Whole : Machine → List ℕ → List ℕ → Type 0
 Whole m list targets = (w : List ℕ) → Lettered m.letters w → Prepared m list w targets
 
-abbrev pub Wanted : List ℕ → ℕ → Type 0
-Wanted wanted x = (x ≡ 0) ⊎ (0 < get_or wanted x 0)
+abbrev pub Wanted : List Bool → ℕ → Type 0
+Wanted wanted x = (x ≡ 0) ⊎ (get_or wanted x false ≡ true)
 
 pub record Inside (m : Machine) (list : List ℕ) (k : ℕ) : Type 0 where
   pub fits : k * 3 + 3 ≤ length list
@@ -50,12 +50,12 @@ pub record Inside (m : Machine) (list : List ℕ) (k : ℕ) : Type 0 where
   pub letters : m.letters ≤ 250
   pub to : (transition_at list k).to < m.states
 
-pub record Filled (m : Machine) (list wanted targets : List ℕ) (k : ℕ) : Type 0 where
+pub record Filled (m : Machine) (list : List ℕ) (wanted : List Bool) (targets : List ℕ) (k : ℕ) : Type 0 where
   pub room : set_of m.states m.letters m.states ≤ length targets
   pub members : (x p q : ℕ) → x ≤ m.letters → p < m.states → In (get_or targets (set_of m.states x p) 0) q ↔ (Wanted wanted x × Listed list k p x q)
   pub none_closed : get_or targets 1 0 ≡ 0
 
-pub record Made (m : Machine) (list wanted targets : List ℕ) : Type 0 where
+pub record Made (m : Machine) (list : List ℕ) (wanted : List Bool) (targets : List ℕ) : Type 0 where
   pub rows : (x : ℕ) → x ≤ m.letters → Wanted wanted x → Row m list targets x
   pub sources : (p q : ℕ) → Listed list m.transitions p 0 q → In (get_or targets 0 0) p
   pub none_closed : get_or targets 1 0 ≡ 0

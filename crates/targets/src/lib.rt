@@ -10,14 +10,13 @@
 
 #![tactic(auto)]
 
-ghost use Rattle.std.specs.Prelude.{ℕ, ◌+◌, ◌≤◌, ◌<◌, ◌≡◌, ◌↔◌, true, length, get_or};
-ghost use Rattle.fsbm.specs.Machine.{well_formed};
+ghost use Rattle.std.specs.Prelude.{ℕ, ◌+◌, ◌≤◌, ◌<◌, ◌≡◌, ◌↔◌, true, false, length, get_or};
 ghost use Rattle.stateset.specs.Set.{width, In};
 ghost use Rattle.images.specs.Graph.{set_of, Good, KindsOf};
-ghost use Rattle.targets.specs.Prepared.{Prepared, Lettered, Whole, Wanted, Inside, Filled, Made, Sources, Closing, WithClosures};
+ghost use Rattle.targets.specs.Prepared.{Prepared, Lettered, Whole, Wanted, Filled, Made, Sources, Closing, WithClosures};
 
-use fsbm::machine::Machine;
-use images::Kinds;
+use fsbm::table::Table;
+use images::{Kinds, Targets};
 use stateset::StateSet;
 
 // The sets of the largest machine's table.
@@ -34,75 +33,56 @@ const BYTES: usize = 256;
 
 // How many sets the table of a machine has: the first two, a closure for each state, and one for each state and letter, letter 0 among
 // them.
-pub fn sets_of(m: Machine) -> usize
-    requires { (m.states ≤ 64) × (m.letters ≤ 250) }
-    ensures { result ≡ set_of m.states m.letters m.states }
+pub fn sets_of(t: &Table) -> usize
+    ensures { result ≡ set_of t.now.machine.states t.now.machine.letters t.now.machine.states }
 {
+    let m = &t.machine;
     2 + m.states + m.letters * m.states + m.states
 }
 
-// The letters of a word, marked by 1.
-fn letters_of(word: &[u8]) -> [u8; BYTES]
-    ensures { (i : ℕ) → i < length word.now → 0 < get_or result (get_or word.now i 0) 0 }
+// The letters of a word, marked.
+fn letters_of(word: &[u8]) -> [bool; BYTES]
+    ensures { (i : ℕ) → i < length word.now → get_or result (get_or word.now i 0) false ≡ true }
 {
-    let mut wanted: [u8; BYTES] = [0; BYTES];
-    let mut i: usize = 0;
-    while i < word.len() {
-        wanted[word[i] as usize] = 1;
-        i += 1;
+    let mut wanted = [false; BYTES];
+    for x in word {
+        wanted[usize::from(*x)] = true;
     }
     wanted
 }
 
 // Whether the table has a row for the letter x: letter 0 has one.
-fn is_wanted(wanted: &[u8; BYTES], x: usize) -> bool
+fn is_wanted(wanted: &[bool; BYTES], x: usize) -> bool
     requires { x < 256 }
     ensures { (result ≡ true) ↔ Wanted wanted.now x }
 {
-    if x == 0 {
-        return true;
-    }
-    if wanted[x] == 0 {
-        return false;
-    }
-    true
+    x == 0 || wanted[x]
 }
 
-// Adds transition number k to the table, where its letter is wanted.
-fn put(m: Machine, list: &[u16], wanted: &[u8; BYTES], targets: &mut [StateSet], k: usize)
-    requires { Inside m list.now k × Filled m list.now wanted.now targets.old k }
-    ensures { Filled m list.now wanted.now targets.new (k + 1) }
+// Adds transition number k to the table of sets, where its letter is wanted.
+fn put(t: &Table, wanted: &[bool; BYTES], targets: &mut [StateSet], k: usize)
+    requires { (k < t.now.machine.transitions) × Filled t.now.machine t.now.list.now wanted.now targets.old k }
+    ensures { Filled t.now.machine t.now.list.now wanted.now targets.new (k + 1) }
 {
-    let p = list[k * 3] as usize;
-    let x = list[k * 3 + 1] as usize;
-    let q = list[k * 3 + 2] as usize;
+    let step = t.transition(k);
+    let p = usize::from(step.from);
+    let x = usize::from(step.letter);
+    let q = usize::from(step.to);
     if !is_wanted(wanted, x) {
         return;
     }
-    let at = 2 + m.states + x * m.states + p;
+    let at = 2 + t.machine.states + x * t.machine.states + p;
     targets[at] = stateset::add(targets[at], q);
 }
 
 // Fills the rows of the wanted letters in a table of zeros.
-fn fill_rows(m: Machine, list: &[u16], wanted: &[u8; BYTES], targets: &mut [StateSet])
-    requires { (well_formed m list.now ≡ true) × (set_of m.states m.letters m.states ≤ length targets.old) × ((i : ℕ) → get_or targets.old i 0 ≡ 0) }
-    ensures { Filled m list.now wanted.now targets.new m.transitions }
+fn fill_rows(t: &Table, wanted: &[bool; BYTES], targets: &mut [StateSet])
+    requires { (set_of t.now.machine.states t.now.machine.letters t.now.machine.states ≤ length targets.old) × ((i : ℕ) → get_or targets.old i 0 ≡ 0) }
+    ensures { Filled t.now.machine t.now.list.now wanted.now targets.new t.now.machine.transitions }
 {
-    let mut k: usize = 0;
-    while k < m.transitions {
-        put(m, list, wanted, targets, k);
-        k += 1;
+    for k in 0..t.machine.transitions {
+        put(t, wanted, targets, k);
     }
-}
-
-// The set with p where its own set of states is not empty, else the set.
-fn add_source(set: StateSet, p: usize, own: StateSet) -> StateSet
-    ensures { ((q : ℕ) → In set q → In result q) × ((own ≡ 0 → ⊥) → p < width → In result p) }
-{
-    if own == 0 {
-        return set;
-    }
-    stateset::add(set, p)
 }
 
 // The states below a number whose set in the row of letter 0 is not empty.
@@ -111,65 +91,61 @@ fn sources(targets: &[StateSet], states: usize) -> StateSet
     ensures { Sources targets.now states states result }
 {
     let mut set = stateset::empty();
-    let mut p: usize = 0;
-    while p < states {
-        set = add_source(set, p, targets[2 + states + p]);
-        p += 1;
+    for p in 0..states {
+        set = images::add_if(set, p, targets[2 + states + p] != 0);
     }
     set
 }
 
 // Fills a table of zeros: the rows of the wanted letters, and as its first set the states that have epsilon transitions.
-fn fill(m: Machine, list: &[u16], wanted: &[u8; BYTES], targets: &mut [StateSet])
-    requires { (well_formed m list.now ≡ true) × (set_of m.states m.letters m.states ≤ length targets.old) × ((i : ℕ) → get_or targets.old i 0 ≡ 0) }
-    ensures { Made m list.now wanted.now targets.new }
+fn fill(t: &Table, wanted: &[bool; BYTES], targets: &mut [StateSet])
+    requires { (set_of t.now.machine.states t.now.machine.letters t.now.machine.states ≤ length targets.old) × ((i : ℕ) → get_or targets.old i 0 ≡ 0) }
+    ensures { Made t.now.machine t.now.list.now wanted.now targets.new }
 {
-    fill_rows(m, list, wanted, targets);
-    let set = sources(targets, m.states);
+    fill_rows(t, wanted, targets);
+    let set = sources(targets, t.machine.states);
     targets[0] = set;
 }
 
 // Puts the closure of each state into a table that has none.
-fn put_closures(states: usize, g: StateSet, h: StateSet, targets: &mut [StateSet])
-    requires { Good targets.old states g h × (get_or targets.old 1 0 ≡ 0) }
-    ensures { Closing states g h targets.old targets.new states }
+fn put_closures(states: usize, kinds: Kinds, targets: &mut [StateSet])
+    requires { Good targets.old states kinds.buffering kinds.matching × (get_or targets.old 1 0 ≡ 0) }
+    ensures { Closing states kinds.buffering kinds.matching targets.old targets.new states }
 {
-    let mut p: usize = 0;
-    while p < states {
+    for p in 0..states {
+        let t = Targets::new(&*targets, states, kinds.buffering, kinds.matching);
         let alone = stateset::single(p);
-        let own = images::close_position(&*targets, states, g, h, alone);
+        let own = t.close_position(alone);
         targets[2 + p] = own;
-        p += 1;
     }
 }
 
 // The same, and as the table's second set the states.
-fn close_states(states: usize, g: StateSet, h: StateSet, targets: &mut [StateSet])
-    requires { Good targets.old states g h × (get_or targets.old 1 0 ≡ 0) }
-    ensures { WithClosures states g h targets.old targets.new }
+fn close_states(states: usize, kinds: Kinds, targets: &mut [StateSet])
+    requires { Good targets.old states kinds.buffering kinds.matching × (get_or targets.old 1 0 ≡ 0) }
+    ensures { WithClosures states kinds.buffering kinds.matching targets.old targets.new }
 {
-    put_closures(states, g, h, targets);
+    put_closures(states, kinds, targets);
     targets[1] = stateset::full(states);
 }
 
 // Prepares a table of zeros for every word of the machine's letters.
 // Time: the transitions and the states, each once, and the closure of each state. Memory: none but the table and 256 bytes.
-pub fn prepare(m: Machine, list: &[u16], kinds: Kinds, targets: &mut [StateSet])
-    requires { (well_formed m list.now ≡ true) × (set_of m.states m.letters m.states ≤ length targets.old) × ((i : ℕ) → get_or targets.old i 0 ≡ 0)
-        × KindsOf m.marks m.states kinds }
-    ensures { Whole m list.now targets.new × ((p : ℕ) → p < m.states → In (get_or targets.new 1 0) p) }
+pub fn prepare(t: &Table, kinds: Kinds, targets: &mut [StateSet])
+    requires { (set_of t.now.machine.states t.now.machine.letters t.now.machine.states ≤ length targets.old) × ((i : ℕ) → get_or targets.old i 0 ≡ 0)
+        × KindsOf t.now.machine.marks t.now.machine.states kinds }
+    ensures { Whole t.now.machine t.now.list.now targets.new × ((p : ℕ) → p < t.now.machine.states → In (get_or targets.new 1 0) p) }
 {
-    let all: [u8; BYTES] = [1; BYTES];
-    fill(m, list, &all, targets);
-    close_states(m.states, kinds.buffering, kinds.matching, targets);
+    fill(t, &[true; BYTES], targets);
+    close_states(t.machine.states, kinds, targets);
 }
 
 // Prepares a table of zeros for one word: a transition whose letter does not stand in the word is passed over.
 // Time: the transitions, the states and the letters of the word, each once. Memory: none but the table and 256 bytes.
-pub fn prepare_for(m: Machine, list: &[u16], word: &[u8], targets: &mut [StateSet])
-    requires { (well_formed m list.now ≡ true) × Lettered m.letters word.now × (set_of m.states m.letters m.states ≤ length targets.old) × ((i : ℕ) → get_or targets.old i 0 ≡ 0) }
-    ensures { Prepared m list.now word.now targets.new }
+pub fn prepare_for(t: &Table, word: &[u8], targets: &mut [StateSet])
+    requires { Lettered t.now.machine.letters word.now × (set_of t.now.machine.states t.now.machine.letters t.now.machine.states ≤ length targets.old) × ((i : ℕ) → get_or targets.old i 0 ≡ 0) }
+    ensures { Prepared t.now.machine t.now.list.now word.now targets.new }
 {
     let wanted = letters_of(word);
-    fill(m, list, &wanted, targets);
+    fill(t, &wanted, targets);
 }

@@ -11,10 +11,10 @@ use Rattle.std.specs.Prelude.{ℕ, ◌+◌, ◌*◌, ◌^◌, ◌≤◌, ◌<◌
 use Rattle.std.proofs.Common.{sym, ap, ◌∙◌, subst, inl, inr, arith, length-set, get_or-set_same}
 use Rattle.std.proofs.Math.Decide.{dec_lt}
 use Rattle.basics.specs.Lists.Laws.{set_cases}
-use Rattle.stateset.specs.Set.{width, In, has, added, SetIs}
+use Rattle.stateset.specs.Set.{width, In, has, added, SetIs, Taken}
 use Rattle.stateset.specs.Set.Laws.{has_in, has_not}
 use Rattle.pieces.specs.Blocks.{cell}
-use Rattle.blocks.specs.Numbers.Laws.{Left, Rest, Taken, left_start, left_more, left_end}
+use Rattle.blocks.specs.Numbers.Laws.{Left, Rest, left_start, left_more, left_end}
 use Rattle.blocks.specs.Gathered.{Adding, Pick, Reach, Far, From, Near, Stay}
 
 pub adding_none : {C : ℕ → ℕ → Type 0} (p : List ℕ) (got : ℕ) → got < 2 ^ width → ((t v : ℕ) → C t v → ⊥) → Adding C p got p got

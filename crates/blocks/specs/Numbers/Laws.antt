@@ -8,7 +8,7 @@
 -- lowers_as                  == the same candidates in other words
 -- lower_not, lower_is        == one candidate, which is not less, or is
 -- Left set rest, Rest set rest == a loop over a set: the members that are not left to do; what is left is a part of the set
--- lowest_inside, Taken, taken == the member that a loop takes: it is a state; what is left without it
+-- lowest_inside, taken, taken_fewer == the member that a loop takes: it is a state; what is left without it has fewer members
 -- rest_start, rest_more, left_start, left_more, left_end == the loop begins, takes a member, ends
 -- put_start, put_more, put_end == the loop over the states of a row
 -- spread_start, spread_more, spread_past == the loop over transitions
@@ -18,7 +18,7 @@ use Rattle.std.proofs.Common.{sym, ap, ◌∙◌, subst, inl, inr, arith, length
 use Rattle.std.proofs.Math.Decide.{ℕ_discrete, dec_lt}
 use Rattle.std.specs.Int.Count.{ones}
 use Rattle.std.proofs.lemmas.Bool.{eqb-false}
-use Rattle.stateset.specs.Set.{width, In, has, digit, added, removed, lowest_of, SetIs, Lowest}
+use Rattle.stateset.specs.Set.{width, In, has, digit, added, removed, lowest_of, SetIs, Lowest, Taken}
 use Rattle.stateset.specs.Set.Laws.{in?, has_in, in_lt, lowest_removed, drop_lowest, ones_add, add_member, added_state, empty_in}
 use Rattle.pieces.specs.Blocks.{cell}
 use Rattle.pieces.proofs.BlocksLaws.{cell_inside, cell_past}
@@ -203,15 +203,12 @@ module _ (b d : List ℕ) (s t v : ℕ) (row : s < 64) (column : t < 64) where
 pub lowest_inside : (x q : ℕ) → x < 2 ^ width → (x ≡ 0 → ⊥) → Lowest x q → q < 64
 lowest_inside x q h some low = in_lt {w = width} {x = x} {q = q} h (low.member (omega arith))
 
-pub record Taken (rest q rest' : ℕ) : Type 0 where
-  pub member : In rest q
-  pub is : SetIs rest' (removed rest q) (λ p. In rest p × (p ≡ q → ⊥))
-  pub fewer : ones rest' < ones rest
-
 pub taken : {x q r : ℕ} → x < 2 ^ width → (x ≡ 0 → ⊥) → Lowest x q → SetIs r (removed x (lowest_of x)) (λ p. In x p × (p ≡ lowest_of x → ⊥)) → Taken x q r
-taken {x} {q} {r} h some low s =
-    let z = lowest_removed low s in
-    record { member = low.member (omega arith); is = z; fewer = drop_lowest x q r h (omega arith) low z.value }
+taken {x} {q} {r} h some low s = record { some = omega arith; state = lowest_inside x q h some low; lowest = low; member = low.member (omega arith); rest = lowest_removed low s }
+
+-- what is left has fewer members
+pub taken_fewer : {x q r : ℕ} → x < 2 ^ width → Taken x q r → ones r < ones x
+taken_fewer {x} {q} {r} h k = drop_lowest x q r h k.some k.lowest k.rest.value
 
 abbrev pub Left : ℕ → ℕ → ℕ → Type 0
 Left set rest t = In set t × (In rest t → ⊥)
@@ -225,7 +222,7 @@ rest_start set h = record { fits = h; part = λ t m. m }
 
 module _ {set rest rest' q : ℕ} (r : Rest set rest) (k : Taken rest q rest') where
   pub rest_more : Rest set rest'
-  rest_more = record { fits = k.is.fits; part = λ t m. r.part t ((k.is.members t).0 m).0 }
+  rest_more = record { fits = k.rest.fits; part = λ t m. r.part t ((k.rest.members t).0 m).0 }
 
   -- what is done then was done before, or is the member that was taken
   pub left_more : (t : ℕ) → Left set rest' t ↔ (Left set rest t ⊎ (t ≡ q))
@@ -237,11 +234,11 @@ module _ {set rest rest' q : ℕ} (r : Rest set rest) (k : Taken rest q rest') w
         where
           here : Dec (t ≡ q) → Left set rest t ⊎ (t ≡ q)
           here (yes e) = inr e
-          here (no f) = absurd (l.1 ((k.is.members t).1 (m, f)))
+          here (no f) = absurd (l.1 ((k.rest.members t).1 (m, f)))
 
       back : Left set rest t ⊎ (t ≡ q) → Left set rest' t
-      back (inl l) = (l.0, λ m. l.1 ((k.is.members t).0 m).0)
-      back (inr e) = (r.part t (subst (λ (x : ℕ). In rest x) (sym e) k.member), λ m. ((k.is.members t).0 m).1 e)
+      back (inl l) = (l.0, λ m. l.1 ((k.rest.members t).0 m).0)
+      back (inr e) = (r.part t (subst (λ (x : ℕ). In rest x) (sym e) k.member), λ m. ((k.rest.members t).0 m).1 e)
 
 pub left_start : (set t : ℕ) → Left set set t → ⊥
 left_start set t l = l.1 l.0

@@ -5,7 +5,7 @@
 -- readers_cover            == the readers of one letter
 -- covers_from              == what is gathered from the readers of a letter is gathered from all members of h
 use Rattle.std.specs.Prelude.{ℕ, ◌+◌, ◌*◌, ◌≤◌, ◌<◌, ◌≡◌, refl, ◌⊎◌, true, false, List, length, get_or, set}
-use Rattle.std.proofs.Common.{sym, ◌∙◌, subst, inl, inr, arith, length-set, get_or-set_same}
+use Rattle.std.proofs.Common.{sym, ◌∙◌, subst, subst₂, inl, inr, arith, length-set, get_or-set_same}
 use Rattle.std.proofs.Math.Decide.{dec_lt}
 use Rattle.std.proofs.lemmas.Bool.{eqb-false}
 use Rattle.basics.specs.Lists.Laws.{set_cases}
@@ -28,11 +28,11 @@ module _ (list : List ℕ) (k h : ℕ) (sets : List ℕ) where
       never (inl z) i j = eqb-false (digit h (transition_at list k).from) 1 z i
       never (inr z) i j = eqb-false (digit h (transition_at list k).to) 1 z j
 
-  pub noted_is : {r : ℕ} → (transition_at list k).letter < length sets → (transition_at list k).from < 64 → has h (transition_at list k).from ≡ true
+  noted_here : {r : ℕ} → (transition_at list k).letter < length sets → (transition_at list k).from < 64 → has h (transition_at list k).from ≡ true
       → SetIs r (added (get_or sets (transition_at list k).letter 0) (transition_at list k).from)
       (λ t. In (get_or sets (transition_at list k).letter 0) t ⊎ ((t ≡ (transition_at list k).from) × (t < width)))
       → Noted list k h sets (set sets (transition_at list k).letter r)
-  noted_is {r} room small from is =
+  noted_here {r} room small from is =
       record {
         size = length-set sets (transition_at list k).letter r;
         stays = λ x t i. set_cases sets (transition_at list k).letter r 0 room (λ x z. In (get_or sets x 0) t → In z t) (λ i. (is.members t).1 (inl i)) (λ x n i. i) x i;
@@ -47,6 +47,13 @@ module _ (list : List ℕ) (k h : ℕ) (sets : List ℕ) where
       old : (t : ℕ) → (In (get_or sets (transition_at list k).letter 0) t → In h t) → In (get_or sets (transition_at list k).letter 0) t ⊎ ((t ≡ (transition_at list k).from) × (t < width)) → In h t
       old t f (inl i) = f i
       old t f (inr i) = subst (λ (z : ℕ). In h z) (sym i.0) ((has_in h (transition_at list k).from).0 from)
+
+  pub noted_is : {x from r : ℕ} → x ≡ (transition_at list k).letter → from ≡ (transition_at list k).from → x < length sets → from < 64 → has h from ≡ true
+      → SetIs r (added (get_or sets x 0) from) (λ t. In (get_or sets x 0) t ⊎ ((t ≡ from) × (t < width))) → Noted list k h sets (set sets x r)
+  noted_is {x} {from} {r} e f room small is_in is =
+      rw e
+      (noted_here (rw e at room) (rw f at small) (rw f at is_in)
+      (subst₂ (λ (z y : ℕ). SetIs r (added (get_or sets z 0) y) (λ t. In (get_or sets z 0) t ⊎ ((t ≡ y) × (t < width)))) e f is))
 
 module _ (m : Machine) (list : List ℕ) where
   pub readers_start : (sets : List ℕ) → length sets ≡ 251 → ((x : ℕ) → get_or sets x 0 ≡ 0) → ReadersBelow m list 0 sets

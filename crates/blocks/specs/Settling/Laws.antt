@@ -1,26 +1,24 @@
 -- The laws of specs/Settling.antt.
 --
--- scan_found, scan_none, scan_on == the loop that looks for a marked row: it finds one, finds none, goes on
 -- storing_below       == whoever leads out of a block has its storing half in one of the machine's states
 -- take_none           == no row is taken yet
 -- take_row            == a row is taken: its marks are gone, and its moves are done
 -- take_less           == then the measure of the loop has fallen
 -- work_end, work_done == no row has a mark: the numbers are settled
--- clear_start, clear_more, clear_end == the loop that clears a block
+-- clear_is            == the front of a block is cleared
 -- blank_is            == a block with `nothing` everywhere
 -- begin_not, begin_is == a copy that begins in a state without a number, and in one that has one
 -- begins_start, begins_more, begins_end == the loop over the states where a copy begins
 -- begun_works         == a cleared block with the first numbers of its copies is a block that is computed
 -- block_done          == the whole
-use Rattle.std.specs.Prelude.{ℕ, ◌+◌, ◌*◌, ◌≤◌, ◌<◌, ◌≡◌, refl, ◌⊎◌, true, List, length, get_or, set, replicate}
-use Rattle.std.proofs.Common.{sym, ap, ◌∙◌, subst, inl, inr, arith, length-set, get_or-set_other}
+use Rattle.std.specs.Prelude.{ℕ, ◌+◌, ◌*◌, ◌≤◌, ◌<◌, ◌≡◌, refl, ◌⊎◌, true, List, length, get_or, set, replicate, take, drop, ◌++◌}
+use Rattle.std.proofs.Common.{◌-◌, sym, ap, ◌∙◌, subst, inl, inr, arith, length-append, length-drop, get_or-set_other}
 use Rattle.std.proofs.Math.Decide.{dec_lt, ℕ_discrete}
-use Rattle.std.proofs.lemmas.List.{length-replicate, get_or-replicate}
+use Rattle.std.proofs.lemmas.List.{length-replicate, get_or-replicate, length-take-le, get_or_append_left, get_or-append_right, get_or-drop}
 use Rattle.std.specs.Int.Count.{ones}
-use Rattle.basics.specs.Lists.Laws.{set_next}
 use Rattle.graphs.specs.Cost.{Route, stop, via, ToGoal}
 use Rattle.graphs.specs.Working.Laws.{working_start, working_looked, working_end}
-use Rattle.stateset.specs.Set.{In, SetIs}
+use Rattle.stateset.specs.Set.{In, SetIs, Taken}
 use Rattle.stateset.specs.Set.Laws.{empty_in, ones_zero, ones_of_zero}
 use Rattle.fsbm.specs.Machine.{well_formed, buffering}
 use Rattle.fsbm.specs.Rules.{Rules, rules, buffering_below}
@@ -30,26 +28,10 @@ use Rattle.pieces.specs.Pairs.{Pair, both, PairMove, stores_none, matches_none, 
 use Rattle.pieces.specs.Blocks.{nothing, cell, cost_of, Node, outside, inside, BlockEdge, begins, goes_on, block_of}
 use Rattle.pieces.proofs.BlocksLaws.{cell_inside, cell_past, inside_not}
 use Rattle.blocks.specs.Numbers.{HasMark, Steps, Lowers, One, total, marked}
-use Rattle.blocks.specs.Numbers.Laws.{Left, Rest, Taken, left_start, left_more, left_end, lowers_none, lowers_then, lowers_as, marked_set}
+use Rattle.blocks.specs.Numbers.Laws.{Left, Rest, left_start, left_more, left_end, lowers_none, lowers_then, lowers_as, marked_set}
 use Rattle.blocks.specs.Works.{Kind, Works, Waiting, Busy, RowDone}
 use Rattle.blocks.specs.Works.Laws.{block_inside, block_outside, Edges, works_lowers, still_lowers}
-use Rattle.blocks.specs.Settling.{Scanned, Cleared, Past, blank_block, Blank, Begin, Begins, WorkOn, SettlesTo, Worked, BlockTo}
-
--- The next row
-
-module _ (d : List ℕ) (k n r : ℕ) where
-  pub scan_found : (get_or d r 0 ≡ 0 → ⊥) → r < n → Scanned d k n r
-  scan_found f lt = record { found = λ l. f; empty = λ le. absurd (omega arith) }
-
-  pub scan_none : ((q : ℕ) → k ≤ q → q < r → get_or d q 0 ≡ 0) → n ≤ r → Scanned d k n r
-  scan_none f le = record { found = λ l. absurd (omega arith); empty = λ z q a b. f q a (omega arith) }
-
-  pub scan_on : ((q : ℕ) → k ≤ q → q < r → get_or d q 0 ≡ 0) → get_or d r 0 ≡ 0 → (q : ℕ) → k ≤ q → q < r + 1 → get_or d q 0 ≡ 0
-  scan_on f e q le lt = on (dec_lt q r)
-    where
-      on : Dec (q < r) → get_or d q 0 ≡ 0
-      on (yes l) = f q le l
-      on (no g) = ap (λ (i : ℕ). get_or d i 0) (let z : q ≡ r = omega arith in z) ∙ e
+use Rattle.blocks.specs.Settling.{Cleared, Past, blank_block, Blank, Begin, Begins, WorkOn, SettlesTo, Worked, BlockTo}
 
 -- The states of the machine
 
@@ -125,24 +107,21 @@ take_less s d room f some =
     let l : 0 < ones (get_or d s 0) = omega arith in
     omega (arith, f.falls)
 
-pub work_done : {m : Machine} {list : List ℕ} {top : ℕ} {b d b' d' : List ℕ} {r : ℕ} → well_formed m list ≡ true → WorkOn m list top b d b' d' → Scanned d' 0 m.states r → m.states ≤ r → Worked m list top b d b'
-work_done {m} {list} {top = top} {b' = b'} {d' = d'} good w z le = record { size = w.size; still = w.still; ends = λ h x D k. work_end m list good top h x D d' b' (z.empty le) (w.on h x D k) }
+pub work_done : {m : Machine} {list : List ℕ} {top : ℕ} {b d b' d' : List ℕ} → well_formed m list ≡ true → WorkOn m list top b d b' d'
+    → ((q : ℕ) → 0 ≤ q → q < m.states → get_or d' q 0 ≡ 0) → Worked m list top b d b'
+work_done {m} {list} {top = top} {b' = b'} {d' = d'} good w empty = record { size = w.size; still = w.still; ends = λ h x D k. work_end m list good top h x D d' b' empty (w.on h x D k) }
 
 -- A block is cleared
 
-pub clear_start : (b : List ℕ) → Cleared 0 b b
-clear_start b = record { size = refl; done = λ i (lt : i < 0). absurd (omega arith); rest = λ i le. refl }
-
-pub clear_more : {n : ℕ} {b b' : List ℕ} → n < length b → Cleared n b b' → Cleared (n + 1) b (set b' n nothing)
-clear_more {n} {b} {b'} l f =
+pub clear_is : (n : ℕ) (b front : List ℕ) → n ≤ length b → front ≡ replicate (length (take n b)) nothing → Cleared n b (front ++ drop n b)
+clear_is n b front le e =
+    let size : length front ≡ n = ap length e ∙ (length-replicate {A = ℕ} (length (take n b)) nothing ∙ length-take-le n b le) in
+    let far : length (drop n b) ≡ length b - n = length-drop n b in
     record {
-      size = length-set b' n nothing ∙ f.size;
-      done = set_next b' n nothing 0 (omega (arith, f.size)) (λ i x. x ≡ nothing) refl f.done;
-      rest = λ i le. get_or-set_other b' n i nothing 0 (λ (e : i ≡ n). absurd (omega arith)) ∙ f.rest i (omega arith);
+      size = length-append front (drop n b) ∙ omega arith;
+      done = λ i lt. get_or_append_left front (drop n b) 0 i (omega arith) ∙ (ap (λ (z : List ℕ). get_or z i 0) e ∙ get_or-replicate (length (take n b)) i nothing 0 (let z = length-take-le n b le in omega arith));
+      rest = λ i le. get_or-append_right front (drop n b) n i 0 size le ∙ (get_or-drop n b (i - n) 0 ∙ ap (λ (z : ℕ). get_or b z 0) (let z : n + (i - n) ≡ i = omega arith in z));
     }
-
-pub clear_end : {n k : ℕ} {b b' : List ℕ} → k ≤ n → n ≤ k → Cleared k b b' → Cleared n b b'
-clear_end {n} {k} {b} {b'} le ge f = subst (λ (i : ℕ). Cleared i b b') (let z : k ≡ n = omega arith in z) f
 
 -- nothing stands in a cleared block
 pub blank : (m : Machine) {b b' : List ℕ} → Past m b → Cleared (m.states * 64) b b' → (s t : ℕ) → nothing ≤ cell b' s t

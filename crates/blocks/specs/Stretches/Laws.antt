@@ -3,11 +3,13 @@
 -- key_fits          == a key of a state and a letter is below the number of keys
 -- product_fits      == a 16-bit number times a stride is small
 -- Built, built_start, built_turn, built_end == the part of an index that a loop has built; it begins, one turn, it ends
--- found_here, found_none, found_on == the loop that looks for a key: it stops, finds none, goes on
+-- found_is            == the search for a key
 -- bounded, bounded_next == the numbers of an index are numbers of transitions
 -- stretch           == the transitions from index[q × stride + a] up to index[q × stride + a + 1] are those that leave q by a
 -- row_stretch       == those from index[q × stride] up to index[(q + 1) × stride] are all that leave q
-use Rattle.std.specs.Prelude.{ℕ, ◌+◌, ◌*◌, ◌≤◌, ◌<◌, ◌≡◌, ◌↔◌, List, length, get_or, set}
+use Rattle.std.specs.Prelude.{ℕ, ◌+◌, ◌*◌, ◌≤◌, ◌<◌, ◌≡◌, ◌↔◌, List, length, get_or, set, Option, MatchOption}
+use Rattle.std.specs.Option.{unwrap_or}
+use Rattle.std.proofs.Common.{Some, None}
 use Rattle.std.proofs.Common.{ap, ◌∙◌, arith, mul-le-mul, length-set}
 use Rattle.std.proofs.Math.Decide.{dec_lt, ℕ_discrete}
 use Rattle.basics.specs.Lists.Laws.{set_next}
@@ -192,15 +194,9 @@ module _ (m : Machine) (list : List ℕ) (s : Rules m list) where
 -- The search for a key
 
 module _ (list : List ℕ) (stride k n y : ℕ) where
-  pub found_here : (r x : ℕ) → k ≤ r → r < n → ((t : ℕ) → k ≤ t → t < r → key_of list stride t < y) → x ≡ key_of list stride r → y ≤ x → Found list stride k n y r
-  found_here r x from lt passed is le = record { from = from; within = omega arith; passed = passed; found = λ z. omega arith }
-
-  pub found_none : (r : ℕ) → k ≤ r → r ≤ n → n ≤ r → ((t : ℕ) → k ≤ t → t < r → key_of list stride t < y) → Found list stride k n y r
-  found_none r from le ge passed = record { from = from; within = le; passed = passed; found = λ (z : r < n). absurd (omega arith) }
-
-  pub found_on : (r x : ℕ) → ((t : ℕ) → k ≤ t → t < r → key_of list stride t < y) → x ≡ key_of list stride r → x < y → (t : ℕ) → k ≤ t → t < r + 1 → key_of list stride t < y
-  found_on r x passed is less t from lt = on (dec_lt t r)
-    where
-      on : Dec (t < r) → key_of list stride t < y
-      on (yes l) = passed t from l
-      on (no f) = let e : t ≡ r = omega arith in let z : key_of list stride t ≡ key_of list stride r = ap (key_of list stride) e in omega arith
+  -- what a search through the numbers from k up to n has found
+  pub found_is : (o : Option ℕ)
+      → MatchOption o ((t : ℕ) → k ≤ t → t < n → key_of list stride t < y) (λ r. (k ≤ r) × (r < n) × (y ≤ key_of list stride r) × ((t : ℕ) → k ≤ t → t < r → key_of list stride t < y))
+      → k ≤ n → Found list stride k n y (unwrap_or o n)
+  found_is None f le = record { from = le; within = omega arith; passed = f; found = λ (z : n < n). absurd (omega arith) }
+  found_is (Some r) f le = record { from = f.0; within = omega (arith, f.1); passed = f.3; found = λ z. f.2 }

@@ -7,6 +7,8 @@
 -- column_holds     == a column of at most widest_column bytes holds n, exactly if it is the column of n, or it is blank and n is 0
 -- column_none      == it holds no number, exactly if it is neither the column of one nor blank
 -- blank_column     == a column of spaces alone holds 0, whatever its width
+-- none_answered, number_answered == what code's answer says of the number
+-- or_no_number    == that answer, no_number where there is none, is the number
 -- filled_same, filled_blank == a column that is not blank is filled already; one that is blank is filled to the column of 0
 -- filled_length    == a column that is filled keeps its width
 -- filled_number    == and its number
@@ -20,17 +22,18 @@
 -- spaces_passed, nought_passed, digits_passed == the way back: what the bytes are by what a pass over them holds
 -- padded_spaces    == no digits are spaces alone
 use Prim.Native.Nat.{ℕ, zero, suc, ◌+◌, ◌*◌, ◌-◌, ◌/◌, ◌%◌, ◌<◌, ◌≤◌, ◌^◌}
-use Rattle.std.specs.Prelude.{◌≡◌, ◌⊎◌, ◌↔◌, List, [], ◌∷◌, ◌++◌, Bool, true, false, cond, length, get_or, replicate, leb, eqb}
+use Rattle.std.specs.Prelude.{◌≡◌, ◌⊎◌, ◌↔◌, Some, None, List, [], ◌∷◌, ◌++◌, Bool, true, false, cond, length, get_or, replicate, leb, eqb}
 use Rattle.std.proofs.Math.Path.{refl, ap, subst}
-use Rattle.std.proofs.Common.{sym, ◌∙◌, inl, inr, append_assoc, append-nil, pow-suc, add-one, length-append, le-leb, ne_eqb, eqb-true, leb-true}
+use Rattle.std.proofs.Common.{unwrap_or, sym, ◌∙◌, inl, inr, append_assoc, append-nil, pow-suc, add-one, length-append, le-leb, ne_eqb, eqb-true, leb-true}
 use native.Mathlib.Omega.{arith}
 use Rattle.std.proofs.Math.Nat.{one-le-pow, pow-le-pow_right}
 use Rattle.std.proofs.Math.Decide.{ℕ_discrete}
 use Rattle.std.proofs.lemmas.List.{replicate-append-replicate}
 use Rattle.std.proofs.lemmas.Bool.{eqb-false}
+use Rattle.std.proofs.lemmas.Option.{none-some, same_Some}
 use Rattle.basics.specs.Search.{all_in}
 use Rattle.basics.specs.Search.Laws.{true_or_false, and_true, and_both_true}
-use Rattle.columns.specs.Column.{widest_column, no_number, is_digit, Pass, blank, nought, digits, broken, next, pass_from, found, column_number, digit_or, padded, column_of, is_blank, filled_column}
+use Rattle.columns.specs.Column.{widest_column, no_number, is_digit, Pass, blank, nought, digits, broken, next, pass_from, found, column_number, some_number, digit_or, padded, column_of, is_blank, filled_column}
 
 pub pass_from_append : (p : Pass) (l r : List ℕ) → pass_from p (l ++ r) ≡ pass_from (pass_from p l) r
 unfolding pass_from
@@ -42,7 +45,7 @@ unfolding pass_from next
 pass_broken [] = refl
 pass_broken (b ∷ l) = pass_broken l
 
-padded_length : (w q : ℕ) → length (padded w q) ≡ w
+pub padded_length : (w q : ℕ) → length (padded w q) ≡ w
 unfolding padded
 padded_length zero q = refl
 padded_length (suc w) q = length-append (padded w (q / 10)) (digit_or q ∷ []) ∙ (add-one _ ∙ ap suc (padded_length w (q / 10)))
@@ -271,6 +274,32 @@ unfolding Told
 digits_passed l v e =
     let t : (l ≡ padded (length l) v) × (0 < v) × (v < 10 ^ length l) = subst (λ (p : Pass). Told p (length l) l) e (told l) in
     (t.1, t.2, t.0 ∙ sym (column_padded (length l) v t.1 t.2))
+
+-- As code answers it
+
+pub none_answered : (n : ℕ) → None ≡ some_number n → n ≡ no_number
+unfolding some_number
+none_answered n e = eqb-true n no_number (cond_none (eqb n no_number) e)
+  where
+    cond_none : (b : Bool) → None ≡ cond b None (Some n) → b ≡ true
+    cond_none true q = refl
+    cond_none false q = absurd (none-some n q)
+
+pub number_answered : (n v : ℕ) → Some v ≡ some_number n → (v ≡ n) × (v ≡ no_number → ⊥)
+unfolding some_number
+number_answered n v e = at (true_or_false (eqb n no_number))
+  where
+    at : (eqb n no_number ≡ true) ⊎ (eqb n no_number ≡ false) → (v ≡ n) × (v ≡ no_number → ⊥)
+    at (inl t) = absurd (none-some v (sym (e ∙ ap (λ (b : Bool). cond b None (Some n)) t)))
+    at (inr f) = let s = same_Some v n (e ∙ ap (λ (b : Bool). cond b None (Some n)) f) in (s, λ (q : v ≡ no_number). eqb-false n no_number f (sym s ∙ q))
+
+pub or_no_number : (n : ℕ) → unwrap_or (some_number n) no_number ≡ n
+unfolding some_number
+or_no_number n = at (true_or_false (eqb n no_number))
+  where
+    at : (eqb n no_number ≡ true) ⊎ (eqb n no_number ≡ false) → unwrap_or (cond (eqb n no_number) None (Some n)) no_number ≡ n
+    at (inl t) = ap (λ (b : Bool). unwrap_or (cond b None (Some n)) no_number) t ∙ sym (eqb-true n no_number t)
+    at (inr f) = ap (λ (b : Bool). unwrap_or (cond b None (Some n)) no_number) f
 
 -- Blank columns
 

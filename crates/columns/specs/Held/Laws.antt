@@ -5,14 +5,15 @@
 -- held_after     == the same for the bytes of a list from place at on
 -- held_says      == h is held after the bytes l exactly if Says h l
 -- may_follow     == a byte breaks what is held exactly if no column begins with the bytes and that one
--- as_before      == the number at the end is that of specs/Column.antt, for every column of every width
+-- as_before      == the number at the end, no_number where there is none, is that of specs/Column.antt, for every column of every width
+-- numbers_column == and of a column of at most widest_column bytes it is that number as code answers it
 -- so_far_below   == the number so far has at most as many digits as there were bytes
-use Rattle.std.specs.Prelude.{ℕ, zero, suc, ◌+◌, ◌*◌, ◌-◌, ◌<◌, ◌^◌, ◌≡◌, refl, ◌⊎◌, ◌↔◌, List, [], ◌∷◌, ◌++◌, Bool, true, false, cond, length, take, drop, get_or, eqb}
+use Rattle.std.specs.Prelude.{ℕ, zero, suc, ◌+◌, ◌*◌, ◌-◌, ◌<◌, ◌≤◌, ◌^◌, ◌≡◌, refl, ◌⊎◌, ◌↔◌, List, [], ◌∷◌, ◌++◌, Some, None, unwrap_or, Bool, true, false, cond, length, take, drop, get_or, eqb}
 use Rattle.std.proofs.Common.{sym, ap, ◌∙◌, subst, inl, inr, append-nil, arith, zero-add, add-one, length-drop, take-suc, get_or-drop, eqb-true, ne_eqb}
-use Rattle.std.proofs.Math.Nat.{one-le-pow}
+use Rattle.std.proofs.Math.Nat.{one-le-pow, pow-le-pow_right}
 use Rattle.basics.specs.Search.{all_in}
 use Rattle.basics.specs.Search.Laws.{true_or_false, not_both}
-use Rattle.columns.specs.Column.{is_digit, Pass, blank, nought, digits, broken, next, pass_from, found, column_number, column_of}
+use Rattle.columns.specs.Column.{widest_column, no_number, is_digit, Pass, blank, nought, digits, broken, next, pass_from, found, column_number, some_number, column_of}
 use Rattle.columns.specs.Column.Laws.{pass_from_append, pass_broken, pass_spaces, pass_nought, pass_digits, spaces_passed, nought_passed, digits_passed, padded_spaces}
 use Rattle.columns.specs.Held.{unpadded, value_from, held_digits, held, held_next, so_far, held_number, NoColumn, Says}
 use Rattle.columns.specs.declared.Held.{Held}
@@ -86,8 +87,8 @@ next_same (digits v) b = at (true_or_false (is_digit b))
     at (inr d) = simp d
 next_same broken b = refl
 
-found_same : (p : Pass) → held_number (as_held p) ≡ found p
-unfolding as_held held_number found
+found_same : (p : Pass) → unwrap_or (held_number (as_held p)) no_number ≡ found p
+unfolding as_held found
 found_same blank = refl
 found_same nought = refl
 found_same (digits v) = refl
@@ -108,9 +109,9 @@ held_after s at i h =
     ∙ (ap held (take-suc (drop at s) i 0 (simp length-drop (omega arith)))
     ∙ (held_told (take i (drop at s)) (get_or (drop at s) i 0) ∙ ap (λ (b : ℕ). held_next (held (take i (drop at s))) b) (get_or-drop at s i 0)))
 
-pub as_before : (l : List ℕ) → held_number (held l) ≡ column_number l
+pub as_before : (l : List ℕ) → unwrap_or (held_number (held l)) no_number ≡ column_number l
 unfolding column_number
-as_before l = ap held_number (held_pass l) ∙ found_same (pass_from blank l)
+as_before l = ap (λ (h : Held). unwrap_or (held_number h) no_number) (held_pass l) ∙ found_same (pass_from blank l)
 
 -- What each held state says
 
@@ -169,3 +170,15 @@ below_pass broken l e = one-le-pow (length l) 10 (omega arith)
 
 pub so_far_below : (l : List ℕ) → so_far (held l) < 10 ^ length l
 so_far_below l = rw held_pass (below_pass (pass_from blank l) l refl)
+
+answered : (h : Held) → so_far h < no_number → held_number h ≡ some_number (unwrap_or (held_number h) no_number)
+unfolding so_far some_number
+answered Blank s = refl
+answered Nought s = refl
+answered (Digits v) s = ap (λ (b : Bool). cond b None (Some v)) (sym (ne_eqb v no_number (λ (e : v ≡ no_number). omega arith)))
+answered Broken s = refl
+
+pub numbers_column : (l : List ℕ) → length l ≤ widest_column → held_number (held l) ≡ some_number (column_number l)
+numbers_column l narrow =
+    let most : 10 ^ length l ≤ 10 ^ 10 = pow-le-pow_right (omega arith) narrow in
+    answered (held l) (omega (arith, so_far_below l)) ∙ ap some_number (as_before l)

@@ -6,9 +6,6 @@ use Rattle.copies.proofs.total_back.Goals as goal
 pub loop-k-init : goal.loop-k-init
 loop-k-init c = adding_start c.args.copies.now c.args.count
 
-pub overflow_sub-k : goal.overflow_sub-k
-overflow_sub-k c = omega (arith, c.loop-k-test.true)
-
 pub overflow_mul-total : goal.overflow_mul-total
 overflow_mul-total c = omega (arith, c.loop-k.invariant.inside, c.requires.1)
 
@@ -26,9 +23,6 @@ overflow_cast-total c = omega (arith, c.type_inv.copies ((c.loop-k.k - 1) * 2 + 
 
 pub overflow_add-total-in-loop-k : goal.overflow_add-total-in-loop-k
 overflow_add-total-in-loop-k c = omega (arith, c.type_inv.copies ((c.loop-k.k - 1) * 2 + 1), c.loop-k.invariant.small, c.loop-k.invariant.inside, c.requires.1)
-
-pub loop-k-smaller : goal.loop-k-smaller
-loop-k-smaller c = omega (arith, c.loop-k-test.true)
 
 pub loop-k-preserved : goal.loop-k-preserved
 loop-k-preserved c = adding_copy c.args.copies.now c.args.count c.loop-k.invariant c.loop-k-test.true (omega (arith, c.type_inv.copies ((c.loop-k.k - 1) * 2 + 1)))

@@ -20,7 +20,7 @@
 use Prim.Native.Nat.{ℕ, zero, suc, ◌+◌, ◌*◌, ◌-◌, ◌≤◌, ◌<◌}
 use Rattle.std.proofs.Math.Path.{◌≡◌, refl, ap, subst}
 use Rattle.std.proofs.Common.{sym, ◌∙◌, inl, inr}
-use Rattle.std.specs.Prelude.{Bool, ◌&&◌, ◌||◌, ◌↔◌, ◌⊎◌, length, drop, ltb}
+use Rattle.std.specs.Prelude.{Option, Some, Result, Ok, Err, Bool, ◌&&◌, ◌||◌, ◌↔◌, ◌⊎◌, length, drop, ltb}
 use Rattle.std.proofs.Math.Bool.{true, false, cond}
 use Rattle.std.proofs.lemmas.Bool.{false≢true}
 use mathlib.Core.List.Memᴰ
@@ -42,14 +42,14 @@ use Rattle.fsbm.specs.declared.config.Mode.TheVariants.{Normal, Buffering, Empty
 use Rattle.fsbm.specs.Rules.{rules, Placed}
 use Rattle.fsbm.specs.Moves.Laws.{advanced_by, move_elim, accepts_says}
 use Rattle.fsbm.specs.Reaches.{same_mode}
-use Rattle.fsbm.specs.Answers.{table_and_word, refusal}
+use Rattle.fsbm.specs.Answers.{by_refusal, table_and_word, refusal}
 use Rattle.fsbm.specs.Answers.Laws.{input_refused, run_refused, slice_refused, none_refused}
 use Rattle.fsbm.specs.declared.answer.Refusal.{Refusal}
 use Rattle.copies.specs.Letters.{times_read, letters_from, letters_in, plain_letters, stored_letters}
 use Rattle.copies.specs.Letters.Laws.{plain_and_stored}
 use Rattle.copies.specs.declared.Copied.{Copied}
-use Rattle.copies.specs.declared.Copied.TheVariants.{Refused, Listed}
-use Rattle.copies.specs.Copies.{Copy, copy_at, copies_from, copies_of, with_letters, copy_list, is_empty, pairs, total_back, total_forward, longest_copied, copies_need, copies_refusal, copies_answer, copies_after}
+use Rattle.fsbm.specs.declared.answer.Refusal.TheVariants.{NotAccepting, ShortCopies}
+use Rattle.copies.specs.Copies.{Copy, copied, copy_at, copies_from, copies_of, with_letters, copy_list, is_empty, pairs, total_back, total_forward, longest_copied, copies_need, copies_refusal, copies_answer, copies_after}
 
 -- Totals
 
@@ -180,42 +180,42 @@ module _ (k : Copy) where
 
 module _ (m : Machine) (list w run slice : List ℕ) where
   -- what list_copies answers, and what it leaves in the slice
-  abbrev pub Leaves : Copied → List ℕ → Type 0
+  abbrev pub Leaves : Result Copied Refusal → List ℕ → Type 0
   Leaves r after = (r ≡ copies_answer m list w run (length slice)) × (after ≡ copies_after m list w run slice)
 
-  refuses : (f : Refusal) → f ≡ copies_refusal m list w run (length slice) → (f.number ≡ 0 → ⊥) → Leaves (Refused f) slice
+  refuses : (f : Refusal) → Some f ≡ copies_refusal m list w run (length slice) → Leaves (Err f) slice
   unfolding copies_answer copies_after
-  refuses f e some =
-      let no : eqb (copies_refusal m list w run (length slice)).number 0 ≡ false = ap (λ (z : Refusal). eqb z.number 0) (sym e) ∙ ne_eqb f.number 0 some in
-      (second _ no (ap Refused e), second _ no refl)
+  refuses f e = (
+    ap (λ (o : Option Refusal). by_refusal {A = Result Copied Refusal} o (Ok (copied (copy_list m list w run))) (λ g. Err g)) e,
+    ap (λ (o : Option Refusal). by_refusal o (pairs (copy_list m list w run) ++ drop (copies_need m list w run) slice) (λ g. slice)) e,
+  )
 
   abbrev short : Refusal
-  short = record { number = 20; needed = copies_need m list w run }
+  short = ShortCopies (copies_need m list w run)
 
-  pub refused_first : (table_and_word longest_copied m list w ≡ 0 → ⊥) → Leaves (Refused (refusal (table_and_word longest_copied m list w))) slice
+  pub refused_first : (table_and_word longest_copied m list w ≡ 0 → ⊥) → Leaves (Err (refusal (table_and_word longest_copied m list w))) slice
   unfolding copies_refusal
   refused_first h =
-      refuses (refusal (table_and_word longest_copied m list w)) (input_refused (table_and_word longest_copied m list w) (accepting m list w run) short (length slice) h) h
+      refuses (refusal (table_and_word longest_copied m list w)) (input_refused (table_and_word longest_copied m list w) (accepting m list w run) short (length slice) h)
 
   module _ (good : table_and_word longest_copied m list w ≡ 0) where
-    pub refused_run : accepting m list w run ≡ false → Leaves (Refused (refusal 14)) slice
+    pub refused_run : accepting m list w run ≡ false → Leaves (Err NotAccepting) slice
     unfolding copies_refusal
-    refused_run h =
-        refuses (refusal 14) (run_refused (table_and_word longest_copied m list w) (accepting m list w run) short (length slice) good h) (λ (z : ◌≡◌ {A = ℕ} 14 0). omega arith)
+    refused_run h = refuses NotAccepting (run_refused (table_and_word longest_copied m list w) (accepting m list w run) short (length slice) good h)
 
     module _ (a : accepting m list w run ≡ true) where
-      pub refused_room : length slice < length (copy_list m list w run) * 2 → Leaves (Refused (record { number = 20; needed = length (copy_list m list w run) * 2 })) slice
+      pub refused_room : length slice < length (copy_list m list w run) * 2 → Leaves (Err (ShortCopies (length (copy_list m list w run) * 2))) slice
       unfolding copies_refusal copies_need
-      refused_room h =
-          refuses short (slice_refused (table_and_word longest_copied m list w) (accepting m list w run) short (length slice) good a h) (λ (z : ◌≡◌ {A = ℕ} 20 0). omega arith)
+      refused_room h = refuses short (slice_refused (table_and_word longest_copied m list w) (accepting m list w run) short (length slice) good a h)
 
       pub listed_all : length (copy_list m list w run) * 2 ≤ length slice
-          → Leaves (Listed (length (copy_list m list w run)) (total_back (copy_list m list w run))) (pairs (copy_list m list w run) ++ drop (length (copy_list m list w run) * 2) slice)
+          → Leaves (Ok (copied (copy_list m list w run))) (pairs (copy_list m list w run) ++ drop (length (copy_list m list w run) * 2) slice)
       unfolding copies_refusal copies_answer copies_after copies_need
       listed_all h =
-          let none = none_refused (table_and_word longest_copied m list w) (accepting m list w run) short (length slice) good a h in
-          let yes : eqb (copies_refusal m list w run (length slice)).number 0 ≡ true = ap (λ (z : Refusal). eqb z.number 0) (sym none) in
-          (first _ yes refl, first _ yes refl)
+          let none = none_refused (table_and_word longest_copied m list w) (accepting m list w run) short (length slice) good a h in (
+            ap (λ (o : Option Refusal). by_refusal {A = Result Copied Refusal} o (Ok (copied (copy_list m list w run))) (λ g. Err g)) none,
+            ap (λ (o : Option Refusal). by_refusal o (pairs (copy_list m list w run) ++ drop (length (copy_list m list w run) * 2) slice) (λ g. slice)) none,
+          )
 
 -- The letters that are stored
 

@@ -3,7 +3,7 @@
 -- weight_set        == the sum after one number is replaced
 -- lowering_none, lowering_one, lowering_as == no candidate, those of one state, candidates by another name
 -- lowering_stays, lowering_falls == two lots of candidates one after the other
--- Sweeping, sweep_start .. sweep_end == a loop over the states of a set
+-- Sweeping, sweep_start, sweep_turn, sweep_end == a loop over the states of a set
 -- through_bounded, beside_marked == at its end no candidate would lower the row
 -- through_real, beside_real == the numbers stay those of ways to acceptance
 -- may_leads, leads_may == which transitions a mode may take, by the marks and by the sets of states
@@ -11,7 +11,7 @@
 -- visit_lowers      == the candidates of one state, from its set in the table
 -- closed_here, closed_more, closed_none == passes over the row itself: the last one, one before others, and where no state has a transition
 use Prim.Native.Nat.{ℕ, zero, suc, ◌+◌, ◌^◌, ◌≤◌, ◌<◌}
-use Rattle.std.specs.Prelude.{◌≡◌, refl, ◌⊎◌, ◌↔◌, Bool, List, [], ◌∷◌, length, get_or}
+use Rattle.std.specs.Prelude.{◌≡◌, refl, ◌⊎◌, ◌↔◌, Bool, ◌||◌, List, [], ◌∷◌, length, get_or}
 use Rattle.std.proofs.Common.{sym, ◌∙◌, subst, get_or-set_other}
 use Rattle.std.proofs.Math.Path.{ap}
 use Rattle.std.proofs.Math.Logic.{inl, inr}
@@ -22,7 +22,8 @@ use Rattle.std.proofs.Math.Decide.{ℕ_discrete, dec_lt}
 use Rattle.std.proofs.Math.ListN.{set, length-set, get_or-eq_default}
 use Rattle.std.proofs.Math.Seq.{get_or-set_same}
 use borrow.Author.Tests.{ltb-true, ltb-false}
-use Rattle.stateset.specs.Set.{width, In}
+use Rattle.basics.specs.Search.Laws.{true_or_false, or_true_right}
+use Rattle.stateset.specs.Set.{width, In, Taken}
 use Rattle.stateset.specs.Set.Laws.{empty_in}
 use Rattle.fsbm.specs.Machine.{transition_at}
 use Rattle.fsbm.specs.Published.{Listed, fsbm_of, Configuration, config, Yields}
@@ -216,6 +217,18 @@ module _ {C : ℕ → ℕ → Type 0} {set : ℕ} where
           inside = λ q h. s.inside q ((others q).0 h).0;
           so_far = lowering_stays left right either s.so_far (subst (λ (z : Bool). Lowering (Only C a) row row' z) f g);
         })
+
+  -- a turn, in which any number may have fallen
+  pub sweep_turn : {rest a rest' : ℕ} {row₀ row row' : List ℕ} {fell b : Bool} → Sweeping C set rest row₀ row fell → Taken rest a rest' → Lowering (Only C a) row row' b → Sweeping C set rest' row₀ row' (fell || b)
+  sweep_turn {rest} {a} {rest'} {row₀} {row} {row'} {fell} {b} s t g = on (true_or_false b)
+    where
+      or_false_none : (c : Bool) → (c || false) ≡ c
+      or_false_none true = refl
+      or_false_none false = refl
+
+      on : (b ≡ true) ⊎ (b ≡ false) → Sweeping C set rest' row₀ row' (fell || b)
+      on (inl e) = sweep_falls s t.member t.rest.fits t.rest.members g e (or_true_right fell b e)
+      on (inr e) = sweep_stays s t.member t.rest.fits t.rest.members g e (rw e (or_false_none fell))
 
 -- Along transitions
 

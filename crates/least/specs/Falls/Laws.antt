@@ -15,7 +15,7 @@ use Rattle.std.proofs.Common.{sym, ap, ◌∙◌, subst, inl, inr, arith, length
 use Rattle.std.proofs.Math.Decide.{ℕ_discrete, dec_lt}
 use Rattle.std.specs.Int.Count.{ones}
 use Rattle.std.proofs.lemmas.Bool.{eqb-false}
-use Rattle.stateset.specs.Set.{width, digit, In, has, added, SetIs}
+use Rattle.stateset.specs.Set.{width, digit, In, has, added, SetIs, Taken}
 use Rattle.stateset.specs.Set.Laws.{has_in}
 use Rattle.fsbm.specs.Machine.{transition_at, buffering}
 use Rattle.fsbm.specs.Published.{fsbm_of}
@@ -24,7 +24,7 @@ use Rattle.fsbm.specs.declared.machine.Machine.{Machine}
 use Rattle.pieces.specs.Pairs.{unit, weigh, NormalMove, moves}
 use Rattle.pieces.specs.Blocks.{nothing, cell, cost_of}
 use Rattle.pieces.proofs.BlocksLaws.{cost_inside, cost_past}
-use Rattle.blocks.specs.Numbers.Laws.{total_set, added_more, Left, Rest, Taken, left_start, left_more, left_end}
+use Rattle.blocks.specs.Numbers.Laws.{total_set, added_more, Left, Rest, left_start, left_more, left_end}
 use Rattle.blocks.specs.Stretches.Laws.{row_stretch}
 use Rattle.blocks.specs.Works.{Kind, Ready}
 use Rattle.least.specs.Falls.{Falls, Single, Step, Steps, NormalFrom, End, CopyEnds, Enterable}

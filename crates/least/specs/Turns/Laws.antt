@@ -12,7 +12,7 @@
 -- lowered_same, lowered_to, lowered_then == the loop that lowers the limit
 -- turns_end           == the last turn: no buffering state was started
 -- turns_less          == each turn lowers the measure
-use Rattle.std.specs.Prelude.{ℕ, ◌+◌, ◌*◌, ◌%◌, ◌^◌, ◌≤◌, ◌<◌, ◌≡◌, refl, ◌⊎◌, ◌↔◌, Bool, true, false, List, length, get_or, set}
+use Rattle.std.specs.Prelude.{ℕ, ◌+◌, ◌*◌, ◌%◌, ◌^◌, ◌≤◌, ◌<◌, ◌≡◌, refl, ◌⊎◌, ◌↔◌, Bool, true, false, List, length, get_or, set, min, ◌-◌}
 use Rattle.std.proofs.Common.{sym, ◌∙◌, subst, inl, inr, arith, eqb-true, eq-eqb}
 use Rattle.std.proofs.Math.Path.{ap}
 use Rattle.std.proofs.Math.Decide.{ℕ_discrete, dec_lt}
@@ -22,7 +22,7 @@ use Rattle.basics.specs.Lists.Laws.{set_next}
 use Rattle.graphs.specs.Cost.{Route, Settled}
 use Rattle.graphs.specs.Back.{Back}
 use Rattle.basics.specs.Search.Laws.{true_or_false}
-use Rattle.stateset.specs.Set.{width, digit, In, has, added, SetIs}
+use Rattle.stateset.specs.Set.{width, digit, In, has, added, SetIs, Taken}
 use Rattle.stateset.specs.Set.Laws.{in?, has_in, in_lt, empty_in, ones_mono, ones_zero, ones_of_zero}
 use Rattle.fsbm.specs.Machine.{well_formed, transition_at, mark_of, final, buffering, matching}
 use Rattle.fsbm.specs.Published.{fsbm_of}
@@ -35,7 +35,7 @@ use Rattle.pieces.specs.Blocks.{nothing, cell, cost_of}
 use Rattle.pieces.proofs.BlocksLaws.{cost_inside, cost_past, block_copies}
 use Rattle.pieces.proofs.RoundsLaws.{NormalDone, CopiesDone, rounds_start, rounds_turn, rounds_looked, rounds_copied, rounds_end, stores_enters, copy_origin}
 use Rattle.blocks.specs.Numbers.{total}
-use Rattle.blocks.specs.Numbers.Laws.{added_more, Left, Rest, Taken, left_start, left_more, left_end}
+use Rattle.blocks.specs.Numbers.Laws.{added_more, taken_fewer, Left, Rest, left_start, left_more, left_end}
 use Rattle.blocks.specs.Works.{Kind}
 use Rattle.blocks.specs.Works.Laws.{block_inside}
 use Rattle.least.specs.Falls.{Falls, NormalFrom, CopyEnds}
@@ -68,7 +68,7 @@ module _ (m : Machine) (list : List ℕ) where
         less =
             let x = added_more started q here in
             let y = ap ones is.value in
-            omega (arith, f.less, k.fewer, so.less);
+            omega (arith, f.less, taken_fewer so.fits k, so.less);
       }
     where
       origin : (p : ℕ) → (cost_of d' p ≡ cost_of d p) ⊎ NormalFrom m list d q p (cost_of d' p) → (cost_of d' p ≡ cost_of d p) ⊎ ((x : ℕ) × (w : ℕ) × Piece (fsbm_of m list) x p w × (cost_of d' p ≡ w + cost_of d x))
@@ -81,7 +81,7 @@ module _ (m : Machine) (list : List ℕ) where
       same p quiet (inr j) = absurd (quiet j)
 
       old : (p : ℕ) → (In fresh₂ p → ⊥) → (p ≡ q → ⊥) → In fresh p → ⊥
-      old p quiet other j = quiet (f.stays p ((k.is.members p).1 (j, other)))
+      old p quiet other j = quiet (f.stays p ((k.rest.members p).1 (j, other)))
 
       normal : (top : ℕ) → top ≤ nothing → (p : ℕ) → (In fresh₂ p → ⊥) → Dec (p ≡ q) → ((In fresh p → ⊥) × (cost_of d' p ≡ cost_of d p)) ⊎ NormalDone (fsbm_of m list) top (cost_of d') p
       normal top small p quiet (no n) = inl (old p quiet n, same p quiet (f.changed p))
@@ -330,6 +330,14 @@ pub lowered_to : {marks d : List ℕ} {limit f v : ℕ} → final marks f ≡ tr
 lowered_to {marks} {d} {limit} {f} {v} last here is lt =
     record { keeps = λ l. record { small = let s = l.small in omega arith; reached = inr (f, last, let z = cost_inside d f here in omega arith) }; less = omega arith }
 
+-- the limit or one more than a number, whichever is less
+pub lowered_min : {marks d : List ℕ} {limit f v r : ℕ} → final marks f ≡ true → f < 64 → v ≡ get_or d f 0 → limit < 2 ^ 64 → r ≡ min limit (min (v + 1) (2 ^ 64 - 1)) → Lowered marks d limit r
+lowered_min {marks} {d} {limit} {f} {v} {r} last here is fits e = on (dec_lt (v + 1) limit)
+  where
+    on : Dec (v + 1 < limit) → Lowered marks d limit r
+    on (yes l) = let z : r ≡ v + 1 = omega arith in rw z (lowered_to last here is l)
+    on (no n) = let z : r ≡ limit = omega arith in rw z (lowered_same limit)
+
 pub lowered_then : {marks d : List ℕ} {limit top r : ℕ} → Lowered marks d limit top → Lowered marks d top r → Lowered marks d limit r
 lowered_then a b = record { keeps = λ l. b.keeps (a.keeps l); less = let x = a.less in let y = b.less in omega arith }
 
@@ -342,9 +350,9 @@ module _ (list : List ℕ) (k h set : ℕ) where
   pub entered_inside : set < 2 ^ width → has h (transition_at list k).from ≡ true → EnteredBy list k h set set
   entered_inside l e = record { fits = l; stays = λ q j. j; this = λ j n. absurd (n ((has_in h (transition_at list k).from).0 e)); only = λ q j. inl j }
 
-  pub entered_is : {r : ℕ} → (transition_at list k).to < 64 → has h (transition_at list k).to ≡ true
+  entered_here : {r : ℕ} → (transition_at list k).to < 64 → has h (transition_at list k).to ≡ true
       → SetIs r (added set (transition_at list k).to) (λ p. In set p ⊎ ((p ≡ (transition_at list k).to) × (p < width))) → EnteredBy list k h set r
-  entered_is {r} l e is =
+  entered_here {r} l e is =
       record {
         fits = is.fits;
         stays = λ q j. (is.members q).1 (inl j);
@@ -355,6 +363,10 @@ module _ (list : List ℕ) (k h set : ℕ) where
       on : (q : ℕ) → In set q ⊎ ((q ≡ (transition_at list k).to) × (q < width)) → In set q ⊎ In h q
       on q (inl j) = inl j
       on q (inr j) = inr (subst (λ (i : ℕ). In h i) (sym j.0) ((has_in h (transition_at list k).to).0 e))
+
+  pub entered_is : {to r : ℕ} → to ≡ (transition_at list k).to → to < 64 → has h to ≡ true → SetIs r (added set to) (λ p. In set p ⊎ ((p ≡ to) × (p < width))) → EnteredBy list k h set r
+  entered_is {to} {r} e l is_in is =
+      entered_here (rw e at l) (rw e at is_in) (subst (λ (z : ℕ). SetIs r (added set z) (λ p. In set p ⊎ ((p ≡ z) × (p < width)))) e is)
 
 module _ (m : Machine) (list : List ℕ) where
   pub below_start : (set : ℕ) → set ≡ 0 → EnteredBelow m list 0 set
@@ -429,6 +441,14 @@ module _ (h : ℕ) (d : List ℕ) where
       on : Left h rest z ⊎ (z ≡ q) → cost_of d z ≤ most'
       on (inl i) = let y = f z i in omega arith
       on (inr e) = let y : cost_of d z ≡ cost_of d q = ap (cost_of d) e in omega arith
+
+  -- the largest number or the limit, whichever is less
+  pub most_min : (limit rest most r : ℕ) → rest ≡ 0 → limit ≤ nothing → ((z : ℕ) → Left h rest z → cost_of d z ≤ most) → r ≡ min most limit → Tops limit h d r
+  most_min limit rest most r none small f e = record { small = omega arith; bounds = λ z k. on z (dec_lt limit most) (f z ((left_end h rest z none).1 k)) }
+    where
+      on : (z : ℕ) → Dec (limit < most) → cost_of d z ≤ most → (cost_of d z ≤ r) ⊎ (limit ≤ r)
+      on z (yes l) le = inr (omega arith)
+      on z (no n) le = inl (omega arith)
 
   pub most_over : (limit : ℕ) → limit ≤ nothing → Tops limit h d limit
   most_over limit small = record { small = small; bounds = λ z k. inr (omega arith) }

@@ -12,6 +12,7 @@
 -- GoodLines text n     == the text has n lines, at most 250, without fault; lines_none == what that says
 -- load-iff             == a text loads exactly if its lines have no fault and its letters run from 1 without a gap
 -- letter_of            == the letter of each byte in the record
+-- load_numbered        == the fault of a text is 0, or the number of the refusal that stands for it
 use Prim.Native.Nat.{ℕ, zero, suc, ◌*◌, ◌<◌, ◌≤◌}
 use Rattle.std.specs.Prelude.{◌≡◌, ◌⊎◌, ◌↔◌, List, Bool, true, false, ◌&&◌, length, ltb}
 use Rattle.std.proofs.Math.Path.{refl, ap}
@@ -29,7 +30,9 @@ use Rattle.sheet.specs.Reading.{unless, line_fault}
 use Rattle.sheet.specs.Reading.Laws.{unless_zero}
 use Rattle.letters.specs.Alphabet.{byte_values, max_lines, largest_of, gapless, lettered}
 use Rattle.letters.specs.Alphabet.Laws.{largest_bound, largest_below, lettered_same, gapless_both}
-use Rattle.letters.specs.Loading.{line_start, byte_at, lines_begun, listed_before, entry_fault, last_of}
+use Rattle.fsbm.specs.Answers.Laws.{Numbered, numbered_none, numbered_by, numbered_3, numbered_21, numbered_22}
+use Rattle.sheet.specs.Numbers.{numbered_or, numbered_first, line_numbered}
+use Rattle.letters.specs.Loading.{line_start, byte_at, lines_begun, listed_before, entry_fault, letters_run, load_fault, last_of}
 
 -- The letter of a byte
 
@@ -215,3 +218,13 @@ module _ (text : List ℕ) (none : first_of (lines_begun text) (entry_fault text
       at : (n : ℕ) → lines_begun text ≡ n → n ≤ max_lines
       at zero e = omega arith
       at (suc n) e = let g = (entries n (omega arith)).few in omega arith
+
+-- The fault of a text as a refusal
+
+pub load_numbered : (text : List ℕ) → Numbered (load_fault text)
+unfolding load_fault entry_fault
+load_numbered text =
+    numbered_or _ _
+    (numbered_first (lines_begun text) (entry_fault text)
+    (λ i. numbered_or _ _ (line_numbered text 2 (line_start i)) (numbered_or _ _ (numbered_by _ 0 3 numbered_none numbered_3) (numbered_by _ 0 21 numbered_none numbered_21))))
+    (numbered_by (letters_run text) 0 22 numbered_none numbered_22)

@@ -17,10 +17,12 @@ use Rattle.basics.specs.Search.Laws.{true_or_false, and_true, all_below_true}
 use Rattle.basics.specs.Search.Loops.{first, second}
 use Rattle.fsbm.specs.Machine.{well_formed}
 use Rattle.fsbm.specs.Accepted.{accepted}
-use Rattle.fsbm.specs.Answers.{longest_recognized, good_letter, good_letters, table_and_word, refusal}
+use Rattle.fsbm.specs.Answers.{longest_recognized, good_letter, good_letters, table_and_word, number_of, refusal, passed, unless}
 use Rattle.fsbm.specs.declared.machine.Machine.{Machine}
-use Rattle.accepts.specs.Decision.{decided_by, decision}
-use Rattle.accepts.specs.declared.prepared.Decided.TheVariants.{Refused}
+use Rattle.accepts.specs.Decision.{decision}
+use Rattle.std.specs.Prelude.{Ok, Err}
+use Rattle.fsbm.specs.declared.answer.Refusal.{Refusal}
+use Rattle.fsbm.specs.Answers.Laws.{Numbered, numbered_none, numbered_by, numbered_2, numbered_9, passed_err}
 use Rattle.lines.specs.Line.{longest_line, letter_at, tabulate, word_of, holds_number, holds_letter, line_refusal, line_answer}
 use Rattle.lines.specs.Steps.{columns_fault, answer_of}
 use Rattle.lines.specs.declared.Answer.{Answer}
@@ -76,6 +78,11 @@ line_refused letters line =
     by true false c = refl
     by false b c = refl
 
+-- what is printed for a word with a letter that is not there
+letter_absent : answer_of (Err (refusal 8)) ≡ record { answer = 2; refusal = 8 }
+unfolding refusal
+letter_absent = refl
+
 module _ (m : Machine) (list line : List ℕ) where
   answered_as : (r : ℕ) → r ≡ line_refusal m.letters line
       → cond (eqb r 0) (record { answer = cond (accepted m list (word_of line)) 1 0; refusal = 0 }) (record { answer = 2; refusal = r }) ≡ line_answer m list line
@@ -83,11 +90,18 @@ module _ (m : Machine) (list line : List ℕ) where
   answered_as r e =
       ap {B = Answer} (λ (z : ℕ). cond (eqb z 0) (record { answer = cond (accepted m list (word_of line)) 1 0; refusal = 0 }) (record { answer = 2; refusal = z })) e
 
-  pub turned_down : (r : ℕ) → r ≡ columns_fault line → (r ≡ 0 → ⊥) → record { answer = 2; refusal = r } ≡ line_answer m list line
-  turned_down r e n =
-      let t : eqb r 0 ≡ false = ne_eqb r 0 n in
-      second {r = record { answer = 2; refusal = r }} _ t refl
-      ∙ answered_as r (second _ (ap (λ (z : ℕ). eqb z 0) (sym e) ∙ t) e ∙ sym (line_refused m.letters line))
+  columns_numbered : Numbered (columns_fault line)
+  unfolding columns_fault
+  columns_numbered =
+      numbered_by (leb (length line) longest_line) _ 9 (numbered_by (eqb (length line % 5) 0 && all_below (length line / 5) (holds_number line)) 0 2 numbered_none numbered_2) numbered_9
+
+  pub turned_down : (f : Refusal) → Err f ≡ passed (columns_fault line) → answer_of (Err f) ≡ line_answer m list line
+  turned_down f is =
+      let h = passed_err (columns_fault line) f is in
+      let r : number_of f ≡ columns_fault line = ap number_of h.1 ∙ columns_numbered.number h.0 in
+      let t : eqb (number_of f) 0 ≡ false = ne_eqb (number_of f) 0 (λ (z : number_of f ≡ 0). h.0 (sym r ∙ z)) in
+      second {r = record { answer = 2; refusal = number_of f }} _ t refl
+      ∙ answered_as (number_of f) (second _ (ap (λ (z : ℕ). eqb z 0) (sym r) ∙ t) r ∙ sym (line_refused m.letters line))
 
   module _ (obeys : well_formed m list ≡ true) (numbers : columns_fault line ≡ 0) (f : ℕ → ℕ) (same : (v : ℕ) → good_letter m.letters (f v) ≡ good_letter m.letters v)
       (kept : (v : ℕ) → v ≤ m.letters → f v ≡ v) where
@@ -110,18 +124,14 @@ module _ (m : Machine) (list line : List ℕ) where
     number_is b e = first _ obeys (first _ (le-leb _ _ few) (ap {B = ℕ} (λ (z : Bool). cond z 0 8) (sym e ∙ sym letters_are)))
 
     decision_is : (b : Bool) → all_below (length line / 5) (holds_letter m.letters line) ≡ b
-        → cond (eqb (cond b 0 8) 0) (decided_by (accepted m list word)) (Refused (refusal (cond b 0 8))) ≡ decision m list word
+        → unless (cond b 0 8) (Ok (accepted m list word)) ≡ decision m list word
     unfolding decision
-    decision_is b e = ap (λ (z : ℕ). cond (eqb z 0) (decided_by (accepted m list word)) (Refused (refusal z))) (number_is b e)
+    decision_is b e = ap (λ (z : ℕ). unless z (Ok (accepted m list word))) (number_is b e)
 
     pub line_answered : answer_of (decision m list word) ≡ line_answer m list line
     unfolding word_of
     line_answered = at (all_below (length line / 5) (holds_letter m.letters line)) refl
       where
-        printed : (b : Bool) → answer_of (decided_by b) ≡ record { answer = cond b 1 0; refusal = 0 }
-        printed true = refl
-        printed false = refl
-
         whole : all_below (length line / 5) (holds_letter m.letters line) ≡ true → word ≡ word_of line
         whole t =
             tabulate_same (length line / 5) (λ k. f (letter_at line k)) (letter_at line)
@@ -130,9 +140,8 @@ module _ (m : Machine) (list line : List ℕ) where
         at : (b : Bool) → all_below (length line / 5) (holds_letter m.letters line) ≡ b → answer_of (decision m list word) ≡ line_answer m list line
         at true t =
             ap answer_of (sym (decision_is true t))
-            ∙ (printed (accepted m list word)
-            ∙ (ap {B = Answer} (λ (w : List ℕ). record { answer = cond (accepted m list w) 1 0; refusal = 0 }) (whole t) ∙ answered_as 0 (refusal_is true t)))
-        at false t = ap answer_of (sym (decision_is false t)) ∙ answered_as 8 (refusal_is false t)
+            ∙ (ap {B = Answer} (λ (w : List ℕ). record { answer = cond (accepted m list w) 1 0; refusal = 0 }) (whole t) ∙ answered_as 0 (refusal_is true t))
+        at false t = ap answer_of (sym (decision_is false t)) ∙ (letter_absent ∙ answered_as 8 (refusal_is false t))
 
   pub listed_by_accepts : well_formed m list ≡ true → columns_fault line ≡ 0 → line_answer m list line ≡ answer_of (decision m list (word_of line))
   unfolding word_of

@@ -1,8 +1,10 @@
+use Rattle.std.proofs.Common.{ap, ◌∙◌, arith}
+use Rattle.fsbm.specs.Machine.{transition_at}
 use Rattle.page.proofs.PageCases.{taken, turned}
 use Rattle.page.proofs.after_entry.Goals as goal
 
-pub returns-then-transitions-k : goal.returns-then-transitions-k
-returns-then-transitions-k c = turned c.args.transitions c.args.marks.now c.args.list.now c.args.c _ c.if-transitions-k.true c.change_mode-v.result c.change_mode-v.ensures
+pub returns-then-t-k : goal.returns-then-t-k
+returns-then-t-k c = λ w allowed. turned c.args.t.now.machine c.args.t.now.list.now w c.args.c c.args.entry allowed (omega arith) c.change_mode.result c.change_mode.ensures
 
 pub returns : goal.returns
-returns c = taken c.args.transitions c.args.marks.now c.args.list.now c.args.c _ c.if-transitions-k.false c.present_transition.result c.present_transition.ensures c.after.result c.after.ensures
+returns c = λ w allowed. taken c.args.t.now.machine c.args.t.now.list.now w c.args.c c.args.entry allowed (omega arith) c.transition.result (c.transition.ensures ∙ ap (transition_at c.args.t.now.list.now) c.from-k.ensures) c.after.result c.after.ensures

@@ -7,20 +7,21 @@
 -- some_entry           == it has an entry
 -- entry_at, last_at    == where the lines of a page stand
 -- fault_table, fault_length, fault_letter, fault_none == the first refusals: 16, 9, 8; none, exactly if all of that is good
+-- page_numbered        == the first of them is 0, or the number of the refusal that stands for it
 -- Leaves r after       == write_page answers r and leaves after in the slice
 -- refused_first, refused_run, refused_room, written_all == it does so, in its four cases: by 16, 9 or 8; by 14; by 19; or the page
 use Prim.Native.Nat.{ℕ, zero, suc, ◌*◌, ◌≤◌, ◌<◌}
 use Rattle.std.proofs.Math.Path.{◌≡◌, refl, sym, ap, subst}
 use Rattle.std.proofs.Common.{◌∙◌, inl, inr, drop-cons}
-use Rattle.std.specs.Prelude.{◌↔◌, ◌⊎◌, Bool, ◌&&◌, drop, ltb}
+use Rattle.std.specs.Prelude.{◌↔◌, ◌⊎◌, Option, None, Some, Result, Ok, Err, Bool, ◌&&◌, drop, ltb}
 use Rattle.std.proofs.Math.Bool.{true, false}
 use Rattle.std.proofs.lemmas.Bool.{false≢true}
 use mathlib.Core.List.{List, [], ◌∷◌, ◌++◌, append_assoc}
 use native.Mathlib.Omega.{arith}
 use Rattle.std.proofs.Math.ListN.{length, get_or, length-append}
 use Rattle.std.proofs.Math.Seq.{drop_at}
-use Rattle.std.proofs.Math.Dec.{leb, eqb}
-use borrow.Author.Tests.{ne_eqb, ltb-true, leb-true, le-leb, lt-leb}
+use Rattle.std.proofs.Math.Dec.{leb}
+use borrow.Author.Tests.{ltb-true, leb-true, le-leb, lt-leb}
 use Rattle.basics.specs.Search.Laws.{true_or_false, and_true, and_both_true}
 use Rattle.basics.specs.Search.Loops.{first, second}
 use Rattle.basics.specs.Each.{each_below}
@@ -31,13 +32,19 @@ use Rattle.fsbm.specs.Machine.{well_formed, initial}
 use Rattle.fsbm.specs.Rules.{rules, Placed}
 use Rattle.fsbm.specs.Moves.{move, start_at, accepting_from, accepting}
 use Rattle.fsbm.specs.Moves.Laws.{move_stays, start_placed}
-use Rattle.fsbm.specs.Answers.{good_letters, refusal}
-use Rattle.fsbm.specs.Answers.Laws.{input_refused, run_refused, slice_refused, none_refused}
+use Rattle.fsbm.specs.Answers.{by_refusal, good_letters, refusal}
+use Rattle.fsbm.specs.Answers.Laws.{Numbered, numbered_none, numbered_by, numbered_8, numbered_9, numbered_16, input_refused, run_refused, slice_refused, none_refused}
 use Rattle.fsbm.specs.declared.machine.Machine.{Machine}
 use Rattle.fsbm.specs.declared.answer.Refusal.{Refusal}
-use Rattle.sheet.specs.declared.answers.Written.{Written}
-use Rattle.sheet.specs.declared.answers.Written.TheVariants.{Refused, Bytes}
+use Rattle.fsbm.specs.declared.answer.Refusal.TheVariants.{NotAccepting, ShortSheet}
 use Rattle.page.specs.Page.{longest_word, longest_run, page_column, after_entry, entry_numbers, entry_line, last_numbers, page_of, page_length, page_fault, page_refusal, page_answer, page_after}
+
+pub page_numbered : (m : Machine) (list w run : List ℕ) → Numbered (page_fault m list w run)
+unfolding page_fault
+page_numbered m list w run =
+    numbered_by (well_formed m list) _ 16
+    (numbered_by (leb (length w) longest_word && leb (length run) longest_run) _ 9 (numbered_by (good_letters m.letters w) 0 8 numbered_none numbered_8) numbered_9)
+    numbered_16
 
 module _ (m : Machine) (list w run : List ℕ) where
   pub entry_wide : (i : ℕ) → length (entry_line m list w run i) ≡ 31
@@ -160,37 +167,34 @@ module _ (m : Machine) (list w run : List ℕ) where
           (t, leb-true (length w) longest_word a, leb-true (length run) longest_run b, l)
 
   module _ (slice : List ℕ) where
-    abbrev pub Leaves : Written → List ℕ → Type 0
+    abbrev pub Leaves : Result ℕ Refusal → List ℕ → Type 0
     Leaves r after = (r ≡ page_answer m list w run (length slice)) × (after ≡ page_after m list w run slice)
 
-    refuses : (f : Refusal) → f ≡ page_refusal m list w run (length slice) → (f.number ≡ 0 → ⊥) → Leaves (Refused f) slice
+    leaves : (o : Option Refusal) → o ≡ page_refusal m list w run (length slice)
+        → Leaves (by_refusal o (Ok (page_length (length run))) (λ f. Err f)) (by_refusal o (page_of m list w run ++ drop (page_length (length run)) slice) (λ f. slice))
     unfolding page_answer page_after
-    refuses f e some =
-        let no : eqb (page_refusal m list w run (length slice)).number 0 ≡ false = ap (λ (z : Refusal). eqb z.number 0) (sym e) ∙ ne_eqb f.number 0 some in
-        (second _ no (ap Refused e), second _ no refl)
+    leaves o e = (
+      ap (λ (x : Option Refusal). by_refusal {A = Result ℕ Refusal} x (Ok (page_length (length run))) (λ f. Err f)) e,
+      ap (λ (x : Option Refusal). by_refusal x (page_of m list w run ++ drop (page_length (length run)) slice) (λ f. slice)) e,
+    )
 
     abbrev short : Refusal
-    short = record { number = 19; needed = page_length (length run) }
+    short = ShortSheet (page_length (length run))
 
-    pub refused_first : (page_fault m list w run ≡ 0 → ⊥) → Leaves (Refused (refusal (page_fault m list w run))) slice
+    pub refused_first : (page_fault m list w run ≡ 0 → ⊥) → Leaves (Err (refusal (page_fault m list w run))) slice
     unfolding page_refusal
-    refused_first h = refuses (refusal (page_fault m list w run)) (input_refused (page_fault m list w run) (accepting m list w run) short (length slice) h) h
+    refused_first h = leaves (Some (refusal (page_fault m list w run))) (input_refused (page_fault m list w run) (accepting m list w run) short (length slice) h)
 
     module _ (good : page_fault m list w run ≡ 0) where
-      pub refused_run : accepting m list w run ≡ false → Leaves (Refused (refusal 14)) slice
+      pub refused_run : accepting m list w run ≡ false → Leaves (Err NotAccepting) slice
       unfolding page_refusal
-      refused_run h =
-          refuses (refusal 14) (run_refused (page_fault m list w run) (accepting m list w run) short (length slice) good h) (λ (z : ◌≡◌ {A = ℕ} 14 0). omega arith)
+      refused_run h = leaves (Some NotAccepting) (run_refused (page_fault m list w run) (accepting m list w run) short (length slice) good h)
 
       module _ (a : accepting m list w run ≡ true) where
-        pub refused_room : length slice < page_length (length run) → Leaves (Refused (record { number = 19; needed = page_length (length run) })) slice
+        pub refused_room : length slice < page_length (length run) → Leaves (Err (ShortSheet (page_length (length run)))) slice
         unfolding page_refusal
-        refused_room h =
-            refuses short (slice_refused (page_fault m list w run) (accepting m list w run) short (length slice) good a h) (λ (z : ◌≡◌ {A = ℕ} 19 0). omega arith)
+        refused_room h = leaves (Some short) (slice_refused (page_fault m list w run) (accepting m list w run) short (length slice) good a h)
 
-        pub written_all : page_length (length run) ≤ length slice → Leaves (Bytes (page_length (length run))) (page_of m list w run ++ drop (page_length (length run)) slice)
-        unfolding page_refusal page_answer page_after
-        written_all h =
-            let none = none_refused (page_fault m list w run) (accepting m list w run) short (length slice) good a h in
-            let yes : eqb (page_refusal m list w run (length slice)).number 0 ≡ true = ap (λ (z : Refusal). eqb z.number 0) (sym none) in
-            (first _ yes refl, first _ yes refl)
+        pub written_all : page_length (length run) ≤ length slice → Leaves (Ok (page_length (length run))) (page_of m list w run ++ drop (page_length (length run)) slice)
+        unfolding page_refusal
+        written_all h = leaves None (none_refused (page_fault m list w run) (accepting m list w run) short (length slice) good a h)

@@ -1,36 +1,41 @@
-use native.Mathlib.Omega.{arith}
-use Rattle.fsbm.specs.Rules.{rules as rules_of}
-use Rattle.recognize.proofs.RecognizeCases.{needed_fits, refused_table, refused_slice}
+use Rattle.std.proofs.Common.{refl, arith}
+use Rattle.std.proofs.lemmas.Result.{err_from_is_err_and}
 use Rattle.fsbm.proofs.AnswerCases.{table_good}
-use Rattle.targets.specs.Prepared.Laws.{product_small}
 use Rattle.fsbm.specs.Accepted.{run_bound}
-use mathlib.Core.Path.{refl, sym, ◌∙◌}
+use Rattle.fsbm.specs.Answers.Laws.{passed_ok}
+use Rattle.fsbm.specs.Rules.{rules as rules_of}
+use Rattle.targets.specs.Prepared.Laws.{product_small}
+use Rattle.recognize.proofs.RecognizeCases.{needed_fits, refused_table, refused_slice}
 use Rattle.recognize.proofs.recognize.Goals as goal
 
-pub returns-then-number-ne0 : goal.returns-then-number-ne0
-returns-then-number-ne0 c = refused_table c.args.m c.args.list.now c.args.word.now c.args.run.now c.table_and_word-number.result c.table_and_word-number.ensures c.if-number-ne0.true
+pub returns-in_err-table_and_word : goal.returns-in_err-table_and_word
+returns-in_err-table_and_word c =
+    let p = err_from_is_err_and c.from_residual.result c.from_residual.ensures.1 in
+    rw (p.1, p.2) (refused_table c.args.m c.args.list.now c.args.word.now c.args.run.now _ c.in_err-table_and_word.ensures)
 
 pub overflow_mul-needed : goal.overflow_mul-needed
-overflow_mul-needed c = record { fits = omega (arith, (rules_of c.args.m c.args.list.now (table_good 255 c.args.m c.args.list.now c.args.word.now (sym c.table_and_word-number.ensures ∙ c.if-number-ne0.false)).0).states_fit) }
+overflow_mul-needed c = omega (arith, (rules_of c.args.m c.args.list.now (table_good 255 c.args.m c.args.list.now c.args.word.now (passed_ok _ c.in_ok-table_and_word.ensures)).0).states_fit)
 
 pub overflow_mul-needed-2 : goal.overflow_mul-needed-2
-overflow_mul-needed-2 c = let good = table_good 255 c.args.m c.args.list.now c.args.word.now (sym c.table_and_word-number.ensures ∙ c.if-number-ne0.false) in record { fits = omega (arith, needed_fits c.args.m c.args.list.now c.args.word.now good.0 good.1) }
+overflow_mul-needed-2 c = let good = table_good 255 c.args.m c.args.list.now c.args.word.now (passed_ok _ c.in_ok-table_and_word.ensures) in omega (arith, needed_fits c.args.m c.args.list.now c.args.word.now good.0 good.1)
 
-pub returns-then-is_too_short : goal.returns-then-is_too_short
+pub returns-then-room-needed : goal.returns-then-room-needed
 unfolding run_bound
-returns-then-is_too_short c = refused_slice c.args.m c.args.list.now c.args.word.now c.args.run.now c.table_and_word-number.result c.table_and_word-number.ensures c.if-number-ne0.false _ refl (c.is_too_short.ensures.0 c.if-is_too_short.true)
+returns-then-room-needed c = refused_slice c.args.m c.args.list.now c.args.word.now c.args.run.now (passed_ok _ c.in_ok-table_and_word.ensures) _ refl c.if-room-needed.true
 
-pub sets_of-sets-requires : goal.sets_of-sets-requires
-sets_of-sets-requires c = ((rules_of c.args.m c.args.list.now (table_good 255 c.args.m c.args.list.now c.args.word.now (sym c.table_and_word-number.ensures ∙ c.if-number-ne0.false)).0).states_fit, (rules_of c.args.m c.args.list.now (table_good 255 c.args.m c.args.list.now c.args.word.now (sym c.table_and_word-number.ensures ∙ c.if-number-ne0.false)).0).letters_fit)
+pub invariant_of-t : goal.invariant_of-t
+invariant_of-t c = record { obeys = (table_good 255 c.args.m c.args.list.now c.args.word.now (passed_ok _ c.in_ok-table_and_word.ensures)).0 }
 
-pub answer_small-requires : goal.answer_small-requires
+pub recognize_within-requires : goal.recognize_within-requires
 unfolding run_bound
-answer_small-requires c = (sym c.table_and_word-number.ensures ∙ c.if-number-ne0.false, refl, c.is_too_short.ensures.1 c.if-is_too_short.false, omega (arith, c.sets_of-sets.ensures, c.if-sets-le-SMALL.true))
+recognize_within-requires c = (passed_ok _ c.in_ok-table_and_word.ensures, c.if-room-needed.false, omega (arith, c.sets_of-sets.ensures, c.if-sets-le-SMALL.true), omega arith)
 
-pub answer_medium-requires : goal.answer_medium-requires
+pub recognize_within-requires-then-sets-le-MEDIUM : goal.recognize_within-requires-then-sets-le-MEDIUM
 unfolding run_bound
-answer_medium-requires c = (sym c.table_and_word-number.ensures ∙ c.if-number-ne0.false, refl, c.is_too_short.ensures.1 c.if-is_too_short.false, omega (arith, c.sets_of-sets.ensures, c.if-sets-le-MEDIUM.true))
+recognize_within-requires-then-sets-le-MEDIUM c = (passed_ok _ c.in_ok-table_and_word.ensures, c.if-room-needed.false, omega (arith, c.sets_of-sets.ensures, c.if-sets-le-MEDIUM.true), omega arith)
 
-pub answer_large-requires : goal.answer_large-requires
+pub recognize_within-requires-2 : goal.recognize_within-requires-2
 unfolding run_bound
-answer_large-requires c = (sym c.table_and_word-number.ensures ∙ c.if-number-ne0.false, refl, c.is_too_short.ensures.1 c.if-is_too_short.false, let r = rules_of c.args.m c.args.list.now (table_good 255 c.args.m c.args.list.now c.args.word.now (sym c.table_and_word-number.ensures ∙ c.if-number-ne0.false)).0 in omega (arith, r.states_fit, product_small c.args.m.states c.args.m.letters r.states_fit r.letters_fit))
+recognize_within-requires-2 c =
+    let r = rules_of c.args.m c.args.list.now (table_good 255 c.args.m c.args.list.now c.args.word.now (passed_ok _ c.in_ok-table_and_word.ensures)).0 in
+    (passed_ok _ c.in_ok-table_and_word.ensures, c.if-room-needed.false, omega (arith, r.states_fit, product_small c.args.m.states c.args.m.letters r.states_fit r.letters_fit), omega arith)

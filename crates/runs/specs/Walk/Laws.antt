@@ -8,7 +8,7 @@
 -- go_second                    == a way to acceptance from emptying mode: the buffer stands at the front of the input
 -- go_kept, run_kept            == what has a way of moves, or is reached by a run, is kept
 -- accepts_go, go_accepts, entries_go == runs and ways
-use Rattle.std.specs.Prelude.{ℕ, suc, ◌+◌, ◌-◌, ◌*◌, ◌≤◌, ◌<◌, ◌⊎◌, Bool, false, cond, ◌&&◌, get_or, set, ltb}
+use Rattle.std.specs.Prelude.{Option, Some, is_some, ℕ, suc, ◌+◌, ◌-◌, ◌*◌, ◌≤◌, ◌<◌, ◌⊎◌, Bool, false, cond, ◌&&◌, get_or, set, ltb}
 use Rattle.std.proofs.Math.Path.{◌≡◌, refl, sym, ap, subst}
 use Rattle.std.proofs.Common.{◌∙◌, mul-le-mul_left, take-append-drop, take-suc-set}
 use Rattle.std.proofs.Math.Logic.{inl, inr}
@@ -492,33 +492,48 @@ module _ (m : Machine) (list sets w : List ℕ) where
   start_best t row h e q lt = rw e (h.normal q lt)
 
   -- an accepting run has at least as many entries
-  least_run : well_formed m list ≡ true → NormalSets m list w sets → (t : List (List ℕ)) (row : List ℕ) (q : ℕ) → PositionRows m list sets w t 0 → row ≡ row_at t 0 → Started m row m.states q → (run : List ℕ) → accepting m list w run ≡ true
-      → (q < m.states) × (1 + at row q ≤ length run)
+  least_run : well_formed m list ≡ true → NormalSets m list w sets → (t : List (List ℕ)) (row : List ℕ) (b : Option ℕ) → PositionRows m list sets w t 0 → row ≡ row_at t 0 → Started m row m.states b → (run : List ℕ) → accepting m list w run ≡ true
+      → (q : ℕ) × (b ≡ Some q) × (1 + at row q ≤ length run)
   unfolding accepting
-  least_run good reached t row q rows e s [] a = absurd (false≢true a)
-  least_run good reached t row q rows e s (p ∷ es) a =
+  least_run good reached t row b rows e s [] a = absurd (false≢true a)
+  least_run good reached t row b rows e s (p ∷ es) a =
       let (lt, r) = and_true (ltb p m.states) (initial m.marks p && accepting_from m list w (start_at p) es) a in
       let (i, h) = and_true (initial m.marks p) (accepting_from m list w (start_at p) es) r in
       let below = ltb-true p m.states lt in
       let least = (start_best t row rows e p below).least (length es) (entries_go m list sets w good reached p (below, i) (start_at p) (start_placed p below) done es h) in
-      let (q-below, q-least) = s.least p below i in
-      (q-below, omega arith)
+      let (q, is, q-least) = s.least p below i in
+      (q, is, omega arith)
     where
       start_placed : (p : ℕ) → p < m.states → well_placed m.states (length w) (start_at p) ≡ true
       start_placed p lt = unplaced m w (start_at p) (record { in_word = omega arith; state_below = lt; forward = omega arith; behind = omega arith; fits = refl })
 
-  pub begun : (t : List (List ℕ)) (row : List ℕ) (q size : ℕ) → well_formed m list ≡ true → NormalSets m list w sets → length w ≤ 255 → accepted m list w ≡ true → run_bound m (length w) ≤ size → PositionRows m list sets w t 0 → row ≡ row_at t 0
-      → Started m row m.states q → Begun m list sets w size q (at row q)
-  unfolding run_bound
-  begun t row q size good reached short ok room rows e s =
-      let (run, len, below, a) = (accepted_true m list w).0 ok in
-      let (q-below, long) = least_run good reached t row q rows e s run a in
-      let limit : run_bound m (length w) ≤ 49152 = bound_small m.states (length w + 1) (rules m list good).states_fit (omega arith) in
-      record {
-        below = q-below;
-        is_initial = s.is_initial q-below;
-        best = start_best t row rows e q q-below;
-        small = omega arith;
-        room = omega arith;
-        fewest = λ other h. (least_run good reached t row q rows e s other h).1;
-      }
+  module _ (t : List (List ℕ)) (row : List ℕ) (b : Option ℕ) (good : well_formed m list ≡ true) (reached : NormalSets m list w sets) (ok : accepted m list w ≡ true) (rows : PositionRows m list sets w t 0) (e : row ≡ row_at t 0)
+      (s : Started m row m.states b) where
+    -- where a word is accepted, some state is initial
+    pub some_start : is_some b ≡ true
+    some_start =
+        let (run, len, below, a) = (accepted_true m list w).0 ok in
+        let (q, is, long) = least_run good reached t row b rows e s run a in
+        ap is_some is
+
+    pub begun : (q size : ℕ) → b ≡ Some q → length w ≤ 255 → run_bound m (length w) ≤ size → Begun m list sets w size q (at row q)
+    unfolding run_bound
+    begun q size is short room =
+        let (run, len, below, a) = (accepted_true m list w).0 ok in
+        let long = fewer run a in
+        let limit : run_bound m (length w) ≤ 49152 = bound_small m.states (length w + 1) (rules m list good).states_fit (omega arith) in
+        let (q-below, q-initial) = s.is_initial q is in
+        record {
+          below = q-below;
+          is_initial = q-initial;
+          best = start_best t row rows e q q-below;
+          small = omega arith;
+          room = omega arith;
+          fewest = fewer;
+        }
+      where
+        fewer : (other : List ℕ) → accepting m list w other ≡ true → 1 + at row q ≤ length other
+        fewer other h =
+            let (p, at_p, long) = least_run good reached t row b rows e s other h in
+            let same : p ≡ q = cc in
+            subst (λ (k : ℕ). 1 + at row k ≤ length other) same long

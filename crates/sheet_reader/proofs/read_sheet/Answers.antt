@@ -1,12 +1,12 @@
-use Rattle.sheet_reader.proofs.ReadCases.{fault_header, rest_fault_lem, answer_refused, answer_read}
-use mathlib.Core.List.{[]}
+use Rattle.std.proofs.lemmas.Result.{err_from_is_err_and}
+use Rattle.sheet_reader.proofs.ReadCases.{read_says, answer_header, answer_refused, answer_read}
 use Rattle.sheet_reader.proofs.read_sheet.Goals as goal
 
-pub returns-then-header-ne0 : goal.returns-then-header-ne0
-returns-then-header-ne0 c = answer_refused c.args.sheet.now c.args.list.now _ c.args.list.now [] (rest_fault_lem c.args.sheet.now c.args.list.now [] c.read_header-header.result.fault (fault_header c.args.sheet.now c.read_header-header.result c.read_header-header.ensures c.if-header-ne0.true) c.if-header-ne0.true) c.refused.result c.if-header-ne0.true c.refused.ensures
+pub returns-in_err-header : goal.returns-in_err-header
+returns-in_err-header c = let p = err_from_is_err_and c.from_residual.result c.from_residual.ensures.1 in rw (p.1, p.2) (read_says c.args.sheet.now c.args.list.now _ _ (answer_header c.args.sheet.now c.args.list.now _ c.in_err-header.ensures))
 
-pub returns-then-refusal-ne0 : goal.returns-then-refusal-ne0
-returns-then-refusal-ne0 c = answer_refused c.args.sheet.now c.args.list.now c.read_sized-refusal.result _ _ c.read_sized-refusal.ensures c.refused-then-refusal-ne0.result c.if-refusal-ne0.true c.refused-then-refusal-ne0.ensures
+pub returns-in_err-read_rest : goal.returns-in_err-read_rest
+returns-in_err-read_rest c = let p = err_from_is_err_and c.from_residual-in_err-read_rest.result c.from_residual-in_err-read_rest.ensures.1 in rw (p.1, p.2) (read_says c.args.sheet.now c.args.list.now _ _ (answer_refused c.args.sheet.now c.args.list.now _ c.read_rest.new.list c.read_rest.new.marks c.in_err-read_rest.ensures))
 
 pub returns : goal.returns
-returns c = answer_read c.args.sheet.now c.args.list.now c.read_sized-refusal.result _ _ c.read_sized-refusal.ensures c.read_header-header.result c.read_header-header.ensures c.if-header-ne0.false c.if-refusal-ne0.false
+returns c = read_says c.args.sheet.now c.args.list.now _ _ (answer_read c.args.sheet.now c.args.list.now _ c.read_rest.new.list c.read_rest.new.marks c.in_ok-header.ensures.1 c.in_ok-read_rest.ensures)

@@ -1,17 +1,5 @@
-use mathlib.Core.Path.{ap, ◌∙◌}
-use mathlib.Core.List.{[], ◌∷◌}
-use native.Mathlib.Omega.{arith}
-use lib.ListN.{length}
-use Rattle.basics.specs.Lists.Laws.{put_length}
-use Rattle.columns.specs.Line.{line_of}
-use Rattle.sheet_writer.proofs.WriteCases.{line_two, length_two}
+use Rattle.sheet_writer.proofs.WriteCases.{line_two}
 use Rattle.sheet_writer.proofs.write_state.Goals as goal
 
-pub bounds-sheet-at : goal.bounds-sheet-at
-bounds-sheet-at c = omega (arith, c.requires.0, c.write_shorter.auto.bytes, c.write_short.auto.bytes)
-
-pub shape_of-sheet : goal.shape_of-sheet
-shape_of-sheet c = ap length (line_two c.args.sheet.now c.write_shorter.new.bytes c.write_short.new.bytes c.args.at c.args.q c.args.mark c.write_shorter.ensures c.write_short.ensures c.requires.0) ∙ put_length c.args.at c.args.sheet.now (line_of 5 (c.args.q ∷ c.args.mark ∷ [])) (omega (arith, length_two c.args.q c.args.mark, c.requires.0))
-
 pub returns : goal.returns
-returns c = line_two c.args.sheet.now c.write_shorter.new.bytes c.write_short.new.bytes c.args.at c.args.q c.args.mark c.write_shorter.ensures c.write_short.ensures c.requires.0
+returns c = line_two c.args.sheet.now _ _ c.args.at _ _ c.write.ensures c.write-2.ensures c.requires.0

@@ -2,9 +2,9 @@
 --
 -- After ..                == the pair before (s, t) on the way, with what is written from there on
 -- walk_start, walk_states, matched_ready, kept_below, stored_ready, walk_turn, walk_end == the loop of walk_back
-use Rattle.std.specs.Prelude.{ℕ, suc, ◌+◌, ◌*◌, ◌-◌, ◌≤◌, ◌<◌, ◌≡◌, ◌⊎◌, true, false, ◌&&◌, length, get_or, set, drop}
+use Rattle.std.specs.Prelude.{ℕ, suc, ◌+◌, ◌*◌, ◌-◌, ◌≤◌, ◌<◌, ◌≡◌, ◌⊎◌, true, false, ◌&&◌, length, get_or, set, drop, Option}
 use Rattle.std.proofs.Math.Path.{refl, ap}
-use Rattle.std.proofs.Common.{sym, ◌∙◌, subst, inl, inr, arith, length-set, length-append}
+use Rattle.std.proofs.Common.{Some, None, sym, ◌∙◌, subst, inl, inr, arith, length-set, length-append}
 use mathlib.Core.List.Memᴰ
 use mathlib.Core.List.{List, [], ◌∷◌, ◌++◌, append_assoc, Memᴰ}
 use Rattle.std.proofs.Math.Decide.{dec_lt}
@@ -13,7 +13,7 @@ use borrow.Author.Tests.{eq-eqb, eqb-true}
 use Rattle.basics.specs.Search.{none, more}
 use Rattle.basics.specs.Search.Laws.{and_true, and_both_true, not_both}
 use Rattle.basics.specs.Counting.{Distinct, empty, new, counting}
-use Rattle.fsbm.specs.Machine.{transition_at, buffering, matching}
+use Rattle.fsbm.specs.Machine.{transition_at, buffering, matching, well_formed}
 use Rattle.fsbm.specs.Published.{fsbm_of, symbol}
 use Rattle.fsbm.specs.Rules.{Rules, rules}
 use Rattle.fsbm.specs.declared.machine.Machine.{Machine}
@@ -31,9 +31,9 @@ use Rattle.shortest.specs.Put.Laws.{some_symbol, later_more}
 use Rattle.shortest.specs.Copy.{begun_test, place, MatchedReady, Same, Written, Matched, StoredReady, Unkept, Kept, KeptOrNot, Walking, Going, Gone}
 use Rattle.shortest.specs.declared.copy.Walk.{Walk}
 
-module _ (m : Machine) (list links d b : List ℕ) (h z : ℕ) (word₀ : List ℕ) (i₀ : ℕ) (run₀ : List ℕ) (r₀ : ℕ) (later₀ : List ℕ) (g : Going m list links d b h z word₀ i₀ run₀ r₀ later₀) where
+module _ (m : Machine) (list d b : List ℕ) (h z : ℕ) (word₀ : List ℕ) (i₀ : ℕ) (run₀ : List ℕ) (r₀ : ℕ) (good : well_formed m list ≡ true) (g : Going m list d b h z word₀ i₀ run₀ r₀) where
   obeys : Rules m list
-  obeys = rules m list g.good
+  obeys = rules m list good
 
   abbrev from : ℕ → ℕ
   from k = (transition_at list k).from
@@ -41,9 +41,9 @@ module _ (m : Machine) (list links d b : List ℕ) (h z : ℕ) (word₀ : List �
   abbrev by : ℕ → ℕ
   by k = (transition_at list k).letter
 
-  pub walk_start : Walking m list b h z word₀ i₀ run₀ r₀ word₀ run₀ later₀ (place h z i₀ r₀ 0)
+  pub walk_start : (later : List ℕ) → length later ≡ 4096 → Walking m list b h z word₀ i₀ run₀ r₀ word₀ run₀ later (place h z i₀ r₀ 0)
   unfolding later_list
-  walk_start =
+  walk_start later size =
       record {
         read = [];
         storing = [];
@@ -57,7 +57,7 @@ module _ (m : Machine) (list links d b : List ℕ) (h z : ℕ) (word₀ : List �
         run_size = refl;
         run_is = refl;
         run_place = omega arith;
-        later_size = g.later_size;
+        later_size = size;
         later_is = refl;
         passed = [];
         distinct = empty;
@@ -217,116 +217,103 @@ module _ (m : Machine) (list links d b : List ℕ) (h z : ℕ) (word₀ : List �
               not-begun
           at (inr (u, v, move, tight)) = back_there m list b s t nb move refl tight
 
-      module _ (k j : ℕ) (back : Backs m list b s t k j) where
-        few : (q : ℕ) → q < m.transitions → q < 65536
-        few q l = let e = obeys.transitions_fit in omega arith
+      few : (q : ℕ) → q < m.transitions → q < 65536
+      few q l = let e = obeys.transitions_fit in omega arith
 
-        -- what the matching half writes has room
-        put_ready : (s' : ℕ) (storing' : List ℕ) → j < m.transitions → After s' (from j) (symbol (by j) ++ W.read) storing' (j ∷ W.matching) → PutReady list j word w.letter run w.entry
-        put_ready s' storing' below a =
-            let (x, y) = room_after s' (from j) (symbol (by j) ++ W.read) storing' (j ∷ W.matching) a in
-            let size = length-append (symbol (by j)) W.read in
-            let wp = W.word_place in
-            let rp = W.run_place in
-            record {
-              small = few j below;
-              letter_small = let l = obeys.letter_below j below in let f = obeys.letters_fit in omega arith;
-              run_room = omega arith;
-              run_fits = let f = g.run_fits in let e = W.run_size in omega arith;
-              word_room = λ some. let o = ap length (some_symbol (by j) some) in omega arith;
-              word_fits = let f = g.word_fits in let e = W.word_size in omega arith;
-            }
+      -- what the matching half writes has room
+      put_ready : (j : ℕ) (s' : ℕ) (storing' : List ℕ) → j < m.transitions → After s' (from j) (symbol (by j) ++ W.read) storing' (j ∷ W.matching) → PutReady list j word w.letter run w.entry
+      put_ready j s' storing' below a =
+          let (x, y) = room_after s' (from j) (symbol (by j) ++ W.read) storing' (j ∷ W.matching) a in
+          let size = length-append (symbol (by j)) W.read in
+          let wp = W.word_place in
+          let rp = W.run_place in
+          record {
+            small = few j below;
+            letter_small = let l = obeys.letter_below j below in let f = obeys.letters_fit in omega arith;
+            run_room = omega arith;
+            run_fits = let f = g.run_fits in let e = W.run_size in omega arith;
+            word_room = λ some. let o = ap length (some_symbol (by j) some) in omega arith;
+            word_fits = let f = g.word_fits in let e = W.word_size in omega arith;
+          }
 
-        pub matched_ready : MatchedReady list m.transitions j word run w
-        matched_ready = record { ready = λ below. at below back }
-          where
-            at : j < m.transitions → Backs m list b s t k j → PutReady list j word w.letter run w.entry
-            at below (by_storing x y f) = absurd (omega arith)
-            at below (by_matching x y f) = put_ready s W.storing below (after_matching j below f)
-            at below (by_both x y e o f) = put_ready (from k) (k ∷ W.storing) below (after_both k j x y e o f)
-            at below (by_none x y o) = absurd (no_end (record { storing = x; matching = y; by_letter = o }))
+      pub matched_ready : (k j : Option ℕ) → Backs m list b s t k j → MatchedReady list j word run w
+      matched_ready (Some k) None (by_storing x f) = tt
+      matched_ready None (Some j) (by_matching y f) = put_ready j s W.storing y (after_matching j y f)
+      matched_ready (Some k) (Some j) (by_both x y e o f) = put_ready j (from k) (k ∷ W.storing) y (after_both k j x y e o f)
+      matched_ready k j (by_none x y o) = absurd (no_end (record { storing = x; matching = y; by_letter = o }))
 
-        module _ (word' run' : List ℕ) (w₁ : Walk) (M : Matched list m.transitions j word run w word' run' w₁) where
-          kept_same : w₁.kept ≡ w.kept
-          kept_same = at M
-            where
-              at : Matched list m.transitions j word run w word' run' w₁ → w₁.kept ≡ w.kept
-              at (inl e) = ap (λ (v : Walk). v.kept) e.walk_same
-              at (inr e) = ap (λ (v : Walk). v.kept) e.is
+      module _ (word' run' : List ℕ) (w₁ : Walk) where
+        kept_same : (j : Option ℕ) → Matched list j word run w word' run' w₁ → w₁.kept ≡ w.kept
+        kept_same None e = ap (λ (v : Walk). v.kept) e.walk_same
+        kept_same (Some j) e = ap (λ (v : Walk). v.kept) e.is
 
-          pub stored_ready : StoredReady m.transitions k w₁
-          stored_ready = record { small = λ l. (few k l, let e = kept_same in let c = kept_below in omega arith) }
+        pub stored_ready : (k j : Option ℕ) → Backs m list b s t k j → Matched list j word run w word' run' w₁ → StoredReady k w₁
+        stored_ready (Some k) None (by_storing x f) M = (few k x, let e = kept_same None M in let c = kept_below in omega arith)
+        stored_ready None (Some j) (by_matching y f) M = tt
+        stored_ready (Some k) (Some j) (by_both x y e o f) M = (few k x, let e = kept_same (Some j) M in let c = kept_below in omega arith)
+        stored_ready k j (by_none x y o) M = absurd (no_end (record { storing = x; matching = y; by_letter = o }))
 
-          module _ (later' : List ℕ) (w₂ : Walk) (S : KeptOrNot list m.transitions k later w₁ later' w₂) where
-            abbrev Goes : Walk → Type 0
-            Goes v = Walking m list b h z word₀ i₀ run₀ r₀ word' run' later' v × (cell b v.storing v.matching < cell b s t)
+        module _ (later' : List ℕ) (w₂ : Walk) where
+          abbrev Goes : Walk → Type 0
+          Goes v = Walking m list b h z word₀ i₀ run₀ r₀ word' run' later' v × (cell b v.storing v.matching < cell b s t)
 
-            -- the three ways to go on
+          -- the three ways to go on
 
-            on_storing : k < m.transitions → Same m.transitions j word run w word' run' w₁ → Kept list m.transitions k later w₁ later' w₂ → StoreFits m list b s t (cell b s t) k → Goes w₂
-            on_storing below e o fits =
-                let a = after_storing k below fits in
-                let is : w₂ ≡ place (from k) t w.letter w.entry (w.kept + 1) = o.is ∙ ap (λ (v : Walk). place (from k) v.matching v.letter v.entry (v.kept + 1)) e.walk_same in
-                let kept : later' ≡ set later w.kept k = o.later_is ∙ ap (λ (v : Walk). set later v.kept k) e.walk_same in
-                subst Goes (sym is) (
-                  on_step (from k) t w.letter w.entry (w.kept + 1) W.read (k ∷ W.storing) W.matching a word' run' later'
-                      (ap length e.word_same ∙ W.word_size) (ap (drop w.letter) e.word_same ∙ W.word_is) W.word_place
-                      (ap length e.run_same ∙ W.run_size) (ap (drop w.entry) e.run_same ∙ W.run_is) W.run_place
-                      (ap length kept ∙ (length-set later w.kept k ∙ W.later_size))
-                      (ap (λ (l : List ℕ). later_list l (w.kept + 1)) kept ∙ (later_more later w.kept k (let c = kept_below in let l = W.later_size in omega arith) ∙ ap (λ (l : List ℕ). k ∷ l) W.later_is))
-                      (omega arith),
-                  a.falls,
-                )
+          on_storing : (k : ℕ) → k < m.transitions → Same word run w word' run' w₁ → Kept list k later w₁ later' w₂ → StoreFits m list b s t (cell b s t) k → Goes w₂
+          on_storing k below e o fits =
+              let a = after_storing k below fits in
+              let is : w₂ ≡ place (from k) t w.letter w.entry (w.kept + 1) = o.is ∙ ap (λ (v : Walk). place (from k) v.matching v.letter v.entry (v.kept + 1)) e.walk_same in
+              let kept : later' ≡ set later w.kept k = o.later_is ∙ ap (λ (v : Walk). set later v.kept k) e.walk_same in
+              subst Goes (sym is) (
+                on_step (from k) t w.letter w.entry (w.kept + 1) W.read (k ∷ W.storing) W.matching a word' run' later'
+                    (ap length e.word_same ∙ W.word_size) (ap (drop w.letter) e.word_same ∙ W.word_is) W.word_place
+                    (ap length e.run_same ∙ W.run_size) (ap (drop w.entry) e.run_same ∙ W.run_is) W.run_place
+                    (ap length kept ∙ (length-set later w.kept k ∙ W.later_size))
+                    (ap (λ (l : List ℕ). later_list l (w.kept + 1)) kept ∙ (later_more later w.kept k (let c = kept_below in let l = W.later_size in omega arith) ∙ ap (λ (l : List ℕ). k ∷ l) W.later_is))
+                    (omega arith),
+                a.falls,
+              )
 
-            on_matching : Written list m.transitions j word run w word' run' w₁ → Unkept m.transitions k later w₁ later' w₂ → MatchFits m list b s t 0 1 (cell b s t) j → Goes w₂
-            on_matching e o fits =
-                let a = after_matching j e.below fits in
-                let is : w₂ ≡ place s (from j) w₁.letter (w.entry - 1) w.kept = o.walk_same ∙ e.is in
-                let p = e.put in
-                let ready = put_ready s W.storing e.below a in
-                let size = length-append (symbol (by j)) W.read in
-                subst Goes (sym is) (
-                  on_step s (from j) w₁.letter (w.entry - 1) w.kept (symbol (by j) ++ W.read) W.storing (j ∷ W.matching) a word' run' later'
-                      (p.word_size ∙ W.word_size) (word_on j w₁.letter word' run' p) (let x = p.place in let y = W.word_place in omega arith)
-                      (p.run_size ∙ W.run_size) (p.run_is ∙ ap (λ (l : List ℕ). j ∷ l) W.run_is) (let x = ready.run_room in let y = W.run_place in omega arith)
-                      (ap length o.later_same ∙ W.later_size) (ap (λ (l : List ℕ). later_list l w.kept) o.later_same ∙ W.later_is)
-                      (omega arith),
-                  a.falls,
-                )
+          on_matching : (j : ℕ) → j < m.transitions → Written list j word run w word' run' w₁ → Unkept later w₁ later' w₂ → MatchFits m list b s t 0 1 (cell b s t) j → Goes w₂
+          on_matching j below e o fits =
+              let a = after_matching j below fits in
+              let is : w₂ ≡ place s (from j) w₁.letter (w.entry - 1) w.kept = o.walk_same ∙ e.is in
+              let p = e.put in
+              let ready = put_ready j s W.storing below a in
+              let size = length-append (symbol (by j)) W.read in
+              subst Goes (sym is) (
+                on_step s (from j) w₁.letter (w.entry - 1) w.kept (symbol (by j) ++ W.read) W.storing (j ∷ W.matching) a word' run' later'
+                    (p.word_size ∙ W.word_size) (word_on j w₁.letter word' run' p) (let x = p.place in let y = W.word_place in omega arith)
+                    (p.run_size ∙ W.run_size) (p.run_is ∙ ap (λ (l : List ℕ). j ∷ l) W.run_is) (let x = ready.run_room in let y = W.run_place in omega arith)
+                    (ap length o.later_same ∙ W.later_size) (ap (λ (l : List ℕ). later_list l w.kept) o.later_same ∙ W.later_is)
+                    (omega arith),
+                a.falls,
+              )
 
-            on_both : Written list m.transitions j word run w word' run' w₁ → Kept list m.transitions k later w₁ later' w₂ → (transition_at list k).to ≡ s → Storing m list k
-                → MatchFits m list b (from k) t (by k) pair_unit (cell b s t) j → Goes w₂
-            on_both e o enters storing fits =
-                let a = after_both k j o.below e.below enters storing fits in
-                let is : w₂ ≡ place (from k) (from j) w₁.letter (w.entry - 1) (w.kept + 1) = o.is ∙ ap (λ (v : Walk). place (from k) v.matching v.letter v.entry (v.kept + 1)) e.is in
-                let kept : later' ≡ set later w.kept k = o.later_is ∙ ap (λ (v : Walk). set later v.kept k) e.is in
-                let p = e.put in
-                let ready = put_ready (from k) (k ∷ W.storing) e.below a in
-                let size = length-append (symbol (by j)) W.read in
-                subst Goes (sym is) (
-                  on_step (from k) (from j) w₁.letter (w.entry - 1) (w.kept + 1) (symbol (by j) ++ W.read) (k ∷ W.storing) (j ∷ W.matching) a word' run' later'
-                      (p.word_size ∙ W.word_size) (word_on j w₁.letter word' run' p) (let x = p.place in let y = W.word_place in omega arith)
-                      (p.run_size ∙ W.run_size) (p.run_is ∙ ap (λ (l : List ℕ). j ∷ l) W.run_is) (let x = ready.run_room in let y = W.run_place in omega arith)
-                      (ap length kept ∙ (length-set later w.kept k ∙ W.later_size))
-                      (ap (λ (l : List ℕ). later_list l (w.kept + 1)) kept ∙ (later_more later w.kept k (let c = kept_below in let l = W.later_size in omega arith) ∙ ap (λ (l : List ℕ). k ∷ l) W.later_is))
-                      (omega arith),
-                  a.falls,
-                )
+          on_both : (k j : ℕ) → k < m.transitions → j < m.transitions → Written list j word run w word' run' w₁ → Kept list k later w₁ later' w₂ → (transition_at list k).to ≡ s → Storing m list k
+              → MatchFits m list b (from k) t (by k) pair_unit (cell b s t) j → Goes w₂
+          on_both k j below below_j e o enters storing fits =
+              let a = after_both k j below below_j enters storing fits in
+              let is : w₂ ≡ place (from k) (from j) w₁.letter (w.entry - 1) (w.kept + 1) = o.is ∙ ap (λ (v : Walk). place (from k) v.matching v.letter v.entry (v.kept + 1)) e.is in
+              let kept : later' ≡ set later w.kept k = o.later_is ∙ ap (λ (v : Walk). set later v.kept k) e.is in
+              let p = e.put in
+              let ready = put_ready j (from k) (k ∷ W.storing) below_j a in
+              let size = length-append (symbol (by j)) W.read in
+              subst Goes (sym is) (
+                on_step (from k) (from j) w₁.letter (w.entry - 1) (w.kept + 1) (symbol (by j) ++ W.read) (k ∷ W.storing) (j ∷ W.matching) a word' run' later'
+                    (p.word_size ∙ W.word_size) (word_on j w₁.letter word' run' p) (let x = p.place in let y = W.word_place in omega arith)
+                    (p.run_size ∙ W.run_size) (p.run_is ∙ ap (λ (l : List ℕ). j ∷ l) W.run_is) (let x = ready.run_room in let y = W.run_place in omega arith)
+                    (ap length kept ∙ (length-set later w.kept k ∙ W.later_size))
+                    (ap (λ (l : List ℕ). later_list l (w.kept + 1)) kept ∙ (later_more later w.kept k (let c = kept_below in let l = W.later_size in omega arith) ∙ ap (λ (l : List ℕ). k ∷ l) W.later_is))
+                    (omega arith),
+                a.falls,
+              )
 
-            pub walk_turn : Goes w₂
-            walk_turn = at back M S
-              where
-                at : Backs m list b s t k j → Matched list m.transitions j word run w word' run' w₁ → KeptOrNot list m.transitions k later w₁ later' w₂ → Goes w₂
-                at (by_storing x y f) (inl e) (inl o) = let l = o.past in absurd (omega arith)
-                at (by_storing x y f) (inl e) (inr o) = on_storing x e o f
-                at (by_storing x y f) (inr e) o = let l = e.below in absurd (omega arith)
-                at (by_matching x y f) (inl e) o = let l = e.past in absurd (omega arith)
-                at (by_matching x y f) (inr e) (inl o) = on_matching e o f
-                at (by_matching x y f) (inr e) (inr o) = let l = o.below in absurd (omega arith)
-                at (by_both x y e o f) (inl e') o' = let l = e'.past in absurd (omega arith)
-                at (by_both x y e o f) (inr e') (inl o') = let l = o'.past in absurd (omega arith)
-                at (by_both x y e o f) (inr e') (inr o') = on_both e' o' e o f
-                at (by_none x y o) e' o' = absurd (no_end (record { storing = x; matching = y; by_letter = o }))
+          pub walk_turn : (k j : Option ℕ) → Backs m list b s t k j → Matched list j word run w word' run' w₁ → KeptOrNot list k later w₁ later' w₂ → Goes w₂
+          walk_turn (Some k) None (by_storing x f) e o = on_storing k x e o f
+          walk_turn None (Some j) (by_matching y f) e o = on_matching j y e o f
+          walk_turn (Some k) (Some j) (by_both x y a s f) e o = on_both k j x y e o a s f
+          walk_turn k j (by_none x y n) e o = absurd (no_end (record { storing = x; matching = y; by_letter = n }))
 
     pub walk_end : begun_test m.marks d b h s t ≡ true → Gone m list d b h z word₀ i₀ run₀ r₀ word run later w
     unfolding begun_test

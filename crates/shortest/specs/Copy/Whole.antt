@@ -4,12 +4,13 @@
 -- Finished, copy_finished   == where everything goes after walk_back
 -- copy_done                 == what copy ensures
 use Prim.Native.Nat.{ℕ, suc, ◌+◌, ◌-◌, ◌≤◌, ◌<◌}
-use Rattle.std.specs.Prelude.{◌≡◌, length, set, take, drop}
+use Rattle.std.specs.Prelude.{◌≡◌, true, length, set, take, drop}
 use Rattle.std.proofs.Common.{sym, ap, ◌∙◌, subst, length-set, take_at}
 use mathlib.Core.List.{List, [], ◌∷◌, ◌++◌, append_assoc, append-nil}
 use native.Mathlib.Omega.{arith}
 use Rattle.std.proofs.Math.ListN.{length-append}
 use Rattle.basics.specs.Lists.Laws.{drop_set}
+use Rattle.fsbm.specs.Machine.{well_formed}
 use Rattle.fsbm.specs.Moves.{begin_buffering, begin_emptying, back_to_normal}
 use Rattle.fsbm.specs.declared.machine.Machine.{Machine}
 use Rattle.pieces.specs.Pieces.{stored, matched, ended, copy}
@@ -28,7 +29,7 @@ use Rattle.shortest.specs.Copy.Laws.{kept_below}
 use Rattle.shortest.specs.declared.copy.Progress.{Progress}
 use Rattle.shortest.specs.declared.copy.Walk.{Walk}
 
-module _ (m : Machine) (list links d b : List ℕ) (h z : ℕ) (word : List ℕ) (i : ℕ) (run : List ℕ) (r : ℕ) (later : List ℕ) (c : CopyReady m list links d b h z word i run r later) where
+module _ (m : Machine) (list d b : List ℕ) (h z : ℕ) (word : List ℕ) (i : ℕ) (run : List ℕ) (r : ℕ) (good : well_formed m list ≡ true) (c : CopyReady m list d b h z word i run r) where
   copy_room : Room m list b h z i (r - 1)
   unfolding block_of
   copy_room s t y j k st mt weight =
@@ -52,18 +53,15 @@ module _ (m : Machine) (list links d b : List ℕ) (h z : ℕ) (word : List ℕ)
   abbrev run₁ : List ℕ
   run₁ = set run (r - 1) 65535
 
-  pub copy_going : Going m list links d b h z word i run₁ (r - 1) later
+  pub copy_going : Going m list d b h z word i run₁ (r - 1)
   copy_going =
       record {
-        good = c.good;
-        into = c.into;
         set = c.set;
         settles = c.settles;
         low = let l = c.low in let t = c.tight in omega arith;
         room = copy_room;
         word_fits = c.word_fits;
         run_fits = let f = c.run_fits in let s = length-set run (r - 1) 65535 in omega arith;
-        later_size = c.later_size;
       }
 
   pub copy_first : 0 < r
@@ -93,7 +91,7 @@ module _ (m : Machine) (list links d b : List ℕ) (h z : ℕ) (word : List ℕ)
         let rp = W.run_place in
         record {
           kept = k;
-          kept_few = let l = kept_below m list links d b h z word i run₁ (r - 1) later copy_going word₂ run₂ later₂ w W in omega arith;
+          kept_few = let l = kept_below m list d b h z word i run₁ (r - 1) good copy_going word₂ run₂ later₂ w W in omega arith;
           letters = omega arith;
           letters_room = omega arith;
           letters_fit = omega arith;

@@ -16,7 +16,7 @@ use borrow.Author.Tests.{eqb-true, eq-eqb}
 use Rattle.graphs.specs.Cost.Laws.{settled_under}
 use Rattle.basics.specs.Search.Laws.{not_both}
 use Rattle.stateset.specs.Set.{In}
-use Rattle.fsbm.specs.Machine.{transition_at, matching}
+use Rattle.fsbm.specs.Machine.{transition_at, matching, buffering, well_formed}
 use Rattle.fsbm.specs.Published.{fsbm_of, symbol}
 use Rattle.fsbm.specs.Rules.{Rules, rules, matching_below, one_kind}
 use Rattle.fsbm.specs.declared.machine.Machine.{Machine}
@@ -29,13 +29,15 @@ use Rattle.pieces.proofs.Tight.{TightMove, TightCopy, settled_back, settled_star
 use Rattle.pieces.proofs.RoundsLaws.{stores_enters}
 use Rattle.pieces.specs.Written.{Takes, LeadsBy, ended, read}
 use Rattle.pieces.specs.Written.Laws.{leads_counted, by_append}
+use Rattle.blocks.specs.Works.{Kind}
 use Rattle.blocks.specs.Settling.{Past, Block}
-use Rattle.shortest.specs.Find.{Finds, NormalFits}
+use Rattle.least.specs.Turns.{Entered}
+use Rattle.shortest.specs.Find.{NormalFits}
 use Rattle.shortest.specs.Find.Tests.{normal_says, normal_true}
 use Rattle.shortest.specs.Put.{PutReady}
 use Rattle.shortest.specs.Put.Laws.{some_symbol}
 use Rattle.shortest.specs.Copy.{Fits, CopyReady, Stepped}
-use Rattle.shortest.specs.Write.{Read, Least, Searching, CopyThere, TriedGuess, Guessed, Guessing, StepReady, WriteReady, Aim, Writing, Shortest}
+use Rattle.shortest.specs.Write.{Read, Least, Searching, CopyThere, TriedGuess, Guessed, Guessing, StepReady, Aim, Writing, Shortest}
 use Rattle.shortest.specs.declared.copy.Progress.{Progress}
 
 pub number_below : (d : List ℕ) (q : ℕ) {top : ℕ} → top ≤ nothing → cost_of d q < top → q < 64
@@ -103,25 +105,23 @@ module _ (m : Machine) (list d : List ℕ) (q : ℕ) (word : List ℕ) (i : ℕ)
 
 -- A copy, where no normal move is found
 
-pub copy_there : {top : ℕ} (m : Machine) (list d : List ℕ) (q k : ℕ) → Least top m list d → 0 < cost_of d q → cost_of d q < top → Finds m.transitions (NormalFits m list d q) k → m.transitions ≤ k
+pub copy_there : {top : ℕ} (m : Machine) (list d : List ℕ) (q : ℕ) → Least top m list d → 0 < cost_of d q → cost_of d q < top → ((k : ℕ) → k < m.transitions → NormalFits m list d q k → ⊥)
     → CopyThere m list d q
-copy_there m list d q k s positive low f past = at (settled_back s q positive low)
+copy_there m list d q s positive low none = at (settled_back s q positive low)
   where
     at : TightMove (fsbm_of m list) (cost_of d) q ⊎ TightCopy (fsbm_of m list) (cost_of d) q → CopyThere m list d q
     at (inl t) =
-        absurd
-        (f.none past t.listed.number t.listed.listed
-        (t.listed.to, normal_true m list t.listed d (cost_of d q) t.not_both t.not_from (let e = t.tight in omega arith)))
+        absurd (none t.listed.number t.listed.listed (t.listed.to, normal_true m list t.listed d (cost_of d q) t.not_both t.not_from (let e = t.tight in omega arith)))
     at (inr t) = t
 
 -- The guesses
 
-module _ (m : Machine) (list index : List ℕ) (starts ends middles : ℕ) (d : List ℕ) (q : ℕ) where
+module _ (m : Machine) (list : List ℕ) (starts middles : ℕ) (d : List ℕ) (q : ℕ) (good : well_formed m list ≡ true) (buffers : Kind (buffering m.marks) starts) (turnings : Entered m list middles) where
   -- a block keeps what the search asks
-  block_searching : (b b' : List ℕ) (h : ℕ) → Searching m list index starts ends middles d b q → Block m list h starts d b' → Searching m list index starts ends middles d b' q
-  block_searching b b' h s k = record { ready = s.ready; buffers = s.buffers; turnings = s.turnings; top = s.top; top_small = s.top_small; settled = s.settled; size = k.size; past = k.past; low = s.low }
+  block_searching : (b b' : List ℕ) (h : ℕ) → Searching m list d b q → Block m list h starts d b' → Searching m list d b' q
+  block_searching b b' h s k = record { top = s.top; top_small = s.top_small; settled = s.settled; past = k.past; low = s.low }
 
-  pub tried_not : (b : List ℕ) (h : ℕ) → Searching m list index starts ends middles d b q → (In middles h → ⊥) → TriedGuess m list index starts ends middles d b q h false
+  pub tried_not : (b : List ℕ) (h : ℕ) → Searching m list d b q → (In middles h → ⊥) → TriedGuess m list starts d b q h false
   tried_not b h s out =
       record {
         searching = s;
@@ -129,54 +129,52 @@ module _ (m : Machine) (list index : List ℕ) (starts ends middles : ℕ) (d : 
         block = λ e. absurd (false≢true e);
         tight = λ e. absurd (false≢true e);
         bad = λ e t is.
-            let (p, a, δ, other) = stores_enters (one_kind m list (rules m list s.ready.good)) t.buffers t.turns t.route in
-            out (subst (λ (o : ℕ). In middles o) is (s.turnings.all p a t.middle δ t.turns other));
+            let (p, a, δ, other) = stores_enters (one_kind m list (rules m list good)) t.buffers t.turns t.route in
+            out (subst (λ (o : ℕ). In middles o) is (turnings.all p a t.middle δ t.turns other));
       }
 
-  pub tried_block : (b b' : List ℕ) (h : ℕ) (r : Bool) → Searching m list index starts ends middles d b q → In middles h → Block m list h starts d b' → r ≡ eqb (cell b' h q + 2) (cost_of d q)
-      → TriedGuess m list index starts ends middles d b' q h r
+  pub tried_block : (b b' : List ℕ) (h : ℕ) (r : Bool) → Searching m list d b q → In middles h → Block m list h starts d b' → r ≡ eqb (cell b' h q + 2) (cost_of d q)
+      → TriedGuess m list starts d b' q h r
   unfolding block_of
   tried_block b b' h r s there k is =
       record {
         searching = block_searching b b' h s k;
-        turns = λ e. s.turnings.only h there;
+        turns = λ e. turnings.only h there;
         block = λ e. k;
         tight = λ e. eqb-true (cell b' h q + 2) (cost_of d q) (sym is ∙ e);
         bad = λ e t middle.
-            let tight = block_tight s.settled (settled_under s.top_small k.settles) q t middle ((s.buffers t.from).1 t.buffers) s.low in
+            let tight = block_tight s.settled (settled_under s.top_small k.settles) q t middle ((buffers t.from).1 t.buffers) s.low in
             not_both (is ∙ eq-eqb (cell b' h q + 2) (cost_of d q) (sym tight)) e;
       }
 
   module _ (first : ℕ) where
-    pub guess_start : (b : List ℕ) → Searching m list index starts ends middles d b q → Guessing m list index starts ends middles d b q first 0
+    pub guess_start : (b : List ℕ) → Searching m list d b q → Guessing m list d b q first 0
     guess_start b s = record { searching = s; tried = λ j l. absurd (omega arith) }
 
-    pub guess_next : (b b' : List ℕ) (k : ℕ) (r : Bool) → Guessing m list index starts ends middles d b q first k → TriedGuess m list index starts ends middles d b' q ((first + k) % 64) r → r ≡ false
-        → Guessing m list index starts ends middles d b' q first (k + 1)
+    pub guess_next : (b b' : List ℕ) (k : ℕ) (r : Bool) → Guessing m list d b q first k → TriedGuess m list starts d b' q ((first + k) % 64) r → r ≡ false
+        → Guessing m list d b' q first (k + 1)
     guess_next b b' k r g t e = record { searching = t.searching; tried = below_more _ k g.tried (t.bad e) }
 
-    pub guess_found : (b' : List ℕ) (h : ℕ) (r : Bool) → CopyThere m list d q → TriedGuess m list index starts ends middles d b' q h r → r ≡ true → Guessed m list index starts ends middles d b' q h
+    pub guess_found : (b' : List ℕ) (h : ℕ) (r : Bool) → CopyThere m list d q → TriedGuess m list starts d b' q h r → r ≡ true → Guessed m list starts d b' q h
     guess_found b' h r x t e = record { searching = t.searching; turns = t.turns e; ends_there = x.ends; block = t.block e; tight = t.tight e }
 
     -- each of the 64 guesses stands at some place of the round
     around : (h : ℕ) → h < 64 → h ≡ (first + (h + 64 - first % 64) % 64) % 64
     around h l = omega arith
 
-    pub guess_end : (b : List ℕ) (k : ℕ) → CopyThere m list d q → 64 ≤ k → Guessing m list index starts ends middles d b q first k → ⊥
+    pub guess_end : (b : List ℕ) (k : ℕ) → CopyThere m list d q → 64 ≤ k → Guessing m list d b q first k → ⊥
     guess_end b k x past g =
-        let r = rules m list g.searching.ready.good in
+        let r = rules m list good in
         let l = matching_below m list r x.middle x.turns in
         let n = r.states_fit in
         let below : x.middle < 64 = omega arith in
         let j = (x.middle + 64 - first % 64) % 64 in
         g.tried j (omega arith) x (around x.middle below)
 
-pub copy_ready : (m : Machine) (list links index : List ℕ) (starts ends middles : ℕ) (d b b' : List ℕ) (q : ℕ) (word : List ℕ) (i : ℕ) (run : List ℕ) (r : ℕ) (later : List ℕ) (h : ℕ)
-    → StepReady m list links index starts ends middles d b q word i run r later → Guessed m list index starts ends middles d b' q h → CopyReady m list links d b' h q word i run r later
-copy_ready m list links index starts ends middles d b b' q word i run r later h s g =
+pub copy_ready : (m : Machine) (list : List ℕ) (starts : ℕ) (d b b' : List ℕ) (q : ℕ) (word : List ℕ) (i : ℕ) (run : List ℕ) (r h : ℕ)
+    → StepReady m list d b q word i run r → Guessed m list starts d b' q h → CopyReady m list d b' h q word i run r
+copy_ready m list starts d b b' q word i run r h s g =
     record {
-      good = s.searching.ready.good;
-      into = s.into;
       set = starts;
       settles = g.block.settles;
       turns = g.turns;
@@ -186,7 +184,6 @@ copy_ready m list links index starts ends middles d b b' q word i run r later h 
       fits = s.fits;
       word_fits = s.word_fits;
       run_fits = s.run_fits;
-      later_size = s.later_size;
     }
 
 -- The run from its end
@@ -266,17 +263,13 @@ module _ (m : Machine) (list d : List ℕ) (f : ℕ) (word₀ run₀ : List ℕ)
 
 -- What a step asks, where the run is written from a place on
 
-pub step_ready : (m : Machine) (list links index : List ℕ) (starts ends middles : ℕ) (d b : List ℕ) (f : ℕ) (later : List ℕ) → WriteReady m list links index starts ends middles d b f later
-    → (word₀ run₀ : List ℕ) → Aim m list d f (length word₀) (length run₀) → (word run : List ℕ) (p : Progress) → Writing m list d f word₀ run₀ word run p → 0 < cost_of d p.state
-    → (b' later' : List ℕ) → length b' ≡ 4096 → Past m b' → length later' ≡ 4096
-    → StepReady m list links index starts ends middles d b' p.state word p.letter run p.entry later'
-step_ready m list links index starts ends middles d b f later r word₀ run₀ a word run p w positive b' later' size past later_size =
+pub step_ready : (m : Machine) (list d : List ℕ) (f : ℕ) (word₀ run₀ : List ℕ) → Aim m list d f (length word₀) (length run₀) → (word run : List ℕ) (p : Progress) → Writing m list d f word₀ run₀ word run p → 0 < cost_of d p.state
+    → (b : List ℕ) → Past m b → StepReady m list d b p.state word p.letter run p.entry
+step_ready m list d f word₀ run₀ a word run p w positive b past =
     record {
-      searching = record { ready = r.ready; buffers = r.buffers; turnings = r.turnings; top = a.top; top_small = a.top_small; settled = a.settled; size = size; past = past; low = write_low m list d f word₀ run₀ a word run p w };
-      into = r.into;
+      searching = record { top = a.top; top_small = a.top_small; settled = a.settled; past = past; low = write_low m list d f word₀ run₀ a word run p w };
       positive = positive;
       fits = write_fits m list d f word₀ run₀ a word run p w;
       word_fits = w.word_fits;
       run_fits = w.run_fits;
-      later_size = later_size;
     }

@@ -1,29 +1,16 @@
-use mathlib.Core.Path.{refl}
-use native.Mathlib.Omega.{arith}
-use lib.ListN.{get_or}
-use mathlib.Core.Bool.{true, false}
+use Rattle.std.proofs.Common.{refl, true, false}
 use Rattle.basics.specs.Search.Loops.{in_fails, in_goes_on, in_done}
-use Rattle.spelling.specs.Spelling.{has_letter}
-use Rattle.spelling.proofs.SpellingCases.{letter_none, letter_some}
+use Rattle.spelling.specs.Words.{has_letter}
+use Rattle.spelling.proofs.WordCases.{letter_none, letter_some}
 use Rattle.spelling.proofs.have_letters.Goals as goal
 
-pub loop-i-init : goal.loop-i-init
-loop-i-init c = (omega arith, refl)
+pub returns-then-letter-eq-NO_LETTER : goal.returns-then-letter-eq-NO_LETTER
+returns-then-letter-eq-NO_LETTER g c =
+    in_fails (has_letter (g.S.Spelling.letters c.args.spelling.now)) c.args.bytes.now c.loop-b.b-index 0 false c.loop-b.invariant c.loop-b-test.true (letter_none (g.S.Spelling.letters c.args.spelling.now) _ _ c.letter.ensures c.if-letter-eq-NO_LETTER.true) refl
 
-pub bounds-bytes-i : goal.bounds-bytes-i
-bounds-bytes-i c = omega (arith, c.loop-i-test.true)
-
-pub returns-then-letter-eq0 : goal.returns-then-letter-eq0
-returns-then-letter-eq0 c = in_fails has_letter c.args.bytes.now c.loop-i.i 0 false c.loop-i.invariant.1 c.loop-i-test.true (letter_none (get_or c.args.bytes.now c.loop-i.i 0) c.letter.result c.letter.ensures c.if-letter-eq0.true) refl
-
-pub overflow_add-i : goal.overflow_add-i
-overflow_add-i c = omega (arith, c.loop-i-test.true, c.well_formed)
-
-pub loop-i-smaller : goal.loop-i-smaller
-loop-i-smaller c = omega (arith, c.loop-i-test.true)
-
-pub loop-i-preserved : goal.loop-i-preserved
-loop-i-preserved c = (omega (arith, c.loop-i-test.true), in_goes_on has_letter c.args.bytes.now c.loop-i.i 0 true c.loop-i.invariant.1 c.loop-i-test.true (letter_some (get_or c.args.bytes.now c.loop-i.i 0) c.letter.result c.letter.ensures c.if-letter-eq0.false) refl)
+pub loop-b-preserved : goal.loop-b-preserved
+loop-b-preserved g c =
+    in_goes_on (has_letter (g.S.Spelling.letters c.args.spelling.now)) c.args.bytes.now c.loop-b.b-index 0 true c.loop-b.invariant c.loop-b-test.true (letter_some (g.S.Spelling.letters c.args.spelling.now) _ _ c.letter.ensures c.if-letter-eq-NO_LETTER.false) refl
 
 pub returns : goal.returns
-returns c = in_done has_letter c.args.bytes.now c.loop-i.i c.loop-i.invariant.1 c.loop-i-test.false
+returns g c = in_done (has_letter (g.S.Spelling.letters c.args.spelling.now)) c.args.bytes.now c.loop-b.b-index c.loop-b.invariant c.loop-b-test.false

@@ -4,8 +4,9 @@
 -- between_below    == it stands before a transition with a greater number
 -- between_above    == it does not stand before a transition with a number that is not greater
 -- between_end      == where one place is left, it stands there
+-- some_past, past_is == it stands before the place where the numbers of the list first pass its own
 use Rattle.std.specs.Prelude.{ℕ, ◌-◌, ◌≤◌, ◌<◌, ◌≡◌, List}
-use Rattle.std.proofs.Common.{sym, ap, ◌∙◌, arith}
+use Rattle.std.proofs.Common.{sym, ap, subst, ◌∙◌, arith}
 use Rattle.std.proofs.Math.Decide.{dec_lt, ℕ_discrete}
 use Rattle.fsbm.specs.Machine.{transition_at}
 use Rattle.fsbm.specs.Published.{Listed}
@@ -49,3 +50,21 @@ module _ (m : Machine) (list : List ℕ) (p x q : ℕ) where
           letter = ap (λ (z : ℕ). (transition_at list z).letter) (sym here) ∙ b.letter;
           to = ap (λ (z : ℕ). (transition_at list z).to) (sym here) ∙ b.to;
         }
+
+  -- the numbers below past are not greater than that of the triple, and that of past is
+  module _ (r : Rules m list) (d : Listed list m.transitions p x q) (past : ℕ) (within : past ≤ m.transitions) (holds : 0 < past → order (transition_at list (past - 1)) ≤ key_of p x q)
+      (fails : past < m.transitions → key_of p x q < order (transition_at list past)) where
+    below : Between list m.transitions p x q 0 past
+    below = at (dec_lt past m.transitions)
+      where
+        at : Dec (past < m.transitions) → Between list m.transitions p x q 0 past
+        at (yes l) = between_below r 0 m.transitions (between_start d) past l (fails l)
+        at (no h) = let e : m.transitions ≡ past = omega arith in subst (λ (z : ℕ). Between list m.transitions p x q 0 z) e (between_start d)
+
+    pub some_past : 0 < past
+    some_past = omega (arith, below.high)
+
+    pub past_is : Takes m list (past - 1) p x q
+    past_is =
+        let some = some_past in
+        between_end r (past - 1) past (between_above r 0 past below (past - 1) (omega arith) (holds some)) (omega arith)

@@ -144,7 +144,6 @@ module _ (m₁ : Machine) (l₁ : List ℕ) (m₂ : Machine) (l₂ : List ℕ) w
       first_ready =
           record {
             some = omega (arith, tables.second.some_state);
-            good = tables.good₁;
             there = λ l. (apart (get_or run k' 0) (below l)).of_first;
           }
 
@@ -160,7 +159,6 @@ module _ (m₁ : Machine) (l₁ : List ℕ) (m₂ : Machine) (l₂ : List ℕ) w
       second_ready =
           record {
             some = omega (arith, tables.second.some_state);
-            good = tables.good₂;
             there = λ l. (
               (apart (get_or run k' 0) (below (letter_says list (get_or run k' 0) l).0)).of_second
                   (letter_says list (get_or run k' 0) l).1,

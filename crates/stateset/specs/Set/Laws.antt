@@ -20,6 +20,7 @@
 --                                  == what each function returns, with its members
 -- removed_size                     == the size after removing
 -- drop_lowest, union_grows         == the measure of a loop that takes out the lowest member; of one that joins sets until nothing changes
+-- begins_with                      == a loop over the members of a set begins with that set
 use Rattle.std.specs.Prelude.{◌≡◌, refl, ◌↔◌, ◌⊎◌, Bool, true, false, cond, ℕ, zero, suc, ◌+◌, ◌-◌, ◌*◌, ◌/◌, ◌%◌, ◌^◌, ◌≤◌, ◌<◌, min, max}
 use Rattle.std.proofs.Common.{sym, ◌∙◌, ap, subst, inl, inr, ⊎_elim, arith, pow-suc, lt_of_lt_of_le, mod-eq_of_lt, one-mul, one-add, eqb-true, eq-eqb, lt-ltb, le-ltb, shr-shr, pow_mono, pow_pos}
 use Rattle.std.proofs.lemmas.Bool.{false≢true, eqb-false}
@@ -31,6 +32,7 @@ use Rattle.std.specs.Int.Bits.{bit_and, bit_or, and_lt, or_zero_r, and_step, or_
 use Rattle.std.proofs.lemmas.Nat.{or_lt, and_shr, or_shr, ones-le, trailing_le}
 use Rattle.std.specs.Int.Count.{ones, count_trailing_zeros, under, ones_step, trailing_of_zero}
 use Rattle.stateset.specs.Set.{width, digit, In, has, added, removed, without, below, collected, lowest_of, SetIs, Lowest}
+use Rattle.stateset.specs.declared.iter.Members.{Members}
 
 -- Digits
 
@@ -665,3 +667,7 @@ union_grows x y r h e f = at (or_grows x y)
     at : (bit_or x y ≡ x) ⊎ (ones x < ones (bit_or x y)) → width - ones r < width - ones x
     at (inl same) = absurd (f (e ∙ same))
     at (inr l) = let k = ones-le width r h in let t = ap ones e in omega arith
+
+-- a loop over the members of a set begins with that set
+pub begins_with : {s it : Members} {x : ℕ} → it ≡ s → s.rest ≡ x → it.rest ≡ x
+begins_with e h = ap (λ m. m.rest) e ∙ h

@@ -7,17 +7,8 @@ use Rattle.stream.proofs.copy.Goals as goal
 pub loop-i-init : goal.loop-i-init
 loop-i-init c = (omega arith, put_none 0 c.args.out.now, refl)
 
-pub bounds-bytes-i : goal.bounds-bytes-i
-bounds-bytes-i c = omega arith
-
 pub bounds-out-i : goal.bounds-out-i
 bounds-out-i c = omega arith
-
-pub overflow_add-i : goal.overflow_add-i
-overflow_add-i c = omega arith
-
-pub loop-i-smaller : goal.loop-i-smaller
-loop-i-smaller c = omega arith
 
 pub loop-i-preserved : goal.loop-i-preserved
 loop-i-preserved c = (omega arith, copied_more c.args.bytes.now c.args.out.now c.loop-i.out c.loop-i.i c.requires c.loop-i.invariant.1 c.loop-i-test.true, length-set c.loop-i.out c.loop-i.i _ ∙ c.loop-i.invariant.2)

@@ -1,16 +1,11 @@
-use mathlib.Core.Path.{sym, subst}
-use Rattle.fsbm.specs.declared.config.Mode.{Mode}
 use Rattle.fsbm.specs.declared.config.Mode.TheVariants.{Normal}
-use Rattle.images.specs.Graph.{Members, From, Edge, graph}
-use Rattle.subsets.specs.Rows.{Reads}
-use Rattle.subsets.specs.Rows.Laws.{reads_normal}
+use Rattle.images.specs.Graph.{Edge}
+use Rattle.images.specs.Moves.{graph_of}
+use Rattle.subsets.specs.Rows.Laws.{reads_normal, reads_copying}
 use Rattle.subsets.proofs.lettered.Goals as goal
 
 pub returns-in-Normal : goal.returns-in-Normal
-returns-in-Normal c = subst (λ (T : Mode). Members c.read_set.result (From c.args.set (Reads (graph c.args.targets.now c.args.t.states c.args.t.g c.args.t.h) T c.args.x))) (sym c.in-Normal.is) (reads_normal c.args.x c.args.set c.read_set.result (Edge (graph c.args.targets.now c.args.t.states c.args.t.g c.args.t.h) Normal c.args.x) c.read_set.ensures)
+returns-in-Normal c = rw c.in-Normal.is (reads_normal c.args.x c.args.set c.read_set.result (Edge (graph_of c.args.t.now) Normal c.args.x) (rw c.in-Normal.is at c.read_set.ensures))
 
 pub returns-in-Buffering : goal.returns-in-Buffering
-returns-in-Buffering c = subst (λ (T : Mode). Members c.advance.result (From c.args.set (Reads (graph c.args.targets.now c.args.t.states c.args.t.g c.args.t.h) T c.args.x))) (sym c.in-Buffering.is) c.advance.ensures
-
-pub returns-in-Emptying : goal.returns-in-Emptying
-returns-in-Emptying c = subst (λ (T : Mode). Members c.advance-in-Emptying.result (From c.args.set (Reads (graph c.args.targets.now c.args.t.states c.args.t.g c.args.t.h) T c.args.x))) (sym c.in-Emptying.is) c.advance-in-Emptying.ensures
+returns-in-Buffering c = reads_copying (graph_of c.args.t.now) c.args.mode c.args.x c.args.set c.advance.result c.in-Buffering.is c.advance.ensures

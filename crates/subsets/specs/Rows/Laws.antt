@@ -8,10 +8,9 @@
 -- kept_start       == nothing is kept
 -- begun_image, reads_image == what columns stand for, and image_begun, image_reads, the way back
 -- begun_from, from_begun == the states where a mode begins, as a set
--- reads_normal, normal_reads == reading in normal mode
--- found_or, found_some, has_some == what known answers, and what is there where it is not 0
+-- reads_normal, normal_reads == reading in normal mode; reads_copying == reading in the others
 -- cell_small       == the products that say where a cell stands are small
-use Rattle.std.specs.Prelude.{ℕ, suc, ◌+◌, ◌*◌, ◌≤◌, ◌<◌, ◌≡◌, ◌⊎◌, List, set}
+use Rattle.std.specs.Prelude.{ℕ, suc, ◌+◌, ◌*◌, ◌≤◌, ◌<◌, ◌≡◌, ◌⊎◌, List, set, Option, Some, IfSome}
 use Rattle.std.proofs.Common.{sym, ◌∙◌, ap, inl, arith, mul-le-mul}
 use Rattle.std.proofs.Math.Path.{subst}
 use Rattle.std.proofs.Math.Logic.{inr}
@@ -23,7 +22,8 @@ use Rattle.stateset.specs.Set.{In}
 use Rattle.fsbm.specs.Moves.{mode_number}
 use Rattle.fsbm.specs.Moves.Laws.{mode_below, mode_same}
 use Rattle.fsbm.specs.declared.config.Mode.{Mode}
-use Rattle.images.specs.Graph.{Members, From, Graph}
+use Rattle.fsbm.specs.declared.config.Mode.TheVariants.{Buffering, Emptying}
+use Rattle.images.specs.Graph.{Members, From, Graph, Advance}
 use Rattle.images.proofs.SetCases.{members_as}
 use Rattle.subsets.specs.Rows.{slots, most_columns, cell_of, Begun, Reads, Image, begun, reads, HasRow, Leads, Sized, Right, Kept, Found, Rowed, Noted}
 
@@ -138,13 +138,13 @@ module _ (columns : ℕ) (rows steps : List ℕ) (s slot : ℕ) (z : Sized colum
           (subst (λ (n : ℕ). Members n (From (get_or rows' r 0) (Image G T c))) (sym (old_now to q (omega arith)))
           (subst (λ (n : ℕ). Members (get_or rows to 0) (From n (Image G T c))) (sym (old_now r l.some (omega arith))) (right r T c lc q)))
 
-  pub row_made : Rowed columns rows steps (set (set rows taken s) 0 (taken + 1)) (set steps slot taken) s taken
+  pub row_made : Rowed columns rows steps (set (set rows taken s) 0 (taken + 1)) (set steps slot taken) s (Some taken)
   unfolding rows' steps'
   row_made =
-      record { row = inr (record { some = some; taken = let a = count_now in omega arith; own = new_now }); sized = made_sized; right = made_right }
+      record { row = record { some = some; taken = let a = count_now in omega arith; own = new_now }; sized = made_sized; right = made_right }
 
 -- no row more
-pub row_same : (columns : ℕ) (rows steps : List ℕ) (s r : ℕ) → Sized columns rows steps → (r ≡ 0) ⊎ HasRow rows s r → Rowed columns rows steps rows steps s r
+pub row_same : (columns : ℕ) (rows steps : List ℕ) (s : ℕ) (r : Option ℕ) → Sized columns rows steps → IfSome r (HasRow rows s) → Rowed columns rows steps rows steps s r
 row_same columns rows steps s r z h = record { row = h; sized = z; right = λ G right. right }
 
 -- one step more
@@ -261,22 +261,10 @@ module _ (x s r : ℕ) (R : ℕ → ℕ → Type 0) where
   pub normal_reads : Members r (From s (λ p q. (0 < x) × R p q)) → Members r (λ q. (0 < x) × From s R q)
   normal_reads m = members_as m (λ q f. (f.2.0, (f.0, f.1, f.2.1))) (λ q f. (f.1.0, f.1.1, (f.0, f.1.2)))
 
--- what known answers
-pub found_or : (columns : ℕ) (rows steps : List ℕ) (T : Mode) (c s row n : ℕ) → c < columns → HasRow rows s row → n ≡ get_or steps (cell_of columns row T c) 0 → (n ≡ 0) ⊎ Found columns rows steps T c s row n
-found_or columns rows steps T c s row n lc own e = at (ℕ_discrete n 0)
-  where
-    at : Dec (n ≡ 0) → (n ≡ 0) ⊎ Found columns rows steps T c s row n
-    at (yes z) = inl z
-    at (no p) = inr (record { column = lc; some = omega arith; own = own; step = e })
+pub reads_copying : (G : Graph) (T : Mode) (x s r : ℕ) → (T ≡ Buffering) ⊎ (T ≡ Emptying) → Members r (From s (Advance G T x)) → Members r (From s (Reads G T x))
+reads_copying G T x s r (inl e) m = rw e (rw e at m)
+reads_copying G T x s r (inr e) m = rw e (rw e at m)
 
 -- the products are small
 pub cell_small : (a columns : ℕ) → a ≤ 196608 → columns ≤ most_columns → a * columns ≤ 196608 * 257
 cell_small a columns x y = mul-le-mul x y
-
-pub has_some : {rows : List ℕ} {s r : ℕ} → (r ≡ 0) ⊎ HasRow rows s r → (r ≡ 0 → ⊥) → HasRow rows s r
-has_some (inl z) n = absurd (n z)
-has_some (inr h) n = h
-
-pub found_some : {columns : ℕ} {rows steps : List ℕ} {T : Mode} {c s row r : ℕ} → (r ≡ 0) ⊎ Found columns rows steps T c s row r → (r ≡ 0 → ⊥) → Found columns rows steps T c s row r
-found_some (inl z) n = absurd (n z)
-found_some (inr f) n = f

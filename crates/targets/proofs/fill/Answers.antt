@@ -4,7 +4,7 @@ use native.Mathlib.Omega.{arith}
 use Rattle.targets.proofs.fill.Goals as goal
 
 pub sources-set-requires : goal.sources-set-requires
-sources-set-requires c = ((rules_of c.args.m c.args.list.now c.requires.0).states_fit, omega (arith, c.fill_rows.ensures.room))
+sources-set-requires c = ((rules_of c.args.t.now.machine c.args.t.now.list.now c.args.t.now.obeys).states_fit, omega (arith, c.fill_rows.ensures.room))
 
 pub returns : goal.returns
-returns c = made c.args.m _ _ _ _ c.requires.0 c.fill_rows.ensures c.sources-set.ensures
+returns c = made c.args.t.now.machine _ _ _ _ c.args.t.now.obeys c.fill_rows.ensures c.sources-set.ensures

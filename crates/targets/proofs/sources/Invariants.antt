@@ -1,4 +1,4 @@
-use Prim.Native.Nat.{◌+◌, ◌≤◌, ◌-◌}
+use Prim.Native.Nat.{◌+◌, ◌≤◌}
 use lib.ListN.{length}
 use Rattle.stateset.specs.Set.{width}
 use Rattle.targets.specs.Prepared.{Sources}
@@ -6,6 +6,3 @@ use Rattle.targets.proofs.sources.Given as goal
 
 abbrev pub invariant-loop-p : goal.invariant-loop-p
 invariant-loop-p l = (l.states ≤ width) × (2 + l.states + l.states ≤ length l.targets) × Sources l.targets l.states l.p l.set
-
-abbrev pub decreases-loop-p : goal.decreases-loop-p
-decreases-loop-p l = l.states - l.p

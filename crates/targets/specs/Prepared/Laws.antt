@@ -2,10 +2,10 @@
 --
 -- apart                       == sets of different letters or states stand at different positions
 -- in_room, product_small      == the row of a letter is in the table, and begins at a small number
--- wanted_zero, wanted_none, wanted_some == the ways through is_wanted
 -- marked_turn                 == the letters of a word, marked one by one
 -- inside_at                   == a transition of a good table is inside
 -- put_none, put_some          == the two ways through put
+-- parts_small, parts_room, parts_none, parts_some == the same where the code has the parts of the transition
 -- filled_start                == an empty table
 -- sources_start, sources_turn == none of the states, and one more
 -- made                        == a table with all transitions and its first set
@@ -42,35 +42,20 @@ in_room s x y n le room = let z : x * s ≤ y * s = mul-le-mul_right s le in ome
 pub product_small : (s x : ℕ) → s ≤ 64 → x ≤ 250 → x * s ≤ 16000
 product_small s x few small = mul-le-mul small few
 
-pub wanted_zero : (wanted : List ℕ) (x : ℕ) → x ≡ 0 → (true ≡ true) ↔ Wanted wanted x
-wanted_zero wanted x e = (λ z. inl e, λ z. refl)
-
-pub wanted_none : (wanted : List ℕ) (x : ℕ) → (x ≡ 0 → ⊥) → get_or wanted x 0 ≡ 0 → (false ≡ true) ↔ Wanted wanted x
-wanted_none wanted x some e = (λ z. absurd (false≢true z), λ z. absurd (at z))
-  where
-    at : Wanted wanted x → ⊥
-    at (inl z) = some z
-    at (inr z) = omega arith
-
-pub wanted_some : (wanted : List ℕ) (x : ℕ) → (get_or wanted x 0 ≡ 0 → ⊥) → (true ≡ true) ↔ Wanted wanted x
-wanted_some wanted x some = (λ z. inr (omega arith), λ z. refl)
-
 -- The letters of a word
 
-abbrev pub WantedBefore : List ℕ → List ℕ → ℕ → Type 0
-WantedBefore w wanted i = (j : ℕ) → j < i → 0 < get_or wanted (get_or w j 0) 0
+abbrev pub WantedBefore : List ℕ → List Bool → ℕ → Type 0
+WantedBefore w wanted i = (j : ℕ) → j < i → get_or wanted (get_or w j 0) false ≡ true
 
-pub marked_turn : (w wanted : List ℕ) (i : ℕ) → get_or w i 0 < length wanted → WantedBefore w wanted i → WantedBefore w (set wanted (get_or w i 0) 1) (i + 1)
+pub marked_turn : (w : List ℕ) (wanted : List Bool) (i : ℕ) → get_or w i 0 < length wanted → WantedBefore w wanted i → WantedBefore w (set wanted (get_or w i 0) true) (i + 1)
 marked_turn w wanted i inside so_far j lt = at (ℕ_discrete j i)
   where
-    mark : (x : ℕ) → 0 < get_or wanted x 0 → 0 < get_or (set wanted (get_or w i 0) 1) x 0
-    mark x h = set_cases wanted (get_or w i 0) 1 0 inside (λ y v. 0 < get_or wanted y 0 → 0 < v) (λ z. omega arith) (λ y n z. z) x h
+    mark : (x : ℕ) → get_or wanted x false ≡ true → get_or (set wanted (get_or w i 0) true) x false ≡ true
+    mark x h = set_cases wanted (get_or w i 0) true false inside (λ y v. get_or wanted y false ≡ true → v ≡ true) (λ z. refl) (λ y n z. z) x h
 
-    at : Dec (j ≡ i) → 0 < get_or (set wanted (get_or w i 0) 1) (get_or w j 0) 0
+    at : Dec (j ≡ i) → get_or (set wanted (get_or w i 0) true) (get_or w j 0) false ≡ true
     at (yes e) =
-        let z = get_or-set_same wanted (get_or w i 0) 1 0 inside in
-        let y : get_or (set wanted (get_or w i 0) 1) (get_or w j 0) 0 ≡ get_or (set wanted (get_or w i 0) 1) (get_or w i 0) 0 = ap (λ (n : ℕ). get_or (set wanted (get_or w i 0) 1) (get_or w n 0) 0) e in
-        omega arith
+        ap (λ (n : ℕ). get_or (set wanted (get_or w i 0) true) (get_or w n 0) false) e ∙ get_or-set_same wanted (get_or w i 0) true false inside
     at (no n) = mark (get_or w j 0) (so_far j (omega arith))
 
 -- Filling the rows
@@ -87,7 +72,7 @@ inside_at m list good k lt =
       to = s.to_below k lt;
     }
 
-module _ (m : Machine) (list wanted targets : List ℕ) (k : ℕ) (inside : Inside m list k) (f : Filled m list wanted targets k) where
+module _ (m : Machine) (list : List ℕ) (wanted : List Bool) (targets : List ℕ) (k : ℕ) (inside : Inside m list k) (f : Filled m list wanted targets k) where
   -- its set is in the table
   pub put_room : set_of m.states (transition_at list k).letter (transition_at list k).from < length targets
   put_room =
@@ -163,7 +148,26 @@ module _ (m : Machine) (list wanted targets : List ℕ) (k : ℕ) (inside : Insi
               let same : j ≡ i = e ∙ (ap (λ (u : ℕ). set_of m.states u p) z.1 ∙ (ap (λ (u : ℕ). set_of m.states (transition_at list k).letter u) z.0 ∙ sym position)) in
               absurd (n same)
 
-pub filled_start : (m : Machine) (list wanted targets : List ℕ) → set_of m.states m.letters m.states ≤ length targets → ((i : ℕ) → get_or targets i 0 ≡ 0) → Filled m list wanted targets 0
+-- the same, where the code has the parts of the transition as numbers of its own
+module _ (m : Machine) (list : List ℕ) (wanted : List Bool) (targets : List ℕ) (k : ℕ) (good : well_formed m list ≡ true) (lt : k < m.transitions) (f : Filled m list wanted targets k)
+    (x p q : ℕ) (letter : x ≡ (transition_at list k).letter) (from : p ≡ (transition_at list k).from) (to : q ≡ (transition_at list k).to) where
+  pub parts_small : (m.states ≤ 64) × (p < m.states) × (x ≤ 250) × (x * m.states ≤ 16000)
+  parts_small =
+      let i = inside_at m list good k lt in
+      let small : x ≤ 250 = (let a = i.letter in let b = i.letters in omega arith) in
+      (i.few, rw from i.from, small, product_small m.states x i.few small)
+
+  pub parts_room : set_of m.states x p < length targets
+  parts_room = rw (letter, from) (put_room m list wanted targets k (inside_at m list good k lt) f)
+
+  pub parts_none : (b : Bool) → (b ≡ true) ↔ Wanted wanted x → b ≡ false → Filled m list wanted targets (k + 1)
+  parts_none b says = put_none m list wanted targets k (inside_at m list good k lt) f b (rw letter at says)
+
+  pub parts_some : (b : Bool) (v r : ℕ) → (b ≡ true) ↔ Wanted wanted x → b ≡ true
+      → SetIs r v (λ s. In (get_or targets (set_of m.states x p) 0) s ⊎ ((s ≡ q) × (s < width))) → Filled m list wanted (set targets (set_of m.states x p) r) (k + 1)
+  parts_some b v r says yes' s = rw (letter, from) (put_some m list wanted targets k (inside_at m list good k lt) f b _ v r (rw letter at says) yes' refl (rw (letter, from, to) at s))
+
+pub filled_start : (m : Machine) (list : List ℕ) (wanted : List Bool) (targets : List ℕ) → set_of m.states m.letters m.states ≤ length targets → ((i : ℕ) → get_or targets i 0 ≡ 0) → Filled m list wanted targets 0
 filled_start m list wanted targets room zeros =
     record {
       room = room;
@@ -190,7 +194,7 @@ sources_turn targets states k a b lt s adds p q less h = at (ℕ_discrete p k)
 
 -- The whole table
 
-pub made : (m : Machine) (list wanted targets : List ℕ) (v : ℕ) → well_formed m list ≡ true → Filled m list wanted targets m.transitions → Sources targets m.states m.states v
+pub made : (m : Machine) (list : List ℕ) (wanted : List Bool) (targets : List ℕ) (v : ℕ) → well_formed m list ≡ true → Filled m list wanted targets m.transitions → Sources targets m.states m.states v
     → Made m list wanted (set targets 0 v)
 made m list wanted targets v good f from = record { rows = row; none_closed = get_or-set_other targets 0 1 v 0 (λ (e : 1 ≡ 0). omega arith) ∙ f.none_closed; sources = λ p q d. subst (λ (y : ℕ). In y p) (sym (get_or-set_same targets 0 v 0 some)) (source p q d) }
   where
@@ -221,8 +225,8 @@ made m list wanted targets v good f from = record { rows = row; none_closed = ge
 pub none_in_zero : (targets : List ℕ) → get_or targets 1 0 ≡ 0 → (p : ℕ) → In (get_or targets 1 0) p → ⊥
 none_in_zero targets e p h = empty_in p (subst (λ (y : ℕ). In y p) e h)
 
-pub made_for : (m : Machine) (list wanted targets : List ℕ) → Made m list wanted targets → (w : List ℕ) → Lettered m.letters w
-    → ((i : ℕ) → i < length w → 0 < get_or wanted (get_or w i 0) 0) → Prepared m list w targets
+pub made_for : (m : Machine) (list : List ℕ) (wanted : List Bool) (targets : List ℕ) → Made m list wanted targets → (w : List ℕ) → Lettered m.letters w
+    → ((i : ℕ) → i < length w → get_or wanted (get_or w i 0) false ≡ true) → Prepared m list w targets
 made_for m list wanted targets t w letters marked =
     record {
       epsilon = t.rows 0 (omega arith) (inl refl);
@@ -333,7 +337,7 @@ module _ (states g h : ℕ) (before : List ℕ) (good : Good before states g h) 
 
 -- The whole table
 
-pub made_good : (m : Machine) (list wanted targets : List ℕ) (g h : ℕ) → well_formed m list ≡ true → Made m list wanted targets → Good targets m.states g h
+pub made_good : (m : Machine) (list : List ℕ) (wanted : List Bool) (targets : List ℕ) (g h : ℕ) → well_formed m list ≡ true → Made m list wanted targets → Good targets m.states g h
 made_good m list wanted targets g h good t =
     record {
       few = (rules m list good).states_fit;
@@ -346,7 +350,7 @@ made_good m list wanted targets g h good t =
 one_set : (marks : List ℕ) (states b r s : ℕ) → Kind marks states b r → Kind marks states b s → r ≡ s
 one_set marks states b r s x y = same_members r s (λ q. (λ z. (y.members q).1 ((x.members q).0 z), λ z. (x.members q).1 ((y.members q).0 z)))
 
-module _ (m : Machine) (list wanted before after : List ℕ) (k : Kinds) (kinds : KindsOf m.marks m.states k) (t : Made m list wanted before) (c : WithClosures m.states k.buffering k.matching before after) where
+module _ (m : Machine) (list : List ℕ) (wanted : List Bool) (before after : List ℕ) (k : Kinds) (kinds : KindsOf m.marks m.states k) (t : Made m list wanted before) (c : WithClosures m.states k.buffering k.matching before after) where
   -- a row is as it was
   row_kept : (x : ℕ) → Row m list before x → Row m list after x
   row_kept x r =
@@ -358,7 +362,7 @@ module _ (m : Machine) (list wanted before after : List ℕ) (k : Kinds) (kinds 
         );
       }
 
-  pub made_whole : ((x : ℕ) → x ≤ m.letters → 0 < get_or wanted x 0) → Whole m list after
+  pub made_whole : ((x : ℕ) → x ≤ m.letters → get_or wanted x false ≡ true) → Whole m list after
   made_whole all w letters =
       record {
         epsilon = row_kept 0 (t.rows 0 (omega arith) (inl refl));

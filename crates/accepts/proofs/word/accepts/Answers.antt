@@ -1,31 +1,29 @@
-use mathlib.Core.Path.{sym, ◌∙◌}
-use native.Mathlib.Omega.{arith}
+use Rattle.std.proofs.Common.{Bool, ◌∙◌, ap, arith, Ok}
+use Rattle.std.proofs.lemmas.Result.{err_from_is_err_and}
 use Rattle.fsbm.proofs.AnswerCases.{table_good}
+use Rattle.fsbm.specs.Answers.Laws.{handed_on, passed_ok, unless_done}
 use Rattle.fsbm.specs.Rules.{rules as rules_of}
 use Rattle.targets.specs.Prepared.Laws.{product_small}
-use Rattle.accepts.proofs.DecisionCases.{refused, says}
+use Rattle.accepts.proofs.DecisionCases.{says}
 use Rattle.accepts.proofs.word.accepts.Goals as goal
 
-pub returns-then-number-ne0 : goal.returns-then-number-ne0
-returns-then-number-ne0 c = says c.args.m c.args.list.now c.args.word.now _ (refused c.args.m c.args.list.now c.args.word.now c.table_and_word-number.result c.table_and_word-number.ensures c.if-number-ne0.true)
+pub returns-in_err-table_and_word : goal.returns-in_err-table_and_word
+returns-in_err-table_and_word c = says c.args.m c.args.list.now c.args.word.now _ (handed_on _ (err_from_is_err_and c.from_residual.result c.from_residual.ensures.1) c.in_err-table_and_word.ensures _)
 
-pub sets_of-sets-requires : goal.sets_of-sets-requires
-sets_of-sets-requires c = let r = rules_of c.args.m c.args.list.now (table_good 255 c.args.m c.args.list.now c.args.word.now (sym c.table_and_word-number.ensures ∙ c.if-number-ne0.false)).0 in (r.states_fit, r.letters_fit)
+pub invariant_of-t : goal.invariant_of-t
+invariant_of-t c = record { obeys = (table_good 255 c.args.m c.args.list.now c.args.word.now (passed_ok _ c.in_ok-table_and_word.ensures)).0 }
 
-pub answer_small-requires : goal.answer_small-requires
-answer_small-requires c = (sym c.table_and_word-number.ensures ∙ c.if-number-ne0.false, omega (arith, c.sets_of-sets.ensures, c.if-sets-le-SMALL.true))
+pub accepts_within-requires : goal.accepts_within-requires
+accepts_within-requires c = (passed_ok _ c.in_ok-table_and_word.ensures, omega (arith, c.sets_of-sets.ensures, c.if-sets-le-SMALL.true), omega arith)
 
 pub returns-then-sets-le-SMALL : goal.returns-then-sets-le-SMALL
-returns-then-sets-le-SMALL c = says c.args.m c.args.list.now c.args.word.now _ c.answer_small.ensures
-
-pub answer_medium-requires : goal.answer_medium-requires
-answer_medium-requires c = (sym c.table_and_word-number.ensures ∙ c.if-number-ne0.false, omega (arith, c.sets_of-sets.ensures, c.if-sets-le-MEDIUM.true))
+returns-then-sets-le-SMALL c = says c.args.m c.args.list.now c.args.word.now _ (ap (λ (b : Bool). Ok b) c.accepts_within.ensures ∙ unless_done _ _ (passed_ok _ c.in_ok-table_and_word.ensures))
 
 pub returns-then-sets-le-MEDIUM : goal.returns-then-sets-le-MEDIUM
-returns-then-sets-le-MEDIUM c = says c.args.m c.args.list.now c.args.word.now _ c.answer_medium.ensures
+returns-then-sets-le-MEDIUM c = says c.args.m c.args.list.now c.args.word.now _ (ap (λ (b : Bool). Ok b) c.accepts_within-then-sets-le-MEDIUM.ensures ∙ unless_done _ _ (passed_ok _ c.in_ok-table_and_word.ensures))
 
-pub answer_large-requires : goal.answer_large-requires
-answer_large-requires c = let r = rules_of c.args.m c.args.list.now (table_good 255 c.args.m c.args.list.now c.args.word.now (sym c.table_and_word-number.ensures ∙ c.if-number-ne0.false)).0 in (sym c.table_and_word-number.ensures ∙ c.if-number-ne0.false, omega (arith, r.states_fit, product_small c.args.m.states c.args.m.letters r.states_fit r.letters_fit))
+pub accepts_within-requires-2 : goal.accepts_within-requires-2
+accepts_within-requires-2 c = let r = rules_of c.args.m c.args.list.now (table_good 255 c.args.m c.args.list.now c.args.word.now (passed_ok _ c.in_ok-table_and_word.ensures)).0 in (passed_ok _ c.in_ok-table_and_word.ensures, omega (arith, r.states_fit, product_small c.args.m.states c.args.m.letters r.states_fit r.letters_fit), omega arith)
 
 pub returns : goal.returns
-returns c = says c.args.m c.args.list.now c.args.word.now _ c.answer_large.ensures
+returns c = says c.args.m c.args.list.now c.args.word.now _ (ap (λ (b : Bool). Ok b) c.accepts_within-2.ensures ∙ unless_done _ _ (passed_ok _ c.in_ok-table_and_word.ensures))

@@ -21,12 +21,6 @@ accepts_next-decided-requires c = (c.requires.0, c.loop-k.invariant.1)
 pub bounds-answers-k : goal.bounds-answers-k
 bounds-answers-k c = omega (arith, c.loop-k.invariant.0.size, c.loop-k-test.true, c.requires.3)
 
-pub overflow_add-k : goal.overflow_add-k
-overflow_add-k c = omega (arith, c.loop-k-test.true, c.well_formed)
-
-pub loop-k-smaller : goal.loop-k-smaller
-loop-k-smaller c = omega (arith, c.loop-k-test.true)
-
 pub loop-k-preserved : goal.loop-k-preserved
 loop-k-preserved c = (answering_more c.args.m c.args.list.now c.args.letters.now c.args.ends.now c.args.answers.now c.loop-k.answers c.loop-k.from c.loop-k.k c.loop-k.invariant.0 c.loop-k-test.true c.requires.3 c.byte_of.result c.accepts_next-decided.result c.accepts_next-decided.ensures.0 c.byte_of.ensures, c.accepts_next-decided.ensures.1, c.rows-1.given ∙ c.loop-k.invariant.2, c.steps-1.given ∙ c.loop-k.invariant.3)
 

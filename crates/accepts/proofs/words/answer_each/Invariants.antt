@@ -1,4 +1,3 @@
-use Prim.Native.Nat.{◌-◌}
 use mathlib.Core.Path.{◌≡◌}
 use lib.ListN.{length}
 use Rattle.accepts.specs.Ready.{Working}
@@ -7,6 +6,3 @@ use Rattle.accepts.proofs.words.answer_each.Given as goal
 
 abbrev pub invariant-loop-k : goal.invariant-loop-k
 invariant-loop-k l = Answering l.m l.list l.letters l.ends l.initial.answers l.answers l.from l.k × Working l.m l.targets l.kinds l.rows l.steps l.sets × (length l.rows ≡ length l.initial.rows) × (length l.steps ≡ length l.initial.steps)
-
-abbrev pub decreases-loop-k : goal.decreases-loop-k
-decreases-loop-k l = length l.ends - l.k

@@ -1,10 +1,6 @@
-use lib.Count.{ones}
 use Rattle.blocks.specs.Gathered.{Adding, Stay}
 use Rattle.blocks.specs.Numbers.Laws.{Left, Rest}
 use Rattle.blocks.proofs.gather.stay.Given as goal
 
-abbrev pub invariant-loop-rest : goal.invariant-loop-rest
-invariant-loop-rest l = Rest l.set l.rest × Adding (Stay l.top l.b l.s (Left l.set l.rest)) l.initial.p 0 l.p l.got
-
-abbrev pub decreases-loop-rest : goal.decreases-loop-rest
-decreases-loop-rest l = ones l.rest
+abbrev pub invariant-loop-t : goal.invariant-loop-t
+invariant-loop-t l = Rest l.row.matching l.t-iterator.rest × Adding (Stay l.row.top l.b l.row.storing (Left l.row.matching l.t-iterator.rest)) l.initial.p 0 l.p l.got

@@ -1,24 +1,16 @@
 use native.Mathlib.Omega.{arith}
-use Rattle.blocks.specs.Stretches.Laws.{found_here, found_none, found_on}
+use Prim.Native.Nat.{ℕ, ◌≤◌, ◌<◌}
+use Rattle.std.specs.Prelude.{MatchOption}
+use Rattle.std.proofs.Common.{rules}
+use Rattle.std.proofs.lemmas.Grind.{common_steps}
+use Rattle.std.proofs.lemmas.Iterator.{first_from_Range}
+use Rattle.blocks.specs.Stretches.{key_of}
+use Rattle.blocks.specs.Stretches.Laws.{found_is}
 use Rattle.blocks.proofs.index.seek.Goals as goal
 
-pub loop-r-init : goal.loop-r-init
-loop-r-init c = (omega arith, omega (arith, c.requires.1), λ t from lt. absurd (omega arith))
-
-pub key-requires : goal.key-requires
-key-requires c = (c.requires.0, omega (arith, c.requires.2, c.loop-r-test.true))
-
-pub returns-then-y-key : goal.returns-then-y-key
-returns-then-y-key c = found_here _ _ _ _ _ _ _ c.loop-r.invariant.0 c.loop-r-test.true c.loop-r.invariant.2 c.key.ensures c.if-y-key.true
-
-pub overflow_add-r : goal.overflow_add-r
-overflow_add-r c = omega (arith, c.loop-r-test.true, c.requires.2)
-
-pub loop-r-smaller : goal.loop-r-smaller
-loop-r-smaller c = omega (arith, c.loop-r-test.true)
-
-pub loop-r-preserved : goal.loop-r-preserved
-loop-r-preserved c = (omega (arith, c.loop-r.invariant.0), omega (arith, c.loop-r-test.true), found_on c.args.list.now c.args.stride _ c.args.n _ _ _ c.loop-r.invariant.2 c.key.ensures c.if-y-key.false)
-
 pub returns : goal.returns
-returns c = found_none _ _ _ _ _ _ c.loop-r.invariant.0 c.loop-r.invariant.1 c.loop-r-test.false c.loop-r.invariant.2
+returns c =
+    let f : MatchOption c.find.result ((t : ℕ) → c.args.k ≤ t → t < c.args.n → key_of c.args.list.now c.args.stride t < c.args.y)
+    (λ r. (c.args.k ≤ r) × (r < c.args.n) × (c.args.y ≤ key_of c.args.list.now c.args.stride r) × ((t : ℕ) → c.args.k ≤ t → t < r → key_of c.args.list.now c.args.stride t < c.args.y)) =
+    first_from_Range _ _ _ _ _ _ c.find.ensures.ran (λ x q e. grind (arith, common_steps, e.called.met)) (λ x q e. (search (rules, e.called.met), grind (arith, common_steps, e.called.met))) in
+    rw c.unwrap_or.ensures (found_is c.args.list.now c.args.stride c.args.k c.args.n c.args.y c.find.result f c.requires.1)

@@ -9,5 +9,5 @@ returns-then-ready-eq0 c = turning_none _ _ _ _ _ _ _ (members_is c.intersection
 pub returns-then-is_square : goal.returns-then-is_square
 returns-then-is_square c = turning_some _ _ _ _ _ _ _ (members_is c.intersection-ready.ensures) _ c.is_square.ensures.kept (c.is_square.ensures.says.0 c.if-is_square.true)
 
-pub returns : goal.returns
-returns c = turning_apart _ _ _ _ _ _ _ (members_is c.intersection-ready.ensures) _ c.is_square.ensures.kept (λ m. not_both (c.is_square.ensures.says.1 m) c.if-is_square.false)
+pub returns-else-is_square : goal.returns-else-is_square
+returns-else-is_square c = turning_apart _ _ _ _ _ _ _ (members_is c.intersection-ready.ensures) _ c.is_square.ensures.kept (λ m. not_both (c.is_square.ensures.says.1 m) c.if-is_square.false)

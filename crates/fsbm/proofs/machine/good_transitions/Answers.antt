@@ -20,9 +20,6 @@ returns-then-here-least c = transitions_fall c.args.states c.args.letters c.args
 pub overflow_add-least : goal.overflow_add-least
 overflow_add-least c = omega (arith, c.rank-here.ensures, rank_small c.args.states c.args.letters c.args.list.now c.loop-k.k c.loop-k.least c.present_transition-t.result c.present_transition-t.ensures c.loop-k.invariant.2 (λ i. omega (arith, c.type_inv.list i)) c.is_named.result c.is_named.ensures)
 
-pub overflow_add-k : goal.overflow_add-k
-overflow_add-k c = omega arith
-
 pub loop-k-smaller : goal.loop-k-smaller
 loop-k-smaller c = omega arith
 

@@ -1,48 +1,33 @@
-use Rattle.fsbm.proofs.ConfigCases.{ranges, move_change, move_not_taken, move_taken, run_end, run_on, run_off}
-use Rattle.fsbm.specs.Rules.{rules as rules_of}
+use Rattle.std.proofs.Common.{refl, sym, ◌∙◌, arith, ◌≡◌, true}
 use borrow.Author.Tests.{not-true, not-false}
-use mathlib.Core.Path.{refl, sym, ◌∙◌}
-use native.Mathlib.Omega.{arith}
+use Rattle.std.proofs.Common.{get_or, length, drop, ◌+◌}
+use Rattle.fsbm.specs.Moves.{move, well_placed, accepting_from}
+use Rattle.fsbm.specs.declared.config.Move.{Move}
+use Rattle.fsbm.proofs.ConfigCases.{ranges, move_change, move_not_taken, move_taken, run_end, run_on, run_off}
 use Rattle.fsbm.proofs.run.accepts_from.Goals as goal
-
-pub loop-i-init : goal.loop-i-init
-loop-i-init c = (c.requires.1, refl)
-
-pub offset_bounds-run-i : goal.offset_bounds-run-i
-offset_bounds-run-i c = omega (arith, c.loop-i-test.true, c.requires.2, c.well_formed)
-
-pub bounds-run-i : goal.bounds-run-i
-bounds-run-i c = omega (arith, c.loop-i-test.true, c.requires.2)
-
-pub overflow_add-i : goal.overflow_add-i
-overflow_add-i c = omega (arith, c.loop-i-test.true, c.ranges.count)
-
-pub overflow_cast-k : goal.overflow_cast-k
-overflow_cast-k c = omega (arith, c.type_inv.run c.loop-i.i)
+use Rattle.fsbm.proofs.run.accepts_from.Goals.{then-t-k+else-not-v, else-t-k+else-not-may_take}
 
 pub returns-then-not-v : goal.returns-then-not-v
-returns-then-not-v c = run_off c.args.m c.args.list.now c.args.word.now c.args.run.now c.args.count c.requires.2 c.loop-i.c c.loop-i.i c.change_mode-v.result (c.change_mode-v.ensures ∙ move_change c.args.m _ _ _ refl refl refl c.args.list.now c.args.word.now c.loop-i.c _ c.loop-i.invariant.0 c.if-m-k.true) c.loop-i-test.true c.loop-i.invariant.1 ((not-true _ c.if-not-v.true))
-
-pub loop-i-smaller-then-m-k : goal.loop-i-smaller-then-m-k
-loop-i-smaller-then-m-k c = omega arith
-
-pub loop-i-preserved-then-m-k : goal.loop-i-preserved-then-m-k
-loop-i-preserved-then-m-k c = run_on c.args.m c.args.list.now c.args.word.now c.args.run.now c.args.count c.requires.2 c.loop-i.c c.loop-i.i c.change_mode-v.result (c.change_mode-v.ensures ∙ move_change c.args.m _ _ _ refl refl refl c.args.list.now c.args.word.now c.loop-i.c _ c.loop-i.invariant.0 c.if-m-k.true) c.loop-i-test.true c.loop-i.invariant.1 c.requires.0 ((not-false _ c.if-not-v.false))
-
-pub present_transition-t-requires : goal.present_transition-t-requires
-present_transition-t-requires c = omega (arith, (rules_of c.args.m c.args.list.now c.requires.0).list_fits, c.if-m-k.false)
+returns-then-not-v c = run_off c.args.t.now.machine c.args.t.now.list.now c.args.word.now c.args.entries.now c.loop-entry.c c.loop-entry.entry-index c.change_mode-v.result (c.change_mode-v.ensures ∙ move_change c.args.t.now.machine _ _ _ refl refl refl c.args.t.now.list.now c.args.word.now c.loop-entry.c _ c.loop-entry.invariant.placed c.if-t-k.true) c.loop-entry-test.true c.loop-entry.invariant.same (not-true _ c.if-not-v.true)
 
 pub returns-then-not-may_take : goal.returns-then-not-may_take
-returns-then-not-may_take c = run_off c.args.m c.args.list.now c.args.word.now c.args.run.now c.args.count c.requires.2 c.loop-i.c c.loop-i.i _ (move_not_taken c.args.m _ _ _ refl refl refl c.args.list.now c.args.word.now c.loop-i.c _ c.loop-i.invariant.0 c.if-m-k.false c.present_transition-t.result c.present_transition-t.ensures (sym c.may_take.ensures ∙ c.if-not-may_take.true)) c.loop-i-test.true c.loop-i.invariant.1 refl
+returns-then-not-may_take c = run_off c.args.t.now.machine c.args.t.now.list.now c.args.word.now c.args.entries.now c.loop-entry.c c.loop-entry.entry-index _ (move_not_taken c.args.t.now.machine _ _ _ refl refl refl c.args.t.now.list.now c.args.word.now c.loop-entry.c _ c.loop-entry.invariant.placed c.if-t-k.false c.transition-s.result c.transition-s.ensures (sym c.may_take.ensures ∙ c.if-not-may_take.true)) c.loop-entry-test.true c.loop-entry.invariant.same refl
 
-pub after-next-requires : goal.after-next-requires
-after-next-requires c = let p = ranges _ c.args.word.now c.loop-i.c c.loop-i.invariant.0 in (omega (arith, p.0, c.well_formed), p.1, p.2)
+pub after-c-requires : goal.after-c-requires
+after-c-requires c = let p = ranges _ c.args.word.now c.loop-entry.c c.loop-entry.invariant.placed in (omega (arith, p.0, c.well_formed), p.1, p.2)
 
-pub loop-i-smaller : goal.loop-i-smaller
-loop-i-smaller c = omega arith
-
-pub loop-i-preserved : goal.loop-i-preserved
-loop-i-preserved c = run_on c.args.m c.args.list.now c.args.word.now c.args.run.now c.args.count c.requires.2 c.loop-i.c c.loop-i.i _ (move_taken c.args.m _ _ _ refl refl refl c.args.list.now c.args.word.now c.loop-i.c _ c.loop-i.invariant.0 c.if-m-k.false c.present_transition-t.result c.present_transition-t.ensures (sym c.may_take.ensures ∙ c.if-not-may_take.false) c.after-next.result c.after-next.ensures) c.loop-i-test.true c.loop-i.invariant.1 c.requires.0 refl
+pub loop-entry-preserved : goal.loop-entry-preserved
+loop-entry-preserved c =
+    elim c.if-t-k.branch [
+      | then-t-k+else-not-v w ↦ let h = on w.change_mode-v.result (w.change_mode-v.ensures ∙ move_change c.args.t.now.machine _ _ _ refl refl refl c.args.t.now.list.now c.args.word.now c.loop-entry.c _ c.loop-entry.invariant.placed w.if-t-k.true) (not-false _ w.if-not-v.false) w.c-is in record { placed = h.0; same = h.1 }
+      | else-t-k+else-not-may_take w ↦ let h = on _ (move_taken c.args.t.now.machine _ _ _ refl refl refl c.args.t.now.list.now c.args.word.now c.loop-entry.c _ c.loop-entry.invariant.placed w.if-t-k.false w.transition-s.result w.transition-s.ensures (sym w.may_take.ensures ∙ w.if-not-may_take.false) w.after-c.result w.after-c.ensures) refl w.c-is in record { placed = h.0; same = h.1 }
+    ]
+  where
+    on : (v : Move) → v ≡ move c.args.t.now.machine c.args.t.now.list.now c.args.word.now c.loop-entry.c (get_or c.args.entries.now c.loop-entry.entry-index 0) → v.allowed ≡ true → c.if-t-k.c ≡ v.config
+        → (well_placed c.args.t.now.machine.states (length c.args.word.now) c.if-t-k.c ≡ true) × (accepting_from c.args.t.now.machine c.args.t.now.list.now c.args.word.now c.if-t-k.c (drop (c.loop-entry.entry-index + 1) c.args.entries.now) ≡ accepting_from c.args.t.now.machine c.args.t.now.list.now c.args.word.now c.args.first c.args.entries.now)
+    on v at-v allowed is =
+        let h = run_on c.args.t.now.machine c.args.t.now.list.now c.args.word.now c.args.entries.now c.loop-entry.c c.loop-entry.entry-index v at-v c.loop-entry-test.true c.loop-entry.invariant.same c.args.t.now.obeys allowed in
+        rw is h
 
 pub returns : goal.returns
-returns c = c.is_accepting.ensures ∙ (run_end c.args.m c.args.list.now c.args.word.now c.args.run.now c.args.count c.requires.2 c.loop-i.c c.loop-i.i c.loop-i-test.false ∙ c.loop-i.invariant.1)
+returns c = c.is_accepting.ensures ∙ (run_end c.args.t.now.machine c.args.t.now.list.now c.args.word.now c.args.entries.now c.loop-entry.c c.loop-entry.entry-index c.loop-entry-test.false ∙ c.loop-entry.invariant.same)

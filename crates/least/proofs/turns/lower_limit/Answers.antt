@@ -1,16 +1,7 @@
-use mathlib.Core.Path.{sym, ◌∙◌, refl}
 use native.Mathlib.Omega.{arith}
-use Rattle.least.specs.Turns.Laws.{lowered_same, lowered_to}
+use mathlib.Core.Path.{sym, ◌∙◌, refl}
+use Rattle.least.specs.Turns.Laws.{lowered_min}
 use Rattle.least.proofs.turns.lower_limit.Goals as goal
 
-pub returns-then-not-is_final : goal.returns-then-not-is_final
-returns-then-not-is_final c = lowered_same _
-
-pub returns-then-limit-v : goal.returns-then-limit-v
-returns-then-limit-v c = lowered_same _
-
-pub returns-then-limit-v-2 : goal.returns-then-limit-v-2
-returns-then-limit-v-2 c = lowered_same _
-
 pub returns : goal.returns
-returns c = lowered_to (sym c.is_final.ensures ∙ c.if-not-is_final.false) c.requires refl (omega (arith, c.if-limit-v-2.false))
+returns c = let a = c.saturating_add.ensures in let b = c.min.ensures in lowered_min (sym c.is_final.ensures ∙ c.if-not-is_final.false) c.requires refl (omega (arith, c.ranges.limit)) (omega arith)

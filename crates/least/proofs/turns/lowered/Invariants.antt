@@ -1,9 +1,5 @@
-use Prim.Native.Nat.{◌-◌, ◌≤◌}
 use Rattle.least.specs.Turns.{Lowered}
 use Rattle.least.proofs.turns.lowered.Given as goal
 
 abbrev pub invariant-loop-f : goal.invariant-loop-f
-invariant-loop-f l = Lowered l.marks l.d l.limit l.least × (l.f ≤ 64)
-
-abbrev pub decreases-loop-f : goal.decreases-loop-f
-decreases-loop-f l = 64 - l.f
+invariant-loop-f l = Lowered l.marks l.d l.limit l.least

@@ -1,5 +1,4 @@
-use native.Mathlib.Omega.{arith}
-use mathlib.Core.Path.{◌∙◌}
+use Rattle.std.proofs.Common.{◌∙◌, arith}
 use Rattle.letters.proofs.AlphabetCases.{seen_gapless}
 use Rattle.letters.proofs.alphabet.is_gapless.Goals as goal
 

@@ -1,21 +1,10 @@
-use native.Mathlib.Omega.{arith}
-use Rattle.letters.proofs.AlphabetCases.{largest_none, largest_next, largest_end}
+use Rattle.std.proofs.Common.{get_or, ◌∙◌}
+use Rattle.letters.proofs.AlphabetCases.{greater, largest_none, largest_next}
 use Rattle.letters.proofs.alphabet.largest.Goals as goal
 
-pub loop-v-init : goal.loop-v-init
-loop-v-init c = (omega arith, largest_none c.args.letters.now)
+pub loop-letter-init : goal.loop-letter-init
+loop-letter-init c = largest_none c.args.letters.now
 
-pub bounds-letters-v : goal.bounds-letters-v
-bounds-letters-v c = omega arith
-
-pub overflow_add-v : goal.overflow_add-v
-overflow_add-v c = omega arith
-
-pub loop-v-smaller : goal.loop-v-smaller
-loop-v-smaller c = omega arith
-
-pub loop-v-preserved : goal.loop-v-preserved
-loop-v-preserved c = (omega arith, largest_next c.args.letters.now c.loop-v.v c.loop-v.most c.larger-most.result c.loop-v-test.true c.loop-v.invariant.1 c.larger-most.ensures)
-
-pub returns : goal.returns
-returns c = largest_end c.args.letters.now c.loop-v.v c.loop-v.most c.loop-v.invariant.0 c.loop-v-test.false c.loop-v.invariant.1
+pub loop-letter-preserved : goal.loop-letter-preserved
+loop-letter-preserved c =
+    largest_next c.args.letters.now c.loop-letter.letter-index c.loop-letter.most _ c.loop-letter-test.true c.loop-letter.invariant (c.max-most.ensures ∙ greater c.loop-letter.most (get_or c.args.letters.now c.loop-letter.letter-index 0))

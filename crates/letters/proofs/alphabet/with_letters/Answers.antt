@@ -1,17 +1,15 @@
-use native.Mathlib.Omega.{arith}
+use Rattle.std.proofs.Common.{ℕ, not, eqb, get_or, ◌+◌, ap, ◌∙◌, arith}
 use Rattle.letters.specs.Alphabet.{letter_in}
 use Rattle.letters.specs.Alphabet.Laws.{lettered_small}
-use Rattle.letters.proofs.AlphabetCases.{lettered_none, lettered_next, lettered_end}
+use Rattle.letters.proofs.AlphabetCases.{counted, one_more, lettered_none, lettered_next}
 use Rattle.letters.proofs.alphabet.with_letters.Goals as goal
 
-pub loop-v-init : goal.loop-v-init
-loop-v-init c = (omega arith, lettered_none c.args.letters.now)
+pub loop-letter-init : goal.loop-letter-init
+loop-letter-init c = lettered_none c.args.letters.now
 
-pub counted-n-requires : goal.counted-n-requires
-counted-n-requires c = omega (arith, c.loop-v-test.true, lettered_small (letter_in c.args.letters.now) c.loop-v.v, c.loop-v.invariant.1)
+pub overflow_add-count : goal.overflow_add-count
+overflow_add-count c = omega (arith, lettered_small (letter_in c.args.letters.now) c.loop-letter.letter-index, c.loop-letter.invariant, c.from-count.ensures, one_more (not (eqb (get_or c.args.letters.now c.loop-letter.letter-index 0) 0)))
 
-pub loop-v-preserved : goal.loop-v-preserved
-loop-v-preserved c = (omega arith, lettered_next c.args.letters.now c.loop-v.v c.loop-v.n c.counted-n.result c.loop-v-test.true c.loop-v.invariant.1 c.counted-n.ensures)
-
-pub returns : goal.returns
-returns c = lettered_end c.args.letters.now c.loop-v.v c.loop-v.n c.loop-v.invariant.0 c.loop-v-test.false c.loop-v.invariant.1
+pub loop-letter-preserved : goal.loop-letter-preserved
+loop-letter-preserved c =
+    lettered_next c.args.letters.now c.loop-letter.letter-index c.loop-letter.count _ c.loop-letter-test.true c.loop-letter.invariant (ap (λ (n : ℕ). c.loop-letter.count + n) c.from-count.ensures ∙ counted _ _)

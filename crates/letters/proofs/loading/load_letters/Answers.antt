@@ -1,15 +1,18 @@
-use mathlib.Core.Path.{◌∙◌, sym}
-use Rattle.letters.proofs.LoadingCases.{load_fault_lem, load_large, load_gap, load_good, lines_zero}
+use Rattle.std.proofs.Common.{sym, ◌∙◌}
+use Rattle.std.proofs.lemmas.Result.{err_from_is_err_and}
+use Rattle.letters.proofs.LoadingCases.{load_fault_lem, load_large, load_gap, load_good}
 use Rattle.letters.proofs.loading.load_letters.Goals as goal
+use Rattle.letters.proofs.loading.load_letters.Goals.{then-count-gt-MAX_LETTERS-via-then-count-gt-MAX_LETTERS, then-count-gt-MAX_LETTERS-via-else-count-gt-MAX_LETTERS+then-not-is_gapless}
 
-pub returns-then-fault-ne0 : goal.returns-then-fault-ne0
-returns-then-fault-ne0 c = load_fault_lem _ _ _ _ c.read_lines-fault.ensures c.if-fault-ne0.true c.refused.ensures
+pub returns-in_err-read_lines : goal.returns-in_err-read_lines
+returns-in_err-read_lines c = let p = err_from_is_err_and c.from_residual.result c.from_residual.ensures.1 in rw (p.1, p.2) (load_fault_lem c.args.text.now c.read_lines.new.letters _ c.in_err-read_lines.ensures)
 
 pub returns-then-count-gt-MAX_LETTERS : goal.returns-then-count-gt-MAX_LETTERS
-returns-then-count-gt-MAX_LETTERS c = load_large _ _ (lines_zero _ _ _ c.read_lines-fault.ensures c.if-fault-ne0.false) _ c.largest-most.ensures _ c.if-count-gt-MAX_LETTERS.true c.refused-then-count-gt-MAX_LETTERS.ensures
-
-pub returns-then-not-is_gapless : goal.returns-then-not-is_gapless
-returns-then-not-is_gapless c = load_gap _ _ (lines_zero _ _ _ c.read_lines-fault.ensures c.if-fault-ne0.false) _ c.largest-most.ensures c.if-count-gt-MAX_LETTERS.false _ (sym c.is_gapless.ensures ∙ c.if-not-is_gapless.true) c.refused-then-not-is_gapless.ensures
+returns-then-count-gt-MAX_LETTERS c =
+    elim c.then-count-gt-MAX_LETTERS.branch [
+      | then-count-gt-MAX_LETTERS-via-then-count-gt-MAX_LETTERS w ↦ load_large c.args.text.now c.read_lines.new.letters c.in_ok-read_lines.ensures c.from-count.result (c.from-count.ensures ∙ c.largest-most.ensures) w.if-count-gt-MAX_LETTERS.true
+      | then-count-gt-MAX_LETTERS-via-else-count-gt-MAX_LETTERS+then-not-is_gapless w ↦ load_gap c.args.text.now c.read_lines.new.letters c.in_ok-read_lines.ensures c.from-count.result (c.from-count.ensures ∙ c.largest-most.ensures) w.if-count-gt-MAX_LETTERS.false (sym w.is_gapless.ensures ∙ w.if-not-is_gapless.true)
+    ]
 
 pub returns : goal.returns
-returns c = load_good _ _ (lines_zero _ _ _ c.read_lines-fault.ensures c.if-fault-ne0.false) _ c.largest-most.ensures c.if-count-gt-MAX_LETTERS.false (sym c.is_gapless.ensures ∙ c.if-not-is_gapless.false)
+returns c = load_good c.args.text.now c.read_lines.new.letters c.in_ok-read_lines.ensures c.from-count.result (c.from-count.ensures ∙ c.largest-most.ensures) c.if-count-gt-MAX_LETTERS.false (sym c.is_gapless.ensures ∙ c.if-not-is_gapless.false)

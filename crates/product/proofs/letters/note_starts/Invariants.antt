@@ -2,7 +2,4 @@ use Rattle.product.proofs.LettersCases.{Starting}
 use Rattle.product.proofs.letters.note_starts.Given as goal
 
 abbrev pub invariant-loop-k : goal.invariant-loop-k
-invariant-loop-k l = Starting l.list l.n l.starts l.k
-
-abbrev pub decreases-loop-k : goal.decreases-loop-k
-decreases-loop-k l = l.k
+invariant-loop-k l = Starting l.t.list.now l.t.machine.transitions l.starts l.k

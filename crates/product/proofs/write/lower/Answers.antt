@@ -1,23 +1,14 @@
 use Prim.Native.Nat.{ℕ, ◌≤◌, ◌<◌}
-use native.Mathlib.Omega.{arith}
-use borrow.Author.Count.{below_more}
-use Rattle.product.specs.Order.{letter_key}
+use Rattle.std.proofs.Common.{rules, sym, subst}
+use borrow.Author.Tests.{tests}
+use Rattle.std.proofs.lemmas.Iterator.{first_from_Range}
+use Rattle.product.specs.Order.{letter_key, Lower}
+use Rattle.product.proofs.WriteCases.{lower_is}
 use Rattle.product.proofs.write.lower.Goals as goal
 
-pub loop-u-init : goal.loop-u-init
-loop-u-init c = (omega arith, omega arith, λ (k : ℕ) (a : k < c.args.j) (b : c.args.j ≤ k). absurd (omega arith))
-
-pub returns-then-y-key : goal.returns-then-y-key
-returns-then-y-key c = record { low = omega arith; high = omega arith; below = λ k a b. c.loop-u.invariant.2 k b a; reached = λ h. omega (arith, c.key.ensures) }
-
-pub overflow_add-u : goal.overflow_add-u
-overflow_add-u c = omega (arith, c.ranges)
-
-pub loop-u-smaller : goal.loop-u-smaller
-loop-u-smaller c = omega arith
-
-pub loop-u-preserved : goal.loop-u-preserved
-loop-u-preserved c = (omega arith, omega arith, below_more (λ (k : ℕ). c.args.j ≤ k → letter_key c.args.list.now k < c.args.y) c.loop-u.u c.loop-u.invariant.2 (λ h. omega (arith, c.key.ensures)))
-
 pub returns : goal.returns
-returns c = record { low = omega arith; high = omega arith; below = λ k a b. c.loop-u.invariant.2 k b a; reached = λ (h : c.loop-u.u < c.args.n). absurd (omega arith) }
+returns c =
+    subst (λ (r : ℕ). Lower c.args.t.now.list.now c.args.t.now.machine.transitions c.args.j c.args.y r) (sym c.unwrap_or.ensures)
+    (lower_is c.args.t.now.list.now c.args.t.now.machine.transitions c.args.j c.args.y c.requires c.find.result
+    (first_from_Range _ _ _ c.find.result (λ u. c.args.y ≤ letter_key c.args.t.now.list.now u) (λ u. letter_key c.args.t.now.list.now u < c.args.y) c.find.ensures.ran (λ x q k. search (rules, tests))
+    (λ x q k. search (rules, tests))))

@@ -1,35 +1,17 @@
-use Rattle.product.proofs.WriteCases.{next_none, next_here, next_end, next_jump}
+use Prim.Native.Nat.{ℕ}
+use mathlib.Core.Path.{sym, subst, ap, ◌∙◌}
+use Rattle.std.specs.Prelude.{Option, Some}
 use Rattle.fsbm.specs.declared.machine.Transition.{Transition}
-use mathlib.Core.Path.{ap}
-use native.Mathlib.Omega.{arith}
+use Rattle.product.specs.Letters.{NextMove}
+use Rattle.product.proofs.WriteCases.{next_end, next_jump}
 use Rattle.product.proofs.write.next_move.Goals as goal
 
-pub returns-then-hi-i : goal.returns-then-hi-i
-returns-then-hi-i c = next_none c.requires c.if-hi-i.true
-
-pub next_letter-b-requires : goal.next_letter-b-requires
-next_letter-b-requires c = let s = c.requires in let top = s.block.high in omega (arith, s.letters_small c.args.i (omega (arith, s.block.high)), ap (λ (z : Transition). z.letter) c.transition_at-t.ensures)
-
-pub returns-then-b-x : goal.returns-then-b-x
-returns-then-b-x c = next_here c.requires (omega (arith, c.if-hi-i.false)) c.transition_at-t.result c.transition_at-t.ensures c.next_letter-b.result c.next_letter-b.ensures c.if-b-x.true
-
-pub returns-then-b-eq256 : goal.returns-then-b-eq256
-returns-then-b-eq256 c = next_end c.requires (omega (arith, c.if-hi-i.false)) c.transition_at-t.result c.transition_at-t.ensures c.next_letter-b.result c.next_letter-b.ensures c.if-b-eq256.true
-
-pub overflow_mul-result : goal.overflow_mul-result
-overflow_mul-result c = omega (arith, c.requires.state)
-
-pub overflow_add-result : goal.overflow_add-result
-overflow_add-result c = omega (arith, c.requires.state, c.next_letter-b.ensures.high)
-
-pub offset_bounds-starts-p : goal.offset_bounds-starts-p
-offset_bounds-starts-p c = omega (arith, c.requires.state, c.next_letter-b.ensures.high)
-
-pub bounds-starts-p : goal.bounds-starts-p
-bounds-starts-p c = omega (arith, c.requires.state, c.next_letter-b.ensures.high)
-
-pub overflow_cast-result : goal.overflow_cast-result
-overflow_cast-result c = omega (arith, (next_jump c.requires (omega (arith, c.if-hi-i.false)) c.transition_at-t.result c.transition_at-t.ensures c.next_letter-b.result c.next_letter-b.ensures c.if-b-x.false c.if-b-eq256.false).high, c.ranges)
+pub returns-in_err-b : goal.returns-in_err-b
+returns-in_err-b c =
+    subst (λ (o : Option ℕ). NextMove c.args.first.now.table.now.list.now c.args.letters.now c.args.i c.args.hi o) (sym c.from_residual.ensures)
+    (next_end c.requires c.if-hi-i.false c.from-x.result (c.from-x.ensures ∙ ap (λ (z : Transition). z.letter) c.transition_at-t.ensures) c.in_err-b.ensures)
 
 pub returns : goal.returns
-returns c = next_jump c.requires (omega (arith, c.if-hi-i.false)) c.transition_at-t.result c.transition_at-t.ensures c.next_letter-b.result c.next_letter-b.ensures c.if-b-x.false c.if-b-eq256.false
+returns c =
+    subst (λ (r : ℕ). NextMove c.args.first.now.table.now.list.now c.args.letters.now c.args.i c.args.hi (Some r)) (sym c.from.ensures)
+    (next_jump c.requires c.if-hi-i.false c.from-x.result (c.from-x.ensures ∙ ap (λ (z : Transition). z.letter) c.transition_at-t.ensures) c.in_ok-b.b c.in_ok-b.ensures c.if-b-x.false)

@@ -1,41 +1,45 @@
-use Rattle.product.proofs.WriteCases.{Meeting, meeting_searching, pairing_start, pairing_moving, pairing_room, pairing_next, pairing_end}
-use Rattle.product.specs.Tables.{joinable}
-use native.Mathlib.Omega.{arith}
 use Prim.Native.Nat.{◌+◌}
+use native.Mathlib.Omega.{arith}
+use Rattle.fsbm.specs.Rules.{rules as rules_of}
+use Rattle.product.proofs.WriteCases.{meet, meeting_searching, pairing_start, pairing_at, pairing_below, pairing_moving, pairing_room, pairing_next, pairing_end}
 use Rattle.product.proofs.write.write_pair.Goals as goal
 
-pub overflow_cast-n : goal.overflow_cast-n
-overflow_cast-n c = let j = joinable c.args.first c.args.first_list.now c.args.second c.args.second_list.now c.requires.second_list_value in omega (arith, j.second.states_fit)
-
 pub overflow_cast-state : goal.overflow_cast-state
-overflow_cast-state c = let j = joinable c.args.first c.args.first_list.now c.args.second c.args.second_list.now c.requires.second_list_value in omega (arith, j.second.states_fit, c.requires.p_lt_states.1)
+overflow_cast-state c = omega (arith, (rules_of _ _ c.args.f.now.second.table.now.obeys).states_fit, c.requires.p_lt_states.1)
 
 pub common_letters-letters-requires : goal.common_letters-letters-requires
-common_letters-letters-requires c = let j = joinable c.args.first c.args.first_list.now c.args.second c.args.second_list.now c.requires.second_list_value in (omega (arith, j.first.states_fit, c.requires.p_lt_states.0), omega (arith, j.second.states_fit, c.requires.p_lt_states.1))
+common_letters-letters-requires c = (
+  omega (arith, (rules_of _ _ c.args.f.now.first.table.now.obeys).states_fit, c.requires.p_lt_states.0),
+  omega (arith, (rules_of _ _ c.args.f.now.second.table.now.obeys).states_fit, c.requires.p_lt_states.1),
+)
 
-pub next_move-i-requires : goal.next_move-i-requires
-next_move-i-requires c = let j = joinable c.args.first c.args.first_list.now c.args.second c.args.second_list.now c.requires.second_list_value in let g : Meeting j c.args.first_starts.now c.args.first_keys.now c.args.second_starts.now c.args.second_keys.now c.common_letters-letters.result c.args.p c.args.r c.args.span.lo c.args.span.hi = record { first_index = c.requires.indexed; second_index = c.requires.indexed_2; block = c.requires.block; first_state = c.requires.p_lt_states.0; second_state = c.requires.p_lt_states.1; common = c.common_letters-letters.ensures } in meeting_searching j g c.args.span.lo (omega arith) c.requires.block.low
+pub next_move-next-requires : goal.next_move-next-requires
+next_move-next-requires c = meeting_searching c.args.f.now (meet c.args.f.now c.common_letters-letters.result c.requires.block c.requires.p_lt_states c.common_letters-letters.ensures) c.args.span.now.start (omega arith) c.requires.block.low
 
-pub loop-i-init : goal.loop-i-init
-loop-i-init c = λ m j lo g room next. pairing_start j g c.args.k c.next_move-i.result c.args.list.now room next
+pub loop-next-init : goal.loop-next-init
+loop-next-init c = pairing_start c.args.f.now (meet c.args.f.now c.common_letters-letters.result c.requires.block c.requires.p_lt_states c.common_letters-letters.ensures) c.args.k c.args.list.now c.requires.r_in_bounds c.next_move-next.result c.next_move-next.ensures
+
+pub transition-t-requires : goal.transition-t-requires
+transition-t-requires c = omega (arith, pairing_below c.args.f.now (meet c.args.f.now c.common_letters-letters.result c.requires.block c.requires.p_lt_states c.common_letters-letters.ensures) (pairing_at c.args.f.now c.in-Some.is c.loop-next.invariant), c.requires.block.high)
 
 pub write_moves-at-requires : goal.write_moves-at-requires
-write_moves-at-requires c = let j = joinable c.args.first c.args.first_list.now c.args.second c.args.second_list.now c.requires.second_list_value in let g : Meeting j c.args.first_starts.now c.args.first_keys.now c.args.second_starts.now c.args.second_keys.now c.common_letters-letters.result c.args.p c.args.r c.args.span.lo c.args.span.hi = record { first_index = c.requires.indexed; second_index = c.requires.indexed_2; block = c.requires.block; first_state = c.requires.p_lt_states.0; second_state = c.requires.p_lt_states.1; common = c.common_letters-letters.ensures } in let s = c.loop-i.invariant c.args.first j c.args.span.lo g c.requires.r_in_bounds c.next_move-i.ensures in record { moving = pairing_moving j g s c.loop-i-test.true c.transition_at-t.result c.transition_at-t.ensures; t_in_bounds = pairing_room j g s c.loop-i-test.true c.transition_at-t.result c.transition_at-t.ensures }
+write_moves-at-requires c =
+    record {
+      moving = pairing_moving c.args.f.now (meet c.args.f.now c.common_letters-letters.result c.requires.block c.requires.p_lt_states c.common_letters-letters.ensures) (pairing_at c.args.f.now c.in-Some.is c.loop-next.invariant) c.transition-t.result c.transition-t.ensures;
+      t_in_bounds = pairing_room c.args.f.now (meet c.args.f.now c.common_letters-letters.result c.requires.block c.requires.p_lt_states c.common_letters-letters.ensures) (pairing_at c.args.f.now c.in-Some.is c.loop-next.invariant) c.transition-t.result c.transition-t.ensures;
+    }
 
-pub overflow_add-i : goal.overflow_add-i
-overflow_add-i c = omega (arith, c.well_formed)
+pub next_move-next-requires-in-Some : goal.next_move-next-requires-in-Some
+next_move-next-requires-in-Some c =
+    let s = (pairing_at c.args.f.now c.in-Some.is c.loop-next.invariant) in
+    let low = s.low in
+    let below = pairing_below c.args.f.now (meet c.args.f.now c.common_letters-letters.result c.requires.block c.requires.p_lt_states c.common_letters-letters.ensures) s in
+    meeting_searching c.args.f.now (meet c.args.f.now c.common_letters-letters.result c.requires.block c.requires.p_lt_states c.common_letters-letters.ensures) (c.in-Some.i + 1) (omega arith) (omega arith)
 
-pub next_move-i-requires-in-loop-i : goal.next_move-i-requires-in-loop-i
-next_move-i-requires-in-loop-i c = let j = joinable c.args.first c.args.first_list.now c.args.second c.args.second_list.now c.requires.second_list_value in let g : Meeting j c.args.first_starts.now c.args.first_keys.now c.args.second_starts.now c.args.second_keys.now c.common_letters-letters.result c.args.p c.args.r c.args.span.lo c.args.span.hi = record { first_index = c.requires.indexed; second_index = c.requires.indexed_2; block = c.requires.block; first_state = c.requires.p_lt_states.0; second_state = c.requires.p_lt_states.1; common = c.common_letters-letters.ensures } in let s = c.loop-i.invariant c.args.first j c.args.span.lo g c.requires.r_in_bounds c.next_move-i.ensures in let low = s.low in meeting_searching j g (c.loop-i.i + 1) (omega arith) (omega (arith, c.loop-i-test.true))
-
-pub loop-i-smaller : goal.loop-i-smaller
-loop-i-smaller c = let next = c.next_move-i-in-loop-i.ensures in let on = next.low in let high = next.high in omega arith
-
-pub loop-i-preserved : goal.loop-i-preserved
-loop-i-preserved c = λ m j lo g room next. pairing_next j g (c.loop-i.invariant m j lo g room next) c.loop-i-test.true c.transition_at-t.result c.transition_at-t.ensures _ c.write_moves-at.result c.next_move-i-in-loop-i.result c.write_moves-at.ensures.list_after c.write_moves-at.ensures.value c.next_move-i-in-loop-i.ensures
-
-pub shape_of-list : goal.shape_of-list
-shape_of-list c = let j = joinable c.args.first c.args.first_list.now c.args.second c.args.second_list.now c.requires.second_list_value in let g : Meeting j c.args.first_starts.now c.args.first_keys.now c.args.second_starts.now c.args.second_keys.now c.common_letters-letters.result c.args.p c.args.r c.args.span.lo c.args.span.hi = record { first_index = c.requires.indexed; second_index = c.requires.indexed_2; block = c.requires.block; first_state = c.requires.p_lt_states.0; second_state = c.requires.p_lt_states.1; common = c.common_letters-letters.ensures } in let s = c.loop-i.invariant c.args.first j c.args.span.lo g c.requires.r_in_bounds c.next_move-i.ensures in s.putting.size
+pub loop-next-preserved : goal.loop-next-preserved
+loop-next-preserved c =
+    pairing_next c.args.f.now (meet c.args.f.now c.common_letters-letters.result c.requires.block c.requires.p_lt_states c.common_letters-letters.ensures) (pairing_at c.args.f.now c.in-Some.is c.loop-next.invariant) c.transition-t.result c.transition-t.ensures _ c.write_moves-at.result c.next_move-next-in-Some.result c.write_moves-at.ensures.list_after
+    c.write_moves-at.ensures.value c.next_move-next-in-Some.ensures
 
 pub returns : goal.returns
-returns c = let j = joinable c.args.first c.args.first_list.now c.args.second c.args.second_list.now c.requires.second_list_value in let g : Meeting j c.args.first_starts.now c.args.first_keys.now c.args.second_starts.now c.args.second_keys.now c.common_letters-letters.result c.args.p c.args.r c.args.span.lo c.args.span.hi = record { first_index = c.requires.indexed; second_index = c.requires.indexed_2; block = c.requires.block; first_state = c.requires.p_lt_states.0; second_state = c.requires.p_lt_states.1; common = c.common_letters-letters.ensures } in let s = c.loop-i.invariant c.args.first j c.args.span.lo g c.requires.r_in_bounds c.next_move-i.ensures in let answer = pairing_end j s c.loop-i-test.false in record { list_after = answer.0; value = answer.1 }
+returns c = let answer = pairing_end c.args.f.now (pairing_at c.args.f.now c.in_default.is c.loop-next.invariant) in record { list_after = answer.0; value = answer.1 }

@@ -1,17 +1,9 @@
-use Prim.Native.Nat.{◌≤◌, ◌-◌}
-use mathlib.Core.Path.{◌≡◌}
-use lib.ListN.{length}
+use Rattle.std.proofs.Common.{◌≡◌, length}
 use Rattle.sheet.proofs.PartCases.{ColumnsRead, TransitionsTo}
 use Rattle.sheet.proofs.parts.read_transitions.Given as goal
 
+abbrev pub invariant-loop-k : goal.invariant-loop-k
+invariant-loop-k l = TransitionsTo l.sheet l.header.states l.header.letters l.k l.initial.kept l.kept l.before
+
 abbrev pub invariant-loop-c : goal.invariant-loop-c
-invariant-loop-c l = (l.c ≤ 3) × (length l.numbers ≡ 3) × ColumnsRead l.sheet l.at l.c l.numbers
-
-abbrev pub decreases-loop-c : goal.decreases-loop-c
-decreases-loop-c l = 3 - l.c
-
-abbrev pub invariant-sheet : goal.invariant-sheet
-invariant-sheet l = (l.k ≤ l.transitions) × TransitionsTo l.sheet l.states l.letters l.k l.at l.initial.kept l.kept l.before × (length l.numbers ≡ 3) × (length l.kept ≡ length l.initial.kept)
-
-abbrev pub decreases-sheet : goal.decreases-sheet
-decreases-sheet l = l.transitions - l.k
+invariant-loop-c l = (length l.numbers ≡ 3) × ColumnsRead l.sheet l.at l.c l.numbers

@@ -1,34 +1,28 @@
-use native.Mathlib.Omega.{arith}
+use Prim.Native.Nat.{◌<◌, ◌≤◌, ◌-◌}
+use Rattle.std.proofs.Common.{rules, arith}
+use borrow.Author.Tests.{tests}
+use Rattle.fsbm.specs.Machine.{transition_at}
 use Rattle.fsbm.specs.Rules.{rules as rules_of}
-use Rattle.split.specs.Lookup.Laws.{between_start, between_below, between_above, between_end}
+use Rattle.product.specs.Tables.{order}
+use Rattle.split.specs.Lookup.{key_of}
+use Rattle.split.specs.Lookup.Laws.{some_past, past_is}
 use Rattle.split.proofs.lookup.lookup.Goals as goal
 
-pub loop-hi-init : goal.loop-hi-init
-loop-hi-init c = (between_start c.args.m _ _ _ _ c.requires.1, c.key-wanted.ensures)
-
-pub overflow_sub-hi : goal.overflow_sub-hi
-overflow_sub-hi c = let b = c.loop-hi.invariant.0 in omega (arith, b.low, b.high)
-
-pub overflow_sub-mid : goal.overflow_sub-mid
-overflow_sub-mid c = let b = c.loop-hi.invariant.0 in omega (arith, b.low, b.high)
-
-pub overflow_add-mid : goal.overflow_add-mid
-overflow_add-mid c = let b = c.loop-hi.invariant.0 in omega (arith, b.low, b.high, b.within, (rules_of _ _ c.requires.0).transitions_fit)
-
-pub loop-hi-smaller-then-wanted-key_at : goal.loop-hi-smaller-then-wanted-key_at
-loop-hi-smaller-then-wanted-key_at c = let b = c.loop-hi.invariant.0 in omega (arith, b.low, b.high, c.loop-hi-test.true)
-
-pub loop-hi-preserved-then-wanted-key_at : goal.loop-hi-preserved-then-wanted-key_at
-loop-hi-preserved-then-wanted-key_at c = (between_below c.args.m _ _ _ _ (rules_of _ _ c.requires.0) _ _ c.loop-hi.invariant.0 _ (omega (arith, c.loop-hi-test.true)) (omega (arith, c.if-wanted-key_at.true, c.key_at.ensures, c.loop-hi.invariant.1)), c.loop-hi.invariant.1)
-
-pub loop-hi-smaller : goal.loop-hi-smaller
-loop-hi-smaller c = let b = c.loop-hi.invariant.0 in omega (arith, b.low, b.high, c.loop-hi-test.true)
-
-pub loop-hi-preserved : goal.loop-hi-preserved
-loop-hi-preserved c = (between_above c.args.m _ _ _ _ (rules_of _ _ c.requires.0) _ _ c.loop-hi.invariant.0 _ (omega (arith, c.loop-hi-test.true)) (omega (arith, c.if-wanted-key_at.false, c.key_at.ensures, c.loop-hi.invariant.1)), c.loop-hi.invariant.1)
+pub overflow_sub-result : goal.overflow_sub-result
+overflow_sub-result c =
+    let holds : 0 < c.partition_point-past.result → order (transition_at c.args.t.now.list.now (c.partition_point-past.result - 1)) ≤ key_of c.args.p c.args.x c.args.q =
+    λ z. let p = c.partition_point-past.ensures.holds z in search (rules, tests) in
+    let fails : c.partition_point-past.result < c.args.t.now.machine.transitions → key_of c.args.p c.args.x c.args.q < order (transition_at c.args.t.now.list.now c.partition_point-past.result) =
+    λ z. let p = c.partition_point-past.ensures.fails z in search (rules, tests) in
+    some_past c.args.t.now.machine c.args.t.now.list.now c.args.p c.args.x c.args.q (rules_of _ _ c.args.t.now.obeys) c.requires c.partition_point-past.result c.partition_point-past.ensures.within holds fails
 
 pub overflow_cast-result : goal.overflow_cast-result
-overflow_cast-result c = let b = c.loop-hi.invariant.0 in omega (arith, b.low, b.high, b.within, (rules_of _ _ c.requires.0).transitions_fit)
+overflow_cast-result c = omega (arith, c.partition_point-past.ensures.within, (rules_of _ _ c.args.t.now.obeys).transitions_fit)
 
 pub returns : goal.returns
-returns c = between_end c.args.m _ _ _ _ (rules_of _ _ c.requires.0) _ _ c.loop-hi.invariant.0 c.loop-hi-test.false
+returns c =
+    let holds : 0 < c.partition_point-past.result → order (transition_at c.args.t.now.list.now (c.partition_point-past.result - 1)) ≤ key_of c.args.p c.args.x c.args.q =
+    λ z. let p = c.partition_point-past.ensures.holds z in search (rules, tests) in
+    let fails : c.partition_point-past.result < c.args.t.now.machine.transitions → key_of c.args.p c.args.x c.args.q < order (transition_at c.args.t.now.list.now c.partition_point-past.result) =
+    λ z. let p = c.partition_point-past.ensures.fails z in search (rules, tests) in
+    past_is c.args.t.now.machine c.args.t.now.list.now c.args.p c.args.x c.args.q (rules_of _ _ c.args.t.now.obeys) c.requires c.partition_point-past.result c.partition_point-past.ensures.within holds fails

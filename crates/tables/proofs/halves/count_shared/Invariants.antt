@@ -1,9 +1,5 @@
 use Rattle.tables.proofs.HalvesCases.{Counted}
-use Prim.Native.Nat.{◌-◌}
 use Rattle.tables.proofs.halves.count_shared.Given as goal
 
 abbrev pub invariant-loop-d : goal.invariant-loop-d
 invariant-loop-d l = Counted l.word l.i l.d l.counts
-
-abbrev pub decreases-loop-d : goal.decreases-loop-d
-decreases-loop-d l = 128 - l.d

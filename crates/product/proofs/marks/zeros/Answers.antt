@@ -1,7 +1,0 @@
-use mathlib.Core.Path.{refl}
-use Rattle.product.specs.Each.{zeros_of}
-use Rattle.product.proofs.marks.zeros.Goals as goal
-
-pub returns : goal.returns
-unfolding zeros_of
-returns c = refl

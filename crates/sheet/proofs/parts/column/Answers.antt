@@ -1,6 +1,0 @@
-use Rattle.sheet.specs.Reading.{column_at}
-use Rattle.sheet.proofs.parts.column.Goals as goal
-
-pub returns : goal.returns
-unfolding column_at
-returns c = c.number.ensures
