@@ -42,8 +42,7 @@ use Rattle.pieces.specs.Pieces.{Stores, stored, store, Leads, ended, read, copy}
 use Rattle.pieces.specs.Pieces.Laws.{path_leads}
 use Rattle.pieces.specs.Bound.{word_bound}
 use Rattle.pieces.proofs.BoundLaws.{short_word}
-use Rattle.std.specs.Prelude.{Option, None, Some, Result, Ok, Err}
-use Rattle.fsbm.specs.declared.answer.Refusal.{Refusal}
+use Rattle.std.specs.Prelude.{None, Some, Ok, Err}
 use Rattle.fsbm.specs.declared.answer.Refusal.TheVariants.{ShortRun, ShortWord}
 use Rattle.common.specs.Common.{is_common, has_common, least_common, common_answer, common_values, answer_values, nothing_found}
 

@@ -12,7 +12,6 @@ use Rattle.pieces.specs.Bound.{word_bound}
 use Rattle.common.specs.declared.Lengths.{Lengths}
 use Rattle.std.specs.Prelude.{Option, None, Some, Result, Ok, Err}
 use Rattle.fsbm.specs.declared.answer.Refusal.{Refusal}
-use Rattle.fsbm.specs.declared.answer.Refusal.TheVariants.{ShortRun, ShortWord}
 use Rattle.common.specs.Common.{least_common, common_answer, common_values, Front, CommonWord}
 use Rattle.common.proofs.CommonLaws.{answer_found, values_agree}
 

@@ -6,7 +6,7 @@
 use Prim.Native.Nat.{ℕ, zero, suc, ◌+◌, ◌≤◌, ◌<◌}
 use Rattle.std.specs.Prelude.{◌≡◌, refl, ◌⊎◌, ◌&&◌, get_or, ltb, eqb}
 use Rattle.std.proofs.Math.Path.{sym, ap, subst₂}
-use Rattle.std.proofs.Common.{◌∙◌, Ok, Err, Some, None, subst, inl, inr, ext_get_or, ltb-true, eqb-true}
+use Rattle.std.proofs.Common.{◌∙◌, Ok, Err, Some, subst, inl, inr, ext_get_or, ltb-true, eqb-true}
 use mathlib.Core.List.Memᴰ
 use mathlib.Core.List.{List, [], ◌∷◌, ◌++◌, map, append-nil, Memᴰ}
 use Rattle.std.proofs.Math.Bool.{Bool, true, false}
@@ -18,7 +18,6 @@ use Rattle.basics.specs.Search.{any_below, all_below, AllBelow}
 use Rattle.basics.specs.Search.Laws.{and_true, and_both_true, or_false, not_both, any_below_false, all_below_true, AllBelow-head, AllBelow-tail}
 use Rattle.fsbm.specs.Moves.{accepting}
 use Rattle.fsbm.specs.Accepted.{run_bound}
-use Rattle.fsbm.specs.declared.answer.Refusal.{Refusal}
 use Rattle.fsbm.specs.declared.answer.Refusal.TheVariants.{ShortWord}
 use Rattle.fsbm.specs.declared.machine.Machine.{Machine}
 use Rattle.language.specs.Examples.{doubling, doubling_list}

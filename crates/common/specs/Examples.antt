@@ -23,9 +23,8 @@ use Rattle.product.specs.Product.{plain, letter_count, joined_count, pair_mark, 
 use Rattle.product.specs.Examples as product
 use Rattle.product.specs.Examples.{odd, odd_list, odd_joined, joins}
 use Rattle.pieces.specs.Spots.{no_copy_word}
-use Rattle.std.specs.Prelude.{Option, None, Some, Result, Ok, Err}
-use Rattle.fsbm.specs.declared.answer.Refusal.{Refusal}
-use Rattle.fsbm.specs.declared.answer.Refusal.TheVariants.{ShortRun, ShortWord}
+use Rattle.std.specs.Prelude.{None, Some, Ok, Err}
+use Rattle.fsbm.specs.declared.answer.Refusal.TheVariants.{ShortWord}
 use Rattle.common.specs.Common.{is_common, common_answer}
 
 abbrev pub some : Machine

@@ -13,20 +13,20 @@ use fsbm::machine::Machine;
 use least::turns::Weights;
 
 // The weight of a letter: a least weight is letters × 2^32 + moves.
-const LETTER: u64 = 4294967296;
+const UNIT: u64 = 4294967296;
 
 // The letters of a word of this weight.
 fn letters_of(c: u64) -> usize
     ensures { result ≡ c / unit }
 {
-    (c / LETTER) as usize
+    (c / UNIT) as usize
 }
 
 // The entries of its run, the start state counted as one.
 fn entries_of(c: u64) -> usize
     ensures { result ≡ c % unit + 1 }
 {
-    (c % LETTER) as usize + 1
+    (c % UNIT) as usize + 1
 }
 
 // The length of a run slice that a word of n letters needs, on a machine with this many states.

@@ -13,7 +13,7 @@ use lib.Dec.{eqb}
 use borrow.Author.Tests.{eq-eqb, ne_eqb, le-leb, lt-leb}
 use Rattle.std.specs.Prelude.{None, Some, Option, Result, Ok, Err}
 use Rattle.basics.specs.Search.Loops.{first, second}
-use Rattle.fsbm.specs.Answers.{refusal, no_machine, MachineValues, machine_values}
+use Rattle.fsbm.specs.Answers.{refusal, no_machine, MachineValues, machine_values, by_refusal}
 use Rattle.fsbm.specs.declared.machine.Machine.{Machine}
 use Rattle.fsbm.specs.declared.answer.Refusal.{Refusal}
 use Rattle.fsbm.specs.declared.answer.Refusal.TheVariants.{ShortList}
@@ -21,7 +21,7 @@ use Rattle.product.specs.Count.{joined_length}
 use Rattle.basics.specs.Lists.{put}
 use Rattle.basics.specs.Lists.Laws.{put_zero}
 use Rattle.product.specs.Answers.{join_numbered}
-use Rattle.product.specs.Product.{joined_count, joined_marks, joined_machine, joined_transitions, join_fault, join_refusal, answered, join_answer, join_values, join_after}
+use Rattle.product.specs.Product.{joined_count, joined_marks, joined_machine, joined_transitions, join_fault, join_refusal, join_answer, join_values, join_after}
 
 module _ (m₁ : Machine) (l₁ : List ℕ) (m₂ : Machine) (l₂ list : List ℕ) where
   abbrev J : ℕ
@@ -49,7 +49,7 @@ module _ (m₁ : Machine) (l₁ : List ℕ) (m₂ : Machine) (l₂ list : List �
       let values : machine_values (Err (refusal J)) ≡ join_values m₁ l₁ m₂ l₂ (length list) =
       (λ i. record { refusal = numbered.number h i; needed = numbered.needed h i; machine = no_machine }) ∙ second _ no refl in
       record {
-        answer = ap (λ (o : Option Refusal). answered o (joined_machine m₁ l₁ m₂ l₂)) (second _ no refl);
+        answer = ap (λ (o : Option Refusal). by_refusal o (Ok (joined_machine m₁ l₁ m₂ l₂)) (λ f. Err f)) (second _ no refl);
         values = values;
         written = left _ list list values (second _ (ap (λ (k : ℕ). eqb k 0) (numbered.number h) ∙ no) refl);
       }
@@ -65,7 +65,7 @@ module _ (m₁ : Machine) (l₁ : List ℕ) (m₂ : Machine) (l₂ list : List �
         let values : machine_values (Err (ShortList (count * 3))) ≡ join_values m₁ l₁ m₂ l₂ (length list) =
         first _ fine (second _ short (ap (λ (z : ℕ). record { refusal = 15; needed = z * 3; machine = no_machine }) at_count)) in
         record {
-          answer = ap (λ (o : Option Refusal). answered o (joined_machine m₁ l₁ m₂ l₂)) (first _ fine (second _ short (ap (λ (z : ℕ). Some (ShortList (z * 3))) at_count)));
+          answer = ap (λ (o : Option Refusal). by_refusal o (Ok (joined_machine m₁ l₁ m₂ l₂)) (λ f. Err f)) (first _ fine (second _ short (ap (λ (z : ℕ). Some (ShortList (z * 3))) at_count)));
           values = values;
           written = left _ list list values refl;
         }
@@ -84,7 +84,7 @@ module _ (m₁ : Machine) (l₁ : List ℕ) (m₂ : Machine) (l₂ list : List �
         let values : machine_values (Ok (record { states = m₁.states * m₂.states; letters = m₁.letters; transitions = count; marks = marks })) ≡ join_values m₁ l₁ m₂ l₂ (length list) =
         first _ fine (first _ long (ap (λ (m : Machine). record { refusal = 0; needed = 0; machine = m }) machine)) in
         record {
-          answer = ap (λ (m : Machine). Ok m) machine ∙ ap (λ (o : Option Refusal). answered o (joined_machine m₁ l₁ m₂ l₂)) (first {r = None} _ fine (first _ long refl));
+          answer = ap (λ (m : Machine). Ok m) machine ∙ ap (λ (o : Option Refusal). by_refusal o (Ok (joined_machine m₁ l₁ m₂ l₂)) (λ f. Err f)) (first {r = None} _ fine (first _ long refl));
           values = values;
           written = left _ after list values (at_after ∙ put_zero list (joined_transitions m₁ l₁ m₂ l₂) ∙ ap (λ (k : ℕ). joined_transitions m₁ l₁ m₂ l₂ ++ drop k list) size);
         }

@@ -3,17 +3,17 @@
 -- join_numbered           == join_fault is 0, or the number of the refusal that stands for it
 -- join_roomy              == the answer of join where the list has room for every product
 -- joined_ok               == the list that join leaves where it does not refuse
-use Rattle.std.specs.Prelude.{ℕ, ◌*◌, ◌≤◌, ◌≡◌, refl, cond, List, ◌++◌, length, drop, leb, eqb, Option, None, Some, Result, Ok}
+use Rattle.std.specs.Prelude.{ℕ, ◌*◌, ◌≤◌, ◌≡◌, refl, cond, List, ◌++◌, length, drop, leb, eqb, Option, None, Some, Result, Ok, Err}
 use Rattle.std.proofs.Common.{sym, ap, ◌∙◌, eq-eqb, ne_eqb, le-leb, arith}
 use Rattle.std.proofs.Math.Decide.{ℕ_discrete}
 use Rattle.basics.specs.Search.Loops.{first, second}
 use Rattle.fsbm.specs.Machine.{max_states, max_transitions, well_formed}
-use Rattle.fsbm.specs.Answers.{refusal, unless, MachineValues, machine_values}
+use Rattle.fsbm.specs.Answers.{refusal, unless, MachineValues, machine_values, by_refusal}
 use Rattle.fsbm.specs.Answers.Laws.{Numbered, numbered_none, numbered_by, numbered_16, numbered_10, numbered_11, numbered_12, numbered_13}
 use Rattle.fsbm.specs.declared.machine.Machine.{Machine}
 use Rattle.fsbm.specs.declared.answer.Refusal.{Refusal}
 use Rattle.fsbm.specs.declared.answer.Refusal.TheVariants.{ShortList}
-use Rattle.product.specs.Product.{plain, joined_count, joined_transitions, joined_machine, join_fault, join_refusal, answered, join_answer, join_values, join_after}
+use Rattle.product.specs.Product.{plain, joined_count, joined_transitions, joined_machine, join_fault, join_refusal, join_answer, join_values, join_after}
 use Rattle.product.specs.Tables.{joinable}
 
 pub join_numbered : (m₁ : Machine) (l₁ : List ℕ) (m₂ : Machine) (l₂ : List ℕ) → Numbered (join_fault m₁ l₁ m₂ l₂)
@@ -45,7 +45,7 @@ module _ (m₁ : Machine) (l₁ : List ℕ) (m₂ : Machine) (l₂ list : List �
   join_roomy room = at (ℕ_discrete J 0)
     where
       chosen : Option Refusal → Result Machine Refusal
-      chosen o = answered o M
+      chosen o = by_refusal o (Ok M) (λ f. Err f)
 
       at : Dec (J ≡ 0) → chosen (cond (eqb J 0) (cond (leb C (length list)) None (Some (ShortList C))) (Some (refusal J))) ≡ unless J (Ok M)
       at (yes e) =

@@ -10,12 +10,11 @@
 -- joined_machine ..        == the product's record
 -- join_fault ..            == the first refusal of two tables that are joined, 0 where there is none
 -- join_refusal, join_answer, join_after == the refusal, if there is one, and the answer of join, and what the caller's list holds afterwards
--- answered o a            == the answer of a call that refuses by o, or answers a where it does not
 -- join_values ..          == those that the rules give
 use Rattle.std.specs.Prelude.{ℕ, zero, suc, ◌+◌, ◌*◌, ◌/◌, ◌%◌, List, [], ◌∷◌, ◌++◌, Bool, cond, not, ◌&&◌, length, drop, leb, ltb, eqb, Option, None, Some, Result, Ok, Err}
 use Rattle.basics.specs.Search.{all_below}
 use Rattle.fsbm.specs.Machine.{max_states, max_transitions, initial, final, buffering, matching, transition_at, well_formed}
-use Rattle.fsbm.specs.Answers.{refusal, no_machine, MachineValues}
+use Rattle.fsbm.specs.Answers.{refusal, no_machine, MachineValues, by_refusal}
 use Rattle.fsbm.specs.declared.machine.Machine.{Machine}
 use Rattle.fsbm.specs.declared.machine.Transition.{Transition}
 use Rattle.fsbm.specs.declared.answer.Refusal.{Refusal}
@@ -123,13 +122,9 @@ module _ (m₁ : Machine) (l₁ : List ℕ) (m₂ : Machine) (l₂ : List ℕ) w
       (cond (leb (joined_count m₁ l₁ m₂ l₂ * 3) room) None (Some (ShortList (joined_count m₁ l₁ m₂ l₂ * 3))))
       (Some (refusal join_fault))
 
-abbrev pub answered : {A : Type 0} → Option Refusal → A → Result A Refusal
-answered None a = Ok a
-answered (Some f) a = Err f
-
 module _ (m₁ : Machine) (l₁ : List ℕ) (m₂ : Machine) (l₂ : List ℕ) where
   unfoldable pub join_answer : ℕ → Result Machine Refusal
-  join_answer room = answered (join_refusal m₁ l₁ m₂ l₂ room) (joined_machine m₁ l₁ m₂ l₂)
+  join_answer room = by_refusal (join_refusal m₁ l₁ m₂ l₂ room) (Ok (joined_machine m₁ l₁ m₂ l₂)) (λ f. Err f)
 
   unfoldable pub join_values : ℕ → MachineValues
   join_values room =

@@ -1,8 +1,8 @@
-use Rattle.std.proofs.Common.{refl, sym, ap, ◌∙◌, arith, length, le-leb, None, Some}
+use Rattle.std.proofs.Common.{refl, sym, ap, ◌∙◌, arith, length, le-leb}
 use lib.Seq.{take_all}
 use borrow.Author.Tests.{lt-leb}
 use Rattle.basics.specs.Search.Loops.{first, second}
-use Rattle.columns.specs.Column.{column_number, some_number}
+use Rattle.columns.specs.Column.{column_number}
 use Rattle.columns.specs.Column.Laws.{none_answered, number_answered}
 use Rattle.exports.specs.Comparison.{column_or_none}
 use Rattle.exports.proofs.comparison.zagvirk_column.Goals as goal
