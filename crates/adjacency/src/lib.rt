@@ -37,12 +37,13 @@ fn seek(t: &Table, k: usize, q: usize) -> usize
 
 // The index of a table's list.
 // Time: the states and the transitions, each once.
+#[tactic(auto, using(fsbm::specs::Rules::rules))]
 pub fn index(t: &Table) -> Adjacency
     ensures { Index t.now.machine t.now.list.now result.first }
 {
     let mut first = [0; FIRSTS];
     let mut k = 0;
-    for q in 0..=t.machine.states {
+    for q in 0..t.machine.states + 1 {
         k = seek(t, k, q);
         first[q] = k as u16;
     }

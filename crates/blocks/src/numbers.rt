@@ -28,10 +28,12 @@ impl Pairs {
     pub fn blank() -> Pairs
         ensures { Blank result.numbers }
     {
-        Pairs {
-            numbers: [NOTHING; MOST_PAIRS],
+        let mut pairs = Pairs {
+            numbers: [0; MOST_PAIRS],
             marks: [0; MOST_STATES],
-        }
+        };
+        pairs.numbers.fill(NOTHING);
+        pairs
     }
 
     // The first row from k on, below n, that has a mark.

@@ -3,9 +3,10 @@
 -- so_far_fits  == after some bytes of a column the number so far may be moved on
 -- column_narrow == the bytes of a column are at most widest_column
 -- turned       == what is held after one turn more of the loop
--- passed       == the answer once the bytes of the column that starts at byte at are passed
+-- numbered     == the number of the column that starts at byte at, from what is held after its bytes
+-- passed       == what is held once the bytes of that column are passed
 use Rattle.std.specs.Prelude.{ℕ, ◌+◌, ◌<◌, ◌≤◌, ◌^◌, ◌≡◌, Option, List, length, take, drop, get_or}
-use Rattle.std.proofs.Common.{sym, ap, ◌∙◌, arith, add-one, length-take, take-suc}
+use Rattle.std.proofs.Common.{refl, sym, ap, ◌∙◌, arith, add-one, length-take, take-suc}
 use Rattle.std.proofs.lemmas.List.{take_all}
 use Rattle.std.proofs.Math.Nat.{pow-le-pow_right}
 use Rattle.columns.specs.Column.{widest_column, no_number, column_number, some_number}
@@ -31,8 +32,9 @@ module _ (bytes : List ℕ) (at width : ℕ) (narrow : width ≤ widest_column) 
   pub column_narrow : (w : ℕ) → w ≡ width → length (take w (drop at bytes)) ≤ widest_column
   column_narrow w same = simp length-take (omega arith)
 
-  pub passed : (w i : ℕ) (h : Held) (r : Option ℕ) → w ≡ width → h ≡ held (take i (take w (drop at bytes))) → length (take w (drop at bytes)) ≤ i → r ≡ held_number h
-      → r ≡ some_number (column_number (take width (drop at bytes)))
-  passed w i h r same h-is done e =
-      e ∙ (ap held_number (h-is ∙ ap held (take_all i (take w (drop at bytes)) done))
-      ∙ (numbers_column (take w (drop at bytes)) (column_narrow w same) ∙ ap (λ (v : ℕ). some_number (column_number (take v (drop at bytes)))) same))
+  pub numbered : (h : Held) (r : Option ℕ) → h ≡ held (take width (drop at bytes)) → r ≡ held_number h → r ≡ some_number (column_number (take width (drop at bytes)))
+  numbered h r h-is e = e ∙ (ap held_number h-is ∙ numbers_column (take width (drop at bytes)) (column_narrow width refl))
+
+-- all of them are passed
+pub passed : (bytes : List ℕ) (at width w i : ℕ) (h : Held) → w ≡ width → h ≡ held (take i (take w (drop at bytes))) → length (take w (drop at bytes)) ≤ i → h ≡ held (take width (drop at bytes))
+passed bytes at width w i h same h-is done = h-is ∙ (ap held (take_all i (take w (drop at bytes)) done) ∙ ap (λ (v : ℕ). held (take v (drop at bytes))) same)

@@ -9,7 +9,7 @@
 ghost use Rattle.std.specs.Prelude.{◌+◌, ◌-◌, ◌/◌, ◌%◌, ◌^◌, ◌<◌, ◌≤◌, [], ◌∷◌, ◌≡◌, true, length, take, drop};
 ghost use Rattle.basics.specs.Lists.{put};
 ghost use Rattle.columns.specs.Column.{widest_column, no_number, column_number, some_number, digit_or, column_of};
-ghost use Rattle.columns.specs.Held.{held_next, so_far, held_number};
+ghost use Rattle.columns.specs.Held.{held, held_next, so_far, held_number};
 
 // The most bytes of a column.
 pub const WIDEST: usize = 10;
@@ -61,17 +61,25 @@ impl Held {
     }
 }
 
-// The number in the column of width bytes, at most WIDEST, that starts at byte at, if they are a column: 0 where it is blank. Each byte
-// is looked at once, from the first on.
-pub fn number(bytes: &[u8], at: usize, width: usize) -> Option<usize>
+// What a pass over the bytes from at on holds after width of them, at most WIDEST. Each byte is looked at once, from the first on.
+#[inline]
+fn pass(bytes: &[u8], at: usize, width: usize) -> Held
     requires { (at + width ≤ length bytes.now) × (width ≤ widest_column) }
-    ensures { result ≡ some_number (column_number (take width (drop at bytes.now))) }
+    ensures { result ≡ held (take width (drop at bytes.now)) }
 {
     let mut held = Held::Blank;
     for b in &bytes[at..at + width] {
         held = held.next(*b);
     }
-    held.number()
+    held
+}
+
+// The number in the column of width bytes, at most WIDEST, that starts at byte at, if they are a column: 0 where it is blank.
+pub fn number(bytes: &[u8], at: usize, width: usize) -> Option<usize>
+    requires { (at + width ≤ length bytes.now) × (width ≤ widest_column) }
+    ensures { result ≡ some_number (column_number (take width (drop at bytes.now))) }
+{
+    pass(bytes, at, width).number()
 }
 
 // The last digit of n as a byte, by the tenth of n.

@@ -81,7 +81,9 @@ impl<'a> Targets<'a> {
     }
 
     // The image of a set under the moves that read x in a mode: a normal move does not leave a buffering state, a buffering move does not
-    // lead to one, and neither is between two matching states; an emptying move is. Time: the members of the set, each once.
+    // lead to one, and neither is between two matching states; an emptying move is. Time: the members of the set, each once. It is always
+    // inlined: what asks for a step has its mode and its table at hand, and the loop over the members is short.
+    #[inline(always)]
     fn step_set(&self, mode: Mode, set: StateSet, x: u8) -> StateSet
         requires { Room self.now.sets.now self.now.states x }
         ensures { Members result (From «set» (Edge (graph_of self.now) mode x)) }

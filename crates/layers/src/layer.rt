@@ -1,10 +1,10 @@
 // Whole layers: rows of least numbers, from the rows of the layers after them.
-ghost use Rattle.std.specs.Prelude.{ℕ, ◌<◌, ◌≡◌, true, false, List};
+ghost use Rattle.std.specs.Prelude.{ℕ, ◌≤◌, ◌<◌, ◌≡◌, true, false, List};
 ghost use Rattle.stateset.specs.Set.{In};
 ghost use Rattle.fsbm.specs.declared.config.Mode.TheVariants.{Buffering, Emptying};
 ghost use Rattle.targets.specs.Prepared.{Row};
 ghost use Rattle.layers.specs.Rows.{Closed};
-ghost use Rattle.layers.specs.Layers.{blank_row, row_of, Seeded, EmptyingLayer, BufferingLayer, Storing, Round, ClosedPlace, PositionLayer};
+ghost use Rattle.layers.specs.Layers.{blank_row, row_of, NoneBelow, Seeded, FirstRow, EmptyingLayer, BufferingLayer, Storing, Round, ClosedPlace, PositionLayer};
 
 use crate::moves::Moves;
 use crate::row;
@@ -32,6 +32,14 @@ impl Position {
             buffering: blank(),
             emptying: blank(),
         }
+    }
+
+    // Whether a copy may end here: whether the row of emptying mode has a number at one of so many states.
+    pub fn ends(&self, states: usize) -> bool
+        requires { states ≤ 64 }
+        ensures { result ≡ false → NoneBelow states self.now.emptying }
+    {
+        !row::is_blank(&self.emptying, states)
     }
 }
 
@@ -103,7 +111,7 @@ impl Moves<'_> {
 
     // Lowers a blank row to the row of emptying mode where x is the first letter of both the input and the buffer, from the row after it
     // is read. It says whether any number fell.
-    pub fn emptying_layer(&self, x: u8, next: &Row, row: &mut Row) -> bool
+    pub fn emptying_layer(&self, x: u16, next: &Row, row: &mut Row) -> bool
         requires { Row self.now.table.machine self.now.table.list.now self.now.targets.now x × (row.old ≡ blank_row) }
         ensures { EmptyingLayer self.now.table.machine self.now.table.list.now x next.now row.new × (result ≡ false → row.new ≡ blank_row) }
     {
@@ -116,7 +124,7 @@ impl Moves<'_> {
 
     // Lowers a blank row to the row of buffering mode where x is the first letter of the input (0: there is none), from the row after it
     // is read and the row after the mode is changed. It says whether any number fell.
-    pub fn buffering_layer(&self, x: u8, next: &Row, emptied: &Row, row: &mut Row) -> bool
+    pub fn buffering_layer(&self, x: u16, next: &Row, emptied: &Row, row: &mut Row) -> bool
         requires { Row self.now.table.machine self.now.table.list.now self.now.targets.now x × (row.old ≡ blank_row) }
         ensures { BufferingLayer self.now.table.machine self.now.table.list.now x next.now emptied.now row.new × (result ≡ false → row.new ≡ blank_row) }
     {
@@ -168,6 +176,16 @@ impl Moves<'_> {
         while self.round(near, starts, position) {}
     }
 
+    // The row that normal mode starts from: 0 at the final states where the word is read to its end, else none.
+    fn first_row(&self, last: bool) -> Row
+        ensures { FirstRow self.now.table.machine last result }
+    {
+        if last {
+            return self.seeds();
+        }
+        blank()
+    }
+
     // The three rows of the end of the word. Normal mode goes on in the states of near; where none of them is buffering, no copy begins,
     // and nothing is said of the row of buffering mode.
     pub fn end_layer(&self, near: StateSet) -> Position
@@ -187,14 +205,26 @@ impl Moves<'_> {
         position
     }
 
-    // The same of a position where x is the first letter of the input, from the rows after it is read.
-    pub fn position_layer(&self, near: StateSet, x: u8, onward: &Row, storing: &Row) -> Position
+    // The same of a position where x is the first letter of the input (0: there is none), from the rows after it is read. `last` says that
+    // the word is read to its end.
+    pub fn position_layer(
+        &self,
+        near: StateSet,
+        last: bool,
+        x: u16,
+        onward: &Row,
+        storing: &Row,
+    ) -> Position
         requires { Row self.now.table.machine self.now.table.list.now self.now.targets.now x × ((q : ℕ) → In near q → q < self.now.table.machine.states) }
-        ensures { PositionLayer self.now.table.machine self.now.table.list.now near false x onward.now storing.now result.normal result.buffering result.emptying }
+        ensures { PositionLayer self.now.table.machine self.now.table.list.now near last x onward.now storing.now result.normal result.buffering result.emptying }
     {
         let starts = stateset::intersection(near, self.buffering);
         let all = storing_states(starts, self.table.machine.states);
-        let mut position = Position::unreached();
+        let mut position = Position {
+            normal: self.first_row(last),
+            buffering: blank(),
+            emptying: blank(),
+        };
         self.read(Mode::Normal, x, near, onward, &mut position.normal);
         self.read(Mode::Buffering, x, all, storing, &mut position.buffering);
         self.close_position(near, starts, &mut position);

@@ -137,7 +137,7 @@ impl Moves<'_> {
 
     // The states that the transitions of state a that read x lead to.
     #[inline]
-    fn targets_of(&self, x: u8, a: usize) -> StateSet
+    fn targets_of(&self, x: u16, a: usize) -> StateSet
         requires { Row self.now.table.machine self.now.table.list.now self.now.targets.now x × (a < self.now.table.machine.states) }
         ensures { result ≡ get_or self.now.targets.now (set_of self.now.table.machine.states x a) 0 }
     {
@@ -146,7 +146,7 @@ impl Moves<'_> {
     }
 
     // Lowers the number of state a along its transitions that read x into the row `next`.
-    fn visit(&self, mode: Mode, x: u8, next: &Row, s: Sum, a: usize, row: &mut Row) -> bool
+    fn visit(&self, mode: Mode, x: u16, next: &Row, s: Sum, a: usize, row: &mut Row) -> bool
         requires { Row self.now.table.machine self.now.table.list.now self.now.targets.now x × (a < self.now.table.machine.states) × Glance next.now self.now.table.machine.states s }
         ensures { Lowering (Only (Through self.now.table.machine self.now.table.list.now mode x next.now) a) row.old row.new result }
     {
@@ -162,7 +162,7 @@ impl Moves<'_> {
     // always inlined, as read and close are: each call names a mode, which is then not tested state by state.
     // Time: the states of the set, each once; and for each, where its targets do not have the least number of all, its targets.
     #[inline(always)]
-    fn pass(&self, mode: Mode, x: u8, set: StateSet, next: &Row, row: &mut Row) -> bool
+    fn pass(&self, mode: Mode, x: u16, set: StateSet, next: &Row, row: &mut Row) -> bool
         requires { Row self.now.table.machine self.now.table.list.now self.now.targets.now x × ((q : ℕ) → In set q → q < self.now.table.machine.states) }
         ensures { Lowering (Within (Through self.now.table.machine self.now.table.list.now mode x next.now) set) row.old row.new result }
     {
@@ -176,7 +176,7 @@ impl Moves<'_> {
 
     // The same where x is a letter; where it is 0, nothing is read.
     #[inline(always)]
-    pub fn read(&self, mode: Mode, x: u8, set: StateSet, next: &Row, row: &mut Row) -> bool
+    pub fn read(&self, mode: Mode, x: u16, set: StateSet, next: &Row, row: &mut Row) -> bool
         requires { Row self.now.table.machine self.now.table.list.now self.now.targets.now x × ((q : ℕ) → In set q → q < self.now.table.machine.states) }
         ensures { Lowering (Within (Reads self.now.table.machine self.now.table.list.now mode x next.now) set) row.old row.new result }
     {

@@ -4,9 +4,9 @@
 -- translate_answer a bytes len == what translate answers to a word slice of this length
 -- translate_word a bytes word == what the word slice holds afterwards
 -- translate_values a bytes len == the number and values that the rules give
-use Rattle.std.specs.Prelude.{ℕ, List, Option, Some, Result, Ok, Err, cond, length, leb}
+use Rattle.std.specs.Prelude.{ℕ, List, Option, Some, Result, cond, length, leb}
 use Rattle.basics.specs.Search.{all_in}
-use Rattle.fsbm.specs.Answers.{number_of, needed_of, CountValues, count_values}
+use Rattle.fsbm.specs.Answers.{CountValues}
 use Rattle.fsbm.specs.declared.answer.Refusal.{Refusal}
 use Rattle.fsbm.specs.declared.answer.Refusal.TheVariants.{BadTable}
 pub use Rattle.spelling.specs.Words.{longest_written, has_letter, written, answer_by, word_by}

@@ -70,7 +70,7 @@ fn count_joined(first: &Table, second: &Table) -> usize
 // The number of joined transitions, or the first refusal of two tables that are joined: 16 (a record and its list break the rules of a
 // table, the first or the second), 10 (the second is not plain), 11 (the letter counts differ), 12 (more than 64 states), 13 (more than
 // 4,000 transitions).
-// Time: each table once. Memory: 4 KB.
+// Time: each table once. Memory: 8 KB.
 pub fn first_fault(
     first: Machine,
     first_list: &[u16],

@@ -204,7 +204,9 @@ fn write_rows(f: &Factors, list: &mut [u16])
     }
 }
 
-// Writes the transitions of the product at the front of the list.
+// Writes the transitions of the product at the front of the list. It has a frame of its own, 72 KB, so that the tests of the two tables, which
+// come before it, do not stand on top of it.
+#[inline(never)]
 pub fn write_product<'t>(first: &'t Table<'t>, second: &'t Table<'t>, list: &mut [u16])
     requires second_list_value { join_fault first.now.machine first.now.list.now second.now.machine second.now.list.now ≡ 0 }
     requires second_list_in_bounds { length (joined_transitions first.now.machine first.now.list.now second.now.machine second.now.list.now)

@@ -219,6 +219,12 @@ fn write_with(
     lookup.walk(q, moves, copies, run)
 }
 
+// So many blank rows. They are handed back by a function, since the compiler then fills the array where it is wanted, once; an array that
+// is written in its place is cleared first and then filled row by row.
+fn blank_rows<const N: usize>() -> [Row; N] {
+    [[NONE; MAX_STATES]; N]
+}
+
 // write_run for a word of fewer letters than ENDS, in tables of this many rows: three for each position, one for each end of a copy, one
 // for each number of letters of a half. Each size has a frame of its own, so that a short word does not pay for a large one.
 #[inline(never)]
@@ -230,15 +236,15 @@ fn write_within<const POSITIONS: usize, const ENDS: usize, const HALF: usize>(
         × (run_bound word.now.moves.table.machine (length word.now.letters.now) ≤ length run.old) × NormalSets word.now.moves.table.machine word.now.moves.table.list.now word.now.letters.now word.now.sets.now }
     ensures { Written word.now.moves.table.machine word.now.moves.table.list.now word.now.letters.now result run.old run.new }
 {
-    let mut t = [[NONE; MAX_STATES]; POSITIONS];
-    let mut rows = [[NONE; MAX_STATES]; ENDS];
+    let mut t = blank_rows::<POSITIONS>();
+    let mut rows = blank_rows::<ENDS>();
     let mut left = [Left::Kept(0); ENDS];
     let mut ends = Ends {
         rows: &mut rows,
         left: &mut left,
     };
-    let mut emptied = [[NONE; MAX_STATES]; HALF];
-    let mut stored = [[NONE; MAX_STATES]; HALF];
+    let mut emptied = blank_rows::<HALF>();
+    let mut stored = blank_rows::<HALF>();
     let mut copies = Copies {
         emptied: &mut emptied,
         stored: &mut stored,

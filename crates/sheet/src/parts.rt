@@ -63,12 +63,12 @@ pub fn read_header(sheet: &[u8]) -> Result<Header, Refusal>
 // The lines of the states: their marks. They refuse their first fault, 1, 2 or 4. All marks are 0 before, and past the last state after.
 // (Not read_line in the loop: nested loops over lines and columns, left by label at the first fault, are the form that the reading of a
 // sheet is to have.)
-pub fn read_states(sheet: &[u8], header: Header, marks: &mut Marks) -> Result<(), Refusal>
-    requires { marks.old ≡ replicate max_states 0 }
-    ensures { StatesRead sheet.now header.states result marks.new }
+pub fn read_states(sheet: &[u8], states: usize, marks: &mut Marks) -> Result<(), Refusal>
+    requires { (states ≤ 64) × (marks.old ≡ replicate max_states 0) }
+    ensures { StatesRead sheet.now states result marks.new }
 {
     'sheet: {
-        for q in 0..header.states {
+        for q in 0..states {
             let at = HEADER_LENGTH + STATE_LENGTH * q;
             if sheet.len() < at + STATE_LENGTH {
                 break 'sheet Err(Refusal::MissingBytes);
@@ -95,14 +95,20 @@ pub fn read_states(sheet: &[u8], header: Header, marks: &mut Marks) -> Result<()
 
 // The lines of the transitions: their numbers at the front of kept, three for each; a byte holds each of them. They refuse their first
 // fault, 1, 2, 5 or 6. (The loops are as in read_states.)
-pub fn read_transitions(sheet: &[u8], header: Header, kept: &mut [u8]) -> Result<(), Refusal>
-    requires { header.transitions * 3 ≤ length kept.old }
-    ensures { TransitionsRead sheet.now header.states header.letters header.transitions kept.old result kept.new }
+pub fn read_transitions(
+    sheet: &[u8],
+    states: usize,
+    letters: usize,
+    transitions: usize,
+    kept: &mut [u8],
+) -> Result<(), Refusal>
+    requires { (states ≤ 64) × (letters ≤ 250) × (transitions ≤ 4000) × (transitions * 3 ≤ length kept.old) }
+    ensures { TransitionsRead sheet.now states letters transitions kept.old result kept.new }
 {
-    let start = HEADER_LENGTH + STATE_LENGTH * header.states;
+    let start = HEADER_LENGTH + STATE_LENGTH * states;
     let mut before = None;
     'sheet: {
-        for k in 0..header.transitions {
+        for k in 0..transitions {
             let at = start + TRANSITION_LENGTH * k;
             if sheet.len() < at + TRANSITION_LENGTH {
                 break 'sheet Err(Refusal::MissingBytes);
@@ -119,7 +125,7 @@ pub fn read_transitions(sheet: &[u8], header: Header, kept: &mut [u8]) -> Result
             }
             let [from, letter, to] = numbers;
             let t = Line { from, letter, to };
-            if let Err(refusal) = faults::order_fault(header.states, header.letters, before, t) {
+            if let Err(refusal) = faults::order_fault(states, letters, before, t) {
                 break 'sheet Err(refusal);
             }
             let i = k * 3;

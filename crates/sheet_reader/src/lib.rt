@@ -33,8 +33,14 @@ fn read_kept<const N: usize>(
     ensures { RestRead sheet.now list.old result list.new marks.new }
 {
     let mut kept = [0; N];
-    parts::read_states(sheet, header, marks)?;
-    parts::read_transitions(sheet, header, &mut kept)?;
+    parts::read_states(sheet, header.states, marks)?;
+    parts::read_transitions(
+        sheet,
+        header.states,
+        header.letters,
+        header.transitions,
+        &mut kept,
+    )?;
     let end = HEADER_LENGTH + STATE_LENGTH * header.states + TRANSITION_LENGTH * header.transitions;
     if end < sheet.len() {
         return Err(Refusal::BytesLeft);

@@ -1,1 +1,3 @@
+pub mod LetterTable
+pub mod Table
 pub mod WordCases

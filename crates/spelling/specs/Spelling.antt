@@ -6,9 +6,9 @@
 -- translate_answer bytes len == what translate answers to a word slice of this length
 -- translate_word bytes word == what the word slice holds afterwards
 -- translate_values bytes len == the number and values that the rules give
-use Rattle.std.specs.Prelude.{ℕ, ◌-◌, List, Option, Result, Ok, Err, Bool, cond, ◌&&◌, length, leb, eqb}
+use Rattle.std.specs.Prelude.{ℕ, ◌-◌, List, Option, Result, Bool, cond, ◌&&◌, length, leb, eqb}
 use Rattle.basics.specs.Search.{all_in}
-use Rattle.fsbm.specs.Answers.{number_of, needed_of, CountValues, count_values}
+use Rattle.fsbm.specs.Answers.{CountValues}
 use Rattle.fsbm.specs.declared.answer.Refusal.{Refusal}
 pub use Rattle.spelling.specs.Words.{longest_written}
 use Rattle.spelling.specs.Words.{word_refusal, answer_by, word_by}

@@ -1,8 +1,10 @@
 // Written words: bytes to letters.
 //
-// Spelling      which byte is which letter
-// translate_by  a written word to letters, by any spelling
-// translate     the public call: the same by the fixed spelling
+// Spelling       which byte is which letter
+// have_letters   whether every byte has a letter
+// write_letters  the letters of the bytes
+// translate_by   a written word to letters, by any spelling
+// translate      the public call: the same by the fixed spelling
 
 #![tactic(auto)]
 
@@ -20,6 +22,19 @@ const LONGEST_WRITTEN: usize = 255;
 // Stands for the letter of a byte that has none.
 const NO_LETTER: u8 = 0;
 
+// The letter of each byte: a to z are 1 to 26, hyphen is 27, apostrophe is 28; 0 where it has none.
+const LETTERS: [u8; 256] = [
+    0, 0, 0, 0, 0, 0, 0, 0, 0, 0, 0, 0, 0, 0, 0, 0, 0, 0, 0, 0, 0, 0, 0, 0, 0, 0, 0, 0, 0, 0, 0, 0,
+    0, 0, 0, 0, 0, 0, 0, 28, 0, 0, 0, 0, 0, 27, 0, 0, 0, 0, 0, 0, 0, 0, 0, 0, 0, 0, 0, 0, 0, 0, 0,
+    0, 0, 0, 0, 0, 0, 0, 0, 0, 0, 0, 0, 0, 0, 0, 0, 0, 0, 0, 0, 0, 0, 0, 0, 0, 0, 0, 0, 0, 0, 0, 0,
+    0, 0, 1, 2, 3, 4, 5, 6, 7, 8, 9, 10, 11, 12, 13, 14, 15, 16, 17, 18, 19, 20, 21, 22, 23, 24,
+    25, 26, 0, 0, 0, 0, 0, 0, 0, 0, 0, 0, 0, 0, 0, 0, 0, 0, 0, 0, 0, 0, 0, 0, 0, 0, 0, 0, 0, 0, 0,
+    0, 0, 0, 0, 0, 0, 0, 0, 0, 0, 0, 0, 0, 0, 0, 0, 0, 0, 0, 0, 0, 0, 0, 0, 0, 0, 0, 0, 0, 0, 0, 0,
+    0, 0, 0, 0, 0, 0, 0, 0, 0, 0, 0, 0, 0, 0, 0, 0, 0, 0, 0, 0, 0, 0, 0, 0, 0, 0, 0, 0, 0, 0, 0, 0,
+    0, 0, 0, 0, 0, 0, 0, 0, 0, 0, 0, 0, 0, 0, 0, 0, 0, 0, 0, 0, 0, 0, 0, 0, 0, 0, 0, 0, 0, 0, 0, 0,
+    0, 0, 0, 0, 0, 0, 0, 0,
+];
+
 // Which byte is which letter.
 pub trait Spelling {
     ghost letters: { Self → ℕ → ℕ };
@@ -35,19 +50,14 @@ struct Fixed;
 impl Spelling for Fixed {
     ghost letters = { λ s. letter_of };
 
-    #[tactic(auto, unfolding(crate::specs::Spelling::letter_of))]
     fn letter(&self, b: u8) -> u8 {
-        match b {
-            b'a'..=b'z' => b - b'a' + 1,
-            b'-' => 27,
-            b'\'' => 28,
-            _ => NO_LETTER,
-        }
+        LETTERS[usize::from(b)]
     }
 }
 
 // Whether every byte has a letter.
-fn have_letters<S: Spelling>(spelling: &S, bytes: &[u8]) -> bool
+// Time: the bytes once, to the first that has none.
+pub fn have_letters<S: Spelling>(spelling: &S, bytes: &[u8]) -> bool
     ensures { result ≡ all_in (has_letter (S.letters spelling.now)) bytes.now }
 {
     for b in bytes {
@@ -58,8 +68,9 @@ fn have_letters<S: Spelling>(spelling: &S, bytes: &[u8]) -> bool
     true
 }
 
-// The letters of the bytes, written to the front of the word, which is long enough.
-fn write_letters<S: Spelling>(spelling: &S, bytes: &[u8], word: &mut [u8])
+// The letters of the bytes, written to the front of the word, which is long enough; 0 for a byte that has none.
+// Time: the bytes once.
+pub fn write_letters<S: Spelling>(spelling: &S, bytes: &[u8], word: &mut [u8])
     requires { length bytes.now ≤ length word.old }
     ensures { word.new ≡ written (S.letters spelling.now) bytes.now word.old }
 {

@@ -53,7 +53,7 @@ impl Word<'_> {
         for r in 0..d {
             let mut row = layer::blank();
             self.moves
-                .emptying_layer(self.letters[e - (r + 1)], &rows[r], &mut row);
+                .emptying_layer(u16::from(self.letters[e - (r + 1)]), &rows[r], &mut row);
             rows[r + 1] = row;
         }
     }
@@ -68,7 +68,7 @@ impl Word<'_> {
             let mut next = layer::blank();
             if !self
                 .moves
-                .emptying_layer(self.letters[e - (k + 1)], row, &mut next)
+                .emptying_layer(u16::from(self.letters[e - (k + 1)]), row, &mut next)
             {
                 return Err(k + 1);
             }
@@ -146,7 +146,10 @@ impl Word<'_> {
         let next = next.as_ref().unwrap_or(none);
         let change = change.as_ref().unwrap_or(none);
         let mut row = layer::blank();
-        if !self.moves.buffering_layer(x, next, change, &mut row) {
+        if !self
+            .moves
+            .buffering_layer(u16::from(x), next, change, &mut row)
+        {
             return None;
         }
         Some(row)

@@ -10,9 +10,9 @@ use crate::ends::{Ends, Left};
 use crate::halves;
 use crate::halves::HALVES;
 use crate::word::Word;
+use layers::layer;
 use layers::layer::Position;
 use layers::row::Row;
-use layers::{layer, row};
 use stateset::StateSet;
 
 // Puts the rows of position p into the table.
@@ -32,7 +32,7 @@ impl Word<'_> {
         ensures { Placed self.now.moves.table.machine.states p position.now t.old t.new ends.old.rows.now ends.new.rows.now ends.old.left.now ends.new.left.now }
     {
         put_position(t, p, position);
-        if row::is_blank(&position.emptying, self.moves.table.machine.states) {
+        if !position.ends(self.moves.table.machine.states) {
             ends.left[p] = Left::Blank(0);
             return;
         }
@@ -76,9 +76,13 @@ impl Word<'_> {
         let starts = stateset::intersection(near, self.moves.buffering);
         let starting = self.starting_row(t, p, starts, counts, ends);
         let storing = layer::or_blank(starting);
-        let position = self
-            .moves
-            .position_layer(near, self.letters[p], &t[(p + 1) * 3], &storing);
+        let position = self.moves.position_layer(
+            near,
+            false,
+            u16::from(self.letters[p]),
+            &t[(p + 1) * 3],
+            &storing,
+        );
         self.position_rows(p, &position, t, ends);
     }
 

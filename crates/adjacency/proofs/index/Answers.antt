@@ -18,7 +18,5 @@ bounds-first-q c = omega (arith, (rules_of _ _ c.args.t.now.obeys).states_fit)
 pub loop-q-preserved : goal.loop-q-preserved
 loop-q-preserved c = built_turn _ _ (rules_of _ _ c.args.t.now.obeys) _ _ _ _ c.loop-q.invariant (omega arith) c.seek-k.ensures
 
-pub returns-2 : goal.returns-2
-returns-2 c =
-    let r = rules_of _ _ c.args.t.now.obeys in
-    built_index _ _ r _ _ _ (built_turn _ _ r _ _ _ _ c.loop-q.invariant (omega arith) c.seek-k.ensures) (omega arith)
+pub returns : goal.returns
+returns c = built_index _ _ (rules_of _ _ c.args.t.now.obeys) _ _ _ c.loop-q.invariant (omega arith)

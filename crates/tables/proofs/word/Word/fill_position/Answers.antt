@@ -13,5 +13,5 @@ returns-then-near-eq0 c =
 pub returns : goal.returns
 returns c =
     filling_placed c.args.self.now.moves.table.machine c.args.self.now.moves.table.list.now c.args.self.now.sets.now c.args.self.now.letters.now c.args.p c.position_layer-position.result c.args.t.now _ (omega (arith, c.requires.0)) c.requires.1.positions c.position_rows-2.ensures.put (rules_of _ _ c.args.self.now.moves.table.obeys) c.starting_row-starting.new.ends.rows.now _ c.starting_row-starting.new.ends.left.now _ _ c.starting_row-starting.ensures.ending.rows c.starting_row-starting.ensures.ending.counts c.requires.1.each c.starting_row-starting.ensures.ending.each c.count_shared.ensures
-    (position_before c.args.self.now.moves.table.machine c.args.self.now.moves.table.list.now c.args.self.now.sets.now c.args.self.now.letters.now c.args.p _ _ _ _ _ _ _ c.requires.0 c.near_at-near.ensures.0 refl (onward_best c.args.self.now.moves.table.machine c.args.self.now.moves.table.list.now c.args.self.now.sets.now c.args.self.now.letters.now c.args.t.now (c.args.p + 1) (c.requires.1.each (c.args.p + 1) (omega arith) (omega (arith, c.requires.0))) _ refl)
+    (position_before c.args.self.now.moves.table.machine c.args.self.now.moves.table.list.now c.args.self.now.sets.now c.args.self.now.letters.now c.args.p _ _ _ _ _ _ _ c.requires.0 c.near_at-near.ensures.0 c.from.ensures (onward_best c.args.self.now.moves.table.machine c.args.self.now.moves.table.list.now c.args.self.now.sets.now c.args.self.now.letters.now c.args.t.now (c.args.p + 1) (c.requires.1.each (c.args.p + 1) (omega arith) (omega (arith, c.requires.0))) _ refl)
     (λ some. rw c.or_blank-storing.ensures (c.starting_row-starting.ensures.row (begins_some c.args.self.now.moves.table.machine c.args.self.now.moves.table.list.now c.args.self.now.sets.now c.args.self.now.letters.now _ _ _ c.args.self.now.known.given c.args.p _ _ c.requires.0 c.near_at-near.ensures.0 c.intersection-starts.ensures some))) _ (λ h. false≢true h) c.position_layer-position.ensures) c.position_rows-2.ensures
